@@ -1,5 +1,5 @@
 -- The records of a front of a text.
-use Rattle.byte_streams.proofs.Names.{◌≡◌, ◌==◌, ◌+◌, ◌≤◌, ℕ, suc, Bool, true, false, List, [], ◌∷◌, ◌++◌, length, take, Option, Some, None, refl, sym, ap, subst, ◌∙◌, arith, inl, inr, append_assoc, length-append, cases_Bool, append-nil, take-append_seam, Read, ends_at_end, field_after, fields_after, in_field, is_end, next_record, start_field, start_record, step, Reached, default_config, is_bom, records, strip_bom, State, rest_records}
+use Rattle.byte_streams.proofs.Names.{◌≡◌, ◌==◌, ◌+◌, ◌≤◌, ℕ, suc, Bool, true, false, List, [], ◌∷◌, ◌++◌, length, take, Some, refl, sym, ap, subst, ◌∙◌, arith, inl, inr, append_assoc, length-append, cases_Bool, append-nil, take-append_seam, Read, ends_at_end, field_after, fields_after, in_field, is_end, next_record, start_field, start_record, step, Reached, default_config, is_bom, records, strip_bom, State, rest_records, ints, nat_tests}
 use Rattle.std.specs.Prelude.{if◌then◌else◌, ◌||◌}
 use Rattle.csv.specs.declared.parser.Action.{Action}
 use Rattle.csv.specs.declared.parser.State.TheVariants as st
@@ -10,12 +10,10 @@ abbrev Settles : State × Action → Type 0
 Settles q = is_end q.1 ≡ true → ends_at_end q.0 ≡ false
 
 settles-if : (b : Bool) (x y : State × Action) → Settles x → Settles y → Settles (if b then x else y)
-settles-if true x y a b = a
-settles-if false x y a b = b
+settles-if b x y a b' = grind (arith, ints, nat_tests)
 
 after_cr-settles : (b : Bool) → ends_at_end (if b then st.AfterCr else st.StartRecord) ≡ false
-after_cr-settles true = refl
-after_cr-settles false = refl
+after_cr-settles b = grind (arith, ints, nat_tests)
 
 in_field-settles : (c : ℕ) → Settles (in_field default_config c)
 in_field-settles c = settles-if (c == 44) _ _ (λ e. cc) (settles-if ((c == 13) || (c == 10)) _ _ (λ e. after_cr-settles (c == 13)) (λ e. cc))
@@ -27,14 +25,8 @@ start_record-settles : (c : ℕ) → Settles (start_record default_config c)
 start_record-settles c = settles-if ((c == 13) || (c == 10)) _ _ (λ e. cc) (start_field-settles c)
 
 end-settles : (s : State) (c : ℕ) → Settles (step default_config s c)
-end-settles st.StartRecord c = start_record-settles c
-end-settles st.StartField c = start_field-settles c
-end-settles st.InField c = in_field-settles c
-end-settles st.InQuoted c = settles-if (c == 34) _ _ (λ e. cc) (λ e. cc)
-end-settles st.InEscape c = λ e. cc
-end-settles st.AfterQuote c = settles-if (c == 34) _ _ (λ e. cc) (in_field-settles c)
-end-settles st.InComment c = settles-if (c == 10) _ _ (λ e. cc) (λ e. cc)
-end-settles st.AfterCr c = settles-if (c == 10) _ _ (λ e. cc) (start_record-settles c)
+end-settles s c =
+    grind (arith, ints, nat_tests, start_record-settles, start_field-settles, in_field-settles, settles-if)
 
 same_read : (q p : Read) → Some q ≡ Some p → q ≡ p
 same_read q p e = cc
@@ -52,15 +44,7 @@ record IsFrontRead (s : State) (f : List (List ℕ)) (d xs : List ℕ) (p : Read
 
 front-read : (s : State) (f : List (List ℕ)) (d xs : List ℕ) (p : Read) → next_record default_config s f d xs ≡ Some p → IsFrontRead s f d xs p
 unfolding next_record
-front-read s f d [] p e = elim (cases_Bool (ends_at_end s)) [
-  | inl t ↦ subst (λ (q : Read). IsFrontRead s f d [] q) (same_read (f ++ (d ∷ []), st.StartRecord, []) p (rw t at e)) (record {
-    front = [];
-    joins = refl;
-    reads = λ zs ws h. rw (empty-front zs ws h, t) refl;
-    settled = refl;
-  })
-  | inr t ↦ let none = rw t at e in cc
-]
+front-read s f d [] p e = grind (arith, ints, nat_tests, cases_Bool, ends_at_end, same_read, empty-front)
 front-read s f d (c ∷ xs) p e = elim (cases_Bool (is_end (step default_config s c).1)) [
   | inl t ↦ subst (λ (q : Read). IsFrontRead s f d (c ∷ xs) q) (same_read (fields_after (step default_config s c).1 f d, (step default_config s c).0, xs) p (rw t at e)) (record {
     front = c ∷ [];
@@ -87,12 +71,7 @@ record IsFrontReached (s : State) (xs : List ℕ) (rows : List (List (List ℕ))
 
 front-reached : (s : State) (xs : List ℕ) (rows : List (List (List ℕ))) (s2 : State) (ys : List ℕ) → Reached default_config s xs rows s2 ys → IsFrontReached s xs rows s2 ys
 unfolding Reached
-front-reached s xs [] s2 ys h = record {
-  front = [];
-  joins = h.1;
-  reached = λ zs ws e. (h.0, refl);
-  settled = λ a. subst (λ (t : State). ends_at_end t ≡ false) h.0 a;
-}
+front-reached s xs [] s2 ys h = grind (arith, ints, nat_tests, ends_at_end)
 front-reached s xs (r ∷ rs) s2 ys h =
     let (p, next, field, tail) = h in
     let one = front-read s [] [] xs p next in
@@ -127,8 +106,7 @@ pub front-records : (xs ys : List ℕ) (rows : List (List (List ℕ))) (s : Stat
 front-records xs ys rows s h =
     let of_front = front-reached st.StartRecord xs rows s ys h in
     let all = rest-all st.StartRecord s (of_front.front ++ []) [] rows (of_front.reached [] ys refl) in
-    let none = none-next s (of_front.settled refl) in
-    (of_front.front, of_front.joins, rw (append-nil of_front.front, none, append-nil rows) at all)
+    grind (arith, ints, nat_tests, none-next, append-nil)
 
 -- a front of a text without a byte order mark has none
 plain-front : (front ys : List ℕ) → strip_bom (front ++ ys) ≡ front ++ ys → strip_bom front ≡ front
@@ -168,10 +146,4 @@ strip_bom-front bytes front ys e = by bytes e
 -- a byte order mark has three bytes
 pub length-strip_bom : (bytes : List ℕ) → length bytes ≤ 3 + length (strip_bom bytes)
 unfolding strip_bom
-length-strip_bom [] = omega arith
-length-strip_bom (a ∷ []) = omega arith
-length-strip_bom (a ∷ b ∷ []) = omega arith
-length-strip_bom (a ∷ b ∷ c ∷ rest) = elim (cases_Bool (is_bom a b c)) [
-  | inl t ↦ rw t (omega arith)
-  | inr t ↦ rw t (omega arith)
-]
+length-strip_bom bytes = grind (arith, ints, nat_tests, cases_Bool, is_bom)

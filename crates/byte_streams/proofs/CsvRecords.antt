@@ -1,5 +1,5 @@
 -- The next record of those that a CSV reader has still to give.
-use Rattle.byte_streams.proofs.Names.{◌≡◌, ◌<◌, ◌+◌, ℕ, zero, suc, List, [], ◌∷◌, ◌++◌, length, Option, Some, None, refl, sym, ap, ◌∙◌, arith, inl, inr, ◌⊎◌, add-one, cases_Bool, Read, ends_at_end, field_after, fields_after, is_end, next_record, step, Reached, default_config, records_from, records_next, State, rest_records}
+use Rattle.byte_streams.proofs.Names.{◌≡◌, ◌<◌, ◌+◌, ℕ, zero, suc, List, [], ◌∷◌, length, Option, Some, None, refl, sym, ap, ◌∙◌, arith, inl, inr, ◌⊎◌, add-one, cases_Bool, Read, ends_at_end, field_after, fields_after, is_end, next_record, step, Reached, default_config, records_from, records_next, State, rest_records, ints, nat_tests}
 use Rattle.csv.specs.declared.parser.Config.{Config}
 use Rattle.csv.specs.declared.parser.State.TheVariants as st
 
@@ -11,23 +11,17 @@ abbrev TookBytes : List ℕ → Read → Type 0
 TookBytes y p = (length p.2 < length y) ⊎ ((p.1 ≡ st.StartRecord) × (p.2 ≡ []))
 
 ended : (fields : List (List ℕ)) (p : Read) → Some (fields, st.StartRecord, []) ≡ Some p → (p.1 ≡ st.StartRecord) × (p.2 ≡ [])
-ended fields p e =
-    let same = same_read (fields, st.StartRecord, []) p e in
-    (sym (ap (λ (r : Read). r.1) same), sym (ap (λ (r : Read). r.2) same))
+ended fields p e = grind (arith, ints, nat_tests, same_read)
 
 took : (fields : List (List ℕ)) (s : State) (y : List ℕ) (p : Read) → Some (fields, s, y) ≡ Some p → length p.2 ≡ length y
 took fields s y p e = sym (ap (λ (r : Read). length r.2) (same_read (fields, s, y) p e))
 
 longer : (c : ℕ) (y : List ℕ) (p : Read) → TookBytes y p → TookBytes (c ∷ y) p
-longer c y p (inl less) = inl (omega arith)
-longer c y p (inr last) = inr last
+longer c y p x3 = grind (arith, ints, nat_tests)
 
 takes : (cfg : Config) (s : State) (f : List (List ℕ)) (d y : List ℕ) (p : Read) → next_record cfg s f d y ≡ Some p → TookBytes y p
 unfolding next_record
-takes cfg s f d [] p e = elim (cases_Bool (ends_at_end s)) [
-  | inl t ↦ inr (ended (f ++ (d ∷ [])) p (rw t at e))
-  | inr t ↦ let h = rw t at e in cc
-]
+takes cfg s f d [] p e = grind (arith, ints, nat_tests, cases_Bool, ends_at_end, ended)
 takes cfg s f d (c ∷ y) p e = elim (cases_Bool (is_end (step cfg s c).1)) [
   | inl t ↦ let same = took (fields_after (step cfg s c).1 f d) (step cfg s c).0 y p (rw t at e) in inl (omega arith)
   | inr t ↦ longer c y p (takes cfg (step cfg s c).0 (fields_after (step cfg s c).1 f d) (field_after (step cfg s c).1 c d) y p (rw t at e))
@@ -39,20 +33,11 @@ Enough n s y = (length y < n) ⊎ ((s ≡ st.StartRecord) × (y ≡ []))
 
 none_left : (cfg : Config) (n : ℕ) → records_from cfg n st.StartRecord [] ≡ []
 unfolding records_from next_record
-none_left cfg zero = refl
-none_left cfg (suc n) = refl
+none_left cfg n = grind (arith, ints, nat_tests)
 
 later : (n : ℕ) (s : State) (y : List ℕ) (p : Read) → (cfg : Config) → next_record cfg s [] [] y ≡ Some p → Enough (suc n) s y → Enough n p.1 p.2
 unfolding next_record
-later n s y p cfg e a = by a (takes cfg s [] [] y p e)
-  where
-    nothing : (s ≡ st.StartRecord) × (y ≡ []) → ⊥
-    nothing last = let h = rw (last.0, last.1) at e in cc
-
-    by : Enough (suc n) s y → TookBytes y p → Enough n p.1 p.2
-    by (inl room) (inl less) = inl (omega arith)
-    by (inl room) (inr last) = inr last
-    by (inr last) t = absurd (nothing last)
+later n s y p cfg e a = grind (arith, ints, nat_tests, takes)
 
 same_turns : (cfg : Config) (n m : ℕ) (s : State) (y : List ℕ) → Enough n s y → Enough m s y → records_from cfg n s y ≡ records_from cfg m s y
 unfolding records_from

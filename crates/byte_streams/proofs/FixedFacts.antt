@@ -1,5 +1,5 @@
 -- Numbers of a fixed count of digits.
-use Rattle.byte_streams.proofs.Names.{◌≡◌, ℕ, zero, suc, ◌≤◌, ◌<◌, ◌+◌, ◌*◌, ◌-◌, ◌/◌, ◌%◌, ◌^◌, List, [], ◌∷◌, ◌++◌, length, take, get_or, refl, sym, ap, ◌∙◌, arith, length-append, inl, inr, ◌⊎◌, add-zero, add-suc, get_or-append_seam, take-append_seam, take-suc, pow-suc, cases_lt, fixed_digits}
+use Rattle.byte_streams.proofs.Names.{◌≡◌, ℕ, zero, suc, ◌≤◌, ◌<◌, ◌+◌, ◌*◌, ◌-◌, ◌/◌, ◌%◌, ◌^◌, List, [], ◌∷◌, ◌++◌, length, take, get_or, refl, sym, ap, ◌∙◌, arith, length-append, inl, inr, ◌⊎◌, add-zero, add-suc, get_or-append_seam, take-append_seam, take-suc, pow-suc, cases_lt, fixed_digits, ints, nat_tests}
 use Rattle.std.proofs.Math.ListN.{get_or-append}
 use Rattle.std.specs.Fmt.{decimal}
 use Rattle.std.proofs.lemmas.Fmt.{decimal_digit}
@@ -39,8 +39,7 @@ pub fixed-step : (k v d : ℕ) → d < 10 → fixed_digits (suc k) (v * 10 + d) 
 unfolding fixed_digits
 fixed-step k v d lt =
     let front : (v * 10 + d) / 10 ≡ v = omega arith in
-    let last : (v * 10 + d) % 10 ≡ d = omega arith in
-    rw (front, last) refl
+    grind (arith, ints, nat_tests, front)
 
 -- a number has one text of each length that it fits
 pub fixed-injective : (k m n : ℕ) → m < 10 ^ k → n < 10 ^ k → fixed_digits k m ≡ fixed_digits k n → m ≡ n
@@ -53,24 +52,16 @@ fixed-injective (suc k) m n a b e =
     let fronts : x ≡ y = sym (take-append_seam x ((48 + m % 10) ∷ [])) ∙ ap (λ (t : List ℕ). take (length x) t) e ∙ rw same_size (take-append_seam y ((48 + n % 10) ∷ [])) in
     let lasts : 48 + m % 10 ≡ 48 + n % 10 = sym (get_or-append_seam x (48 + m % 10) [] 0) ∙ ap (λ (t : List ℕ). get_or t (length x) 0) e ∙ rw same_size (get_or-append_seam y (48 + n % 10) [] 0) in
     let power = pow-suc 10 k in
-    let tens = fixed-injective k (m / 10) (n / 10) (omega arith) (omega arith) fronts in
-    omega arith
+    grind (arith, ints, nat_tests, (fixed-injective k (m / 10) (n / 10) (omega arith) (omega arith) fronts))
 
 -- a byte that is no digit stands in no such text
 pub not-fixed : (text : List ℕ) (n i : ℕ) → i < length text → (get_or text i 0 < 48) ⊎ (57 < get_or text i 0) → fixed_digits (length text) n ≡ text → ⊥
-not-fixed text n i lt odd e =
-    let digit = rw e at (fixed-digit (length text) n i lt) in
-    elim odd [ inl low ↦ absurd (omega arith) | inr high ↦ absurd (omega arith) ]
+not-fixed text n i lt odd e = grind (arith, ints, nat_tests, fixed-digit, length)
 
 -- the six digits one by one
 pub six-digits : (n : ℕ) → fixed_digits 6 n ≡ (48 + n / 100000 % 10) ∷ (48 + n / 10000 % 10) ∷ (48 + n / 1000 % 10) ∷ (48 + n / 100 % 10) ∷ (48 + n / 10 % 10) ∷ (48 + n % 10) ∷ []
 unfolding fixed_digits
-six-digits n =
-    let a : n / 10 / 10 ≡ n / 100 = omega arith in
-    let b : n / 100 / 10 ≡ n / 1000 = omega arith in
-    let d : n / 1000 / 10 ≡ n / 10000 = omega arith in
-    let f : n / 10000 / 10 ≡ n / 100000 = omega arith in
-    simp (a, b, d, f)
+six-digits n = grind (arith, ints, nat_tests)
 
 power-le : (k m : ℕ) → 10 ^ k ≤ 10 ^ (k + m)
 power-le k zero = rw (add-zero k) (omega arith)
@@ -84,8 +75,7 @@ pub below-power : (k n : ℕ) → k ≤ 8 → n < 10 ^ k → n < 100000000
 below-power k n le lt =
     let room = power-le k (8 - k) in
     let sum : k + (8 - k) ≡ 8 = omega arith in
-    let most : 10 ^ k ≤ 100000000 = rw sum at room in
-    omega arith
+    grind (arith, ints, nat_tests)
 
 -- a text's first bytes and its next digit
 pub digit-more : (text : List ℕ) (i : ℕ) (front : List ℕ) → i < length text → 48 ≤ get_or text i 0 → front ≡ take i text → front ++ (48 + (get_or text i 0 - 48)) ∷ [] ≡ take (suc i) text
@@ -95,11 +85,4 @@ digit-more text i front lt digit e =
 
 -- the six digits as they are printed
 pub printed-six : (n : ℕ) → decimal (n / 100000 % 10) ++ (decimal (n / 10000 % 10) ++ (decimal (n / 1000 % 10) ++ (decimal (n / 100 % 10) ++ (decimal (n / 10 % 10) ++ decimal (n % 10))))) ≡ fixed_digits 6 n
-printed-six n =
-    let a = decimal_digit (n / 100000 % 10) (omega arith) in
-    let b = decimal_digit (n / 10000 % 10) (omega arith) in
-    let d = decimal_digit (n / 1000 % 10) (omega arith) in
-    let e = decimal_digit (n / 100 % 10) (omega arith) in
-    let f = decimal_digit (n / 10 % 10) (omega arith) in
-    let g = decimal_digit (n % 10) (omega arith) in
-    rw (a, b, d, e, f, g) (sym (six-digits n))
+printed-six n = grind (arith, ints, nat_tests, decimal_digit, six-digits)

@@ -13,3 +13,5 @@ pub use Rattle.std.proofs.lemmas.List.{append-nil, length-take, take_all}
 pub use Rattle.std.specs.Io.KnownBytes.{Appends, Consumes}
 pub use Rattle.byte_streams.specs.CsvRecords.{rest_records}
 unfoldable pub use Rattle.byte_streams.specs.Digits.{fixed_digits}
+pub use Rattle.std.proofs.lemmas.Bool.Decides.{nat_tests}
+pub use Rattle.std.proofs.lemmas.Int.{ints}

@@ -1,5 +1,5 @@
 -- What is wrong with words, by the errors of the parser on them and on their fronts.
-use Rattle.command_line.proofs.Names.{arith, ◌≡◌, ◌≢◌, ◌∙◌, ◌+◌, ◌<◌, ◌||◌, inl, inr, ap, ap₂, sym, refl, subst, Bool, ℕ, List, [], Option, Some, None, IfNone, IfSome, get_or, length, min, option_map, slice_get, take, slice_get-get_or, slice_get-map, list_any, option_or, Row, Text, fault_of, found_of, matches_of, rows_of, subcommand_of, subcommand_rows_of, ErrorKind, ArgMatches, clap_on_literals, Bor, HasCommand, HasWrongValue, IsFront, IsRepeated, IsStrayed, IsStray, IsTakenSoFar, IsWrong, IsWrongValue, LacksValue, LacksValueAt, Names, front_by, last_setting, names_day, setting_named, verb_name, FailsAs, IsParse, IsRefused, db_rule, operand_rule, options_app, program, quiet_rule, report_apps, run_apps, today_rule, words_of, Front}
+use Rattle.command_line.proofs.Names.{arith, ◌≡◌, ◌≢◌, ◌∙◌, ◌+◌, ◌<◌, ◌||◌, inl, ap, sym, refl, subst, Bool, ℕ, List, [], Option, Some, None, IfNone, IfSome, get_or, length, min, option_map, slice_get, take, slice_get-get_or, slice_get-map, list_any, option_or, Row, Text, fault_of, found_of, matches_of, rows_of, subcommand_of, subcommand_rows_of, ErrorKind, ArgMatches, clap_on_literals, Bor, HasCommand, HasWrongValue, IsFront, IsRepeated, IsStrayed, IsStray, IsTakenSoFar, IsWrong, IsWrongValue, LacksValue, LacksValueAt, Names, front_by, last_setting, names_day, setting_named, verb_name, FailsAs, IsParse, IsRefused, db_rule, operand_rule, options_app, program, quiet_rule, report_apps, run_apps, today_rule, words_of, Front, ints, nat_tests}
 use Rattle.std.proofs.lemmas.List.{get_or-map, length-map, take-map, take_min}
 use Rattle.std.proofs.lemmas.List.Folds.{list_any_more}
 use Rattle.std.proofs.lemmas.List.Sums.{fold_more}
@@ -17,26 +17,16 @@ none-taken = inl refl
 -- a wrong value of a parse is one of the words
 pub has-wrong-value : (words : List Text) (m : ArgMatches) (w : Wrong) → IsParse words m → IsWrongValue (rows_of (found_of m)) (subcommand_rows_of m) w
     → HasWrongValue words w
-has-wrong-value words m w parse value = record {
-  taken = parse.taken;
-  value = subst (λ (x : List Row). IsWrongValue x (subcommand_of program words) w) parse.values
-      (subst (λ (x : Option (Text × List Row)). IsWrongValue (rows_of (found_of m)) x w) parse.met value);
-}
+has-wrong-value words m w parse value = grind (arith, ints, nat_tests, subcommand_of, program, rows_of, found_of)
 
 -- how far the command line takes words
 pub front-fits : (words : List Text) (f : Option ErrorKind) → IfNone f (fault_of program words ≡ []) → IfSome f (IsRefused words)
     → IsFront words (front_by f)
-front-fits words None n s = inl n
-front-fits words (Some k) n s = grind (arith, s)
+front-fits words f n s = grind (arith, ints, nat_tests)
 
 -- words that do not stray, repeat no option and do not fail otherwise are taken so far
 so-far : (words : List Text) (front : Front) → front ≢ fronts.Strays → front ≢ fronts.Repeats → front ≢ fronts.Fails → IsFront words front → IsTakenSoFar words
-so-far words fronts.Met s r f h = inl h
-so-far words fronts.WantsCommand s r f h = inr (inl h)
-so-far words fronts.WantsValue s r f h = inr (inr h)
-so-far words fronts.Repeats s r f h = absurd (r refl)
-so-far words fronts.Strays s r f h = absurd (s refl)
-so-far words fronts.Fails s r f h = absurd (f refl)
+so-far words front s r f h = grind (arith, ints, nat_tests)
 
 -- a front of the words, as the front of their texts
 abbrev front-of : List (Bor (List ℕ)) → ℕ → List Text
@@ -120,8 +110,7 @@ named-more words i d before here less so is =
     let text : Bor (List ℕ) → Text = λ s. s.now in
     let within : i < length (words_of words) = rw (length-map words text) less in
     let at : setting_named (get_or (words_of words) i []) ≡ here = ap setting_named (get_or-map text words i d [] less) ∙ sym is in
-    ap₂ option_or (sym at) so
-    ∙ sym (fold_more (λ (o : Option Setting) (word : Text). option_or (setting_named word) o) None (words_of words) i [] within)
+    grind (arith, ints, nat_tests, option_or, fold_more, setting_named, words_of)
 
 -- a wrong value is wrong
 pub value-wrong : (words : List Text) (w : Wrong) → HasWrongValue words w → IsWrong words w

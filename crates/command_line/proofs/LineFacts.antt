@@ -1,6 +1,6 @@
 -- What a parse of the program's own command line says.
-use Rattle.command_line.proofs.Names.{◌≡◌, ◌≢◌, ◌∙◌, ◌⊎◌, inl, inr, ap, sym, refl, subst, true, ℕ, List, [], Option, Some, None, IfErr, IfOk, Result, Ok, Err, option_map, option_and_then, codes, App, Row, Text, fault_of, first_of, found_of, is_simple, is_simple_and_free, kind_of, matches_of, rows_of, subcommand_name_of, subcommand_of, subcommand_rows_of, ErrorKind, ArgMatches, first_value, Found, clap_on_literals, first_value-rows, day_of, Gives, IsParse, IsRefused, IsTask, LeavesNoPlan, MeetsTask, Means, MeansNothing, db_rule, fault_by, operand_rule, options_app, quiet_rule, report_apps, program, run_apps, today_rule, Task}
-use Rattle.clap.specs.Kinds.{FailsBy, HasKind, IsAmong, Kinds}
+use Rattle.command_line.proofs.Names.{◌≡◌, ◌≢◌, ◌∙◌, sym, refl, true, ℕ, List, Option, Some, None, IfErr, IfOk, Result, option_map, option_and_then, codes, App, Row, Text, fault_of, first_of, found_of, is_simple, is_simple_and_free, kind_of, rows_of, subcommand_name_of, subcommand_rows_of, ErrorKind, ArgMatches, first_value, Found, clap_on_literals, first_value-rows, day_of, Gives, IsParse, IsRefused, IsTask, LeavesNoPlan, MeetsTask, Means, MeansNothing, db_rule, fault_by, operand_rule, options_app, quiet_rule, report_apps, program, run_apps, today_rule, Task, arith, ints, nat_tests}
+use Rattle.clap.specs.Kinds.{FailsBy}
 use Rattle.clap.specs.Simple.{HasMatchesOf}
 use Rattle.clap.specs.declared.error.Error.{Error}
 use Rattle.clap.specs.declared.error.kind.ErrorKind.TheVariants as kind
@@ -18,19 +18,13 @@ is_free_program = refl
 
 -- words that are refused by an error other than want of memory mean nothing
 none-means : (words : List Text) (k : ErrorKind) → k ≢ kind.OutOfMemory → IsRefused words k → MeansNothing words
-none-means words k memory is today task says =
-    elim (subst (λ (f : Kinds). (k ≡ kind.OutOfMemory) ⊎ IsAmong k f) says.parses is) [
-      | inl m ↦ memory m
-      | inr h ↦ absurd h
-    ]
+none-means words k memory is today task says = grind (arith, ints, nat_tests)
 
 pair-parts : {X Y : Type 0} (o : Option (X × Y)) (x : X) (y : Y) → option_map (λ q. q.0) o ≡ Some x → option_map (λ q. q.1) o ≡ Some y → o ≡ Some (x, y)
-pair-parts None x y e f = cc
-pair-parts (Some (u, v)) x y e f = cc
+pair-parts o x y e f = grind (arith, ints, nat_tests)
 
 twice : {X Y Z : Type 0} (f : Y → Z) (g : X → Y) (o : Option X) → option_map f (option_map g o) ≡ option_map (λ x. f (g x)) o
-twice f g None = refl
-twice f g (Some x) = refl
+twice f g o = grind (arith, ints, nat_tests)
 
 -- the name of the command that a parse met, also beside its rows
 name_in_rows : (m : ArgMatches) → option_map (λ (q : Text × List Row). q.0) (subcommand_rows_of m) ≡ subcommand_name_of m
@@ -44,27 +38,16 @@ met m name values n v = pair-parts (subcommand_rows_of m) name values (name_in_r
 -- what a parse of this command line returned
 pub parsed : (a : App) (words : List Text) (r : Result ArgMatches Error) → a ≡ program → (is_simple_and_free a ≡ true → FailsBy (fault_of a words) r)
     → IfOk r (HasMatchesOf a words) → IfOk r (IsParse words) × IfErr r (λ e. IsRefused words (kind_of e))
-parsed a words (Ok m) same kinds has =
-    let here = has (ap is_simple same ∙ is_simple_program) in
-    let fault : fault_of a words ≡ [] = kinds (ap is_simple_and_free same ∙ is_free_program) in
-    (record { taken = rw same at fault; values = rw same at here.0; met = rw same at here.1 }, tt)
-parsed a words (Err e) same kinds has =
-    let among : HasKind (fault_of a words) e = kinds (ap is_simple_and_free same ∙ is_free_program) in
-    (tt, subst (λ (x : App). HasKind (fault_of x words) e) same among)
+parsed a words r same kinds has =
+    grind (arith, ints, nat_tests, is_simple, is_simple_program, fault_of, is_simple_and_free, is_free_program)
 
 given : (rows rows2 : List Row) (met met2 : Option (Text × List Row)) (today : ℕ) (task : Task) → rows ≡ rows2 → met ≡ met2 → Gives rows met today task → Gives rows2 met2 today task
-given rows rows2 met met2 today task r n g = record {
-  day = sym (ap (λ (x : List Row). option_and_then day_of (first_of (codes "today") x)) r) ∙ g.day;
-  meets = rw n at g.meets;
-}
+given rows rows2 met met2 today task r n g = grind (arith, ints, nat_tests, option_and_then, day_of, codes)
 
 -- what the values of a parse give is what the words mean
 pub means : (words : List Text) (m : ArgMatches) → IsParse words m → (today : ℕ) (task : Task) → Gives (rows_of (found_of m)) (subcommand_rows_of m) today task
     → Means words today task
-means words m parse today task g = record {
-  parses = parse.taken;
-  gives = given _ _ _ _ today task parse.values parse.met g;
-}
+means words m parse today task g = grind (arith, ints, nat_tests, given)
 
 -- and the other way round
 pub gives : (words : List Text) (m : ArgMatches) → IsParse words m → (today : ℕ) (task : Task) → Means words today task
@@ -73,14 +56,11 @@ gives words m parse today task says = given _ _ _ _ today task (sym parse.values
 
 -- words that are refused leave no plan
 leaves : (words : List Text) (k : ErrorKind) (fault : CliFault) → IsRefused words k → fault ≡ fault_by k → LeavesNoPlan words fault
-leaves words k faults.Memory is e = tt
-leaves words k faults.Line is e =
-    none-means words k (λ m. let clash : faults.Line ≡ faults.Memory = e ∙ ap fault_by m in cc) is
+leaves words k fault is e = grind (arith, ints, nat_tests, none-means, fault_by)
 
 pub leaves-by : {T : Type 0} (words : List Text) (k : ErrorKind) (r : Result T CliFault) → IsRefused words k → IsErrAnd r (λ fault. fault ≡ fault_by k)
     → IfErr r (LeavesNoPlan words)
-leaves-by words k (Ok value) is e = tt
-leaves-by words k (Err fault) is e = leaves words k fault is e
+leaves-by words k r is e = grind (arith, ints, nat_tests, leaves)
 
 -- the value of an argument, among the rows of a parse
 pub first-given : {o : Option Text} (f : Found) (id : Text) → o ≡ first_value f id → first_of id (rows_of f) ≡ o
@@ -91,5 +71,4 @@ pub meets : (m : Option (Text × List Row)) (name : Text) (values : List Row) (t
 meets m name values task e h = rw e h
 
 pub unmet : (m : Option (Text × List Row)) (task : Task) → None ≡ option_map (λ (q : Text × List Row). q.1) m → MeetsTask m task → ⊥
-unmet None task e h = h
-unmet (Some command) task e h = cc
+unmet m task e h = grind (arith, ints, nat_tests)

@@ -1,5 +1,5 @@
 -- The journal of each matter, and that of the firm.
-use Rattle.firm_audit.proofs.Names.{inl, inr, cases_Bool, ◌≡◌, ℕ, zero, suc, ◌+◌, ◌-◌, ◌<◌, Bool, false, List, [], ◌∷◌, Option, Some, None, map, take, refl, sym, ap, ◌∙◌, subst, arith, filter, ◌==◌, ◌&&◌, ℤ, pos, ◌≤ℤ◌, AllByRecursion, false≢true, nat_tests, ints, Rows, entry_at, last_of, unopened, events_of, events_in, within, Kept, AreNumbered, entries_kept, Movement, is_of_matter, is_of_entry, event_of, events_moved, moved_for, sum-filter, KeptMatter, rows_kept, IsKeptWhole, rows_in, moved_of, RiseWithin, moved_sum, AreCovered, AreMoved, IsJournal, IsOwned, IsJournalOf}
+use Rattle.firm_audit.proofs.Names.{inl, inr, cases_Bool, ◌≡◌, ℕ, zero, suc, ◌+◌, ◌-◌, ◌<◌, Bool, false, List, [], ◌∷◌, Option, Some, None, map, take, refl, sym, ap, ◌∙◌, subst, arith, filter, ℤ, pos, ◌≤ℤ◌, AllByRecursion, false≢true, nat_tests, ints, Rows, entry_at, last_of, unopened, events_of, events_in, within, Kept, AreNumbered, entries_kept, Movement, is_of_matter, is_of_entry, event_of, events_moved, moved_for, sum-filter, KeptMatter, rows_kept, IsKeptWhole, rows_in, moved_of, RiseWithin, moved_sum, AreCovered, AreMoved, IsJournal, IsOwned, IsJournalOf}
 use Rattle.matter_rows.specs.declared.entry.Entry.{Entry}
 use Rattle.matter_rows.specs.Balances.{ledger}
 use Rattle.firm_rows.specs.declared.movement.Owner.{Owner}

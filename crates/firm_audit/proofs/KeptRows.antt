@@ -1,5 +1,5 @@
 -- The rows of sound matters that are kept by number.
-use Rattle.firm_audit.proofs.Names.{◌≡◌, ◌≢◌, ℕ, ◌≤◌, Bool, true, false, List, [], ◌∷◌, ◌++◌, cond, refl, sym, ap, ◌∙◌, subst, arith, nat_lt, ◌==◌, AllByRecursion, nat_tests, Rows, unopened, pairs, put, KeptMatter, rows_kept, joined, IsBefore, Ascends, rows_in, joined_pass, joined_fail}
+use Rattle.firm_audit.proofs.Names.{◌≡◌, ◌≢◌, ℕ, ◌≤◌, Bool, true, false, List, [], ◌∷◌, ◌++◌, cond, refl, sym, ap, ◌∙◌, arith, nat_lt, ◌==◌, AllByRecursion, nat_tests, Rows, unopened, pairs, put, KeptMatter, rows_kept, joined, IsBefore, Ascends, rows_in, joined_pass, joined_fail}
 use Rattle.firm_rows.proofs.Joined.{passing}
 use Rattle.firm_rows.proofs.Order.{put-again, put-other}
 

@@ -11,14 +11,14 @@ pub use Rattle.matter_rows.specs.Events.{Event, as_movement, events_in, nth_move
 unfoldable pub use Rattle.matter_rows.specs.Events.{events_of}
 pub use Rattle.matter_rows.specs.Rows.{Rows, entry_at, last_of, unopened}
 pub use Rattle.matter_rows.specs.Sound.{Sound}
-pub use Rattle.std.proofs.Common.{Bool, List, None, Ok, Option, Some, [], ap, arith, cond, drop, false, filter, get_or, inl, inr, length, map, of_z, refl, rules, subst, suc, sym, take, to_z, true, zero, ℕ, ◌++◌, ◌+◌, ◌-◌, ◌<◌, ◌∙◌, ◌∷◌, ◌≡◌, ◌≢◌, ◌≤◌, ◌⊎◌}
+pub use Rattle.std.proofs.Common.{Bool, List, None, Ok, Option, Some, [], ap, arith, cond, drop, false, filter, get_or, inl, inr, length, map, of_z, refl, rules, subst, suc, sym, take, to_z, true, zero, ℕ, ◌++◌, ◌+◌, ◌-◌, ◌<◌, ◌∙◌, ◌∷◌, ◌≡◌, ◌≢◌, ◌≤◌}
 pub use Rattle.std.proofs.lemmas.Bool.{cases_Bool, cases_lt, false≢true}
 pub use Rattle.std.proofs.lemmas.Bool.Decides.{nat_tests}
 pub use Rattle.std.proofs.lemmas.Int.{ints, to_z-of_z}
 pub use Rattle.std.proofs.lemmas.List.{drop_more, get_or_default, length-map, take_more}
 pub use Rattle.std.specs.List.{AllByRecursion}
 pub use Rattle.std.specs.Option.{option_map}
-pub use Rattle.std.specs.Prelude.{is_some, nat_lt, pos, slice_get, ℤ, ◌&&◌, ◌+ℤ◌, ◌==◌, ◌≤ℤ◌}
+pub use Rattle.std.specs.Prelude.{is_some, nat_lt, pos, slice_get, ℤ, ◌+ℤ◌, ◌==◌, ◌≤ℤ◌}
 pub use Rattle.trust_store.proofs.KeptMatters.{found_read, joined_fail, joined_pass, rows_of-joined, sound_in}
 pub use Rattle.trust_store.specs.Kept.{AreKeptWhole, Ascends, IsBefore, IsKeptWhole, firm_of_all, joined, rows_in, rows_kept, seek}
 pub use Rattle.trust_store.specs.declared.plain.KeptMatter.{KeptMatter}

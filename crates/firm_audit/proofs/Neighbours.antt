@@ -1,5 +1,5 @@
 -- Lists of which each element stands before the next.
-use Rattle.firm_audit.proofs.Names.{◌≡◌, ℕ, suc, ◌+◌, ◌-◌, ◌<◌, ◌≤◌, List, [], ◌∷◌, length, get_or, subst, ◌∙◌, ap, arith, ◌⊎◌, inl, inr, AllByRecursion, get_or_default, cases_lt, Follow}
+use Rattle.firm_audit.proofs.Names.{◌≡◌, ℕ, suc, ◌+◌, ◌-◌, ◌<◌, ◌≤◌, List, [], ◌∷◌, length, get_or, arith, AllByRecursion, get_or_default, cases_lt, Follow, ints, nat_tests}
 
 -- of the first elements of the list each stands before the next
 abbrev pub AreBefore : {A : Type 0} → (A → A → Type 0) → ℕ → List A → Type 0
@@ -13,16 +13,8 @@ AreAllBefore R (x ∷ xs) = AllByRecursion (R x) xs × AreAllBefore R xs
 module _ {A : Type 0} (R : A → A → Type 0) where
   -- the element that was looked at last
   pub before-more : (xs : List A) (n : ℕ) (x y : A) → AreBefore R n xs → 1 ≤ n → n < length xs → x ≡ get_or xs (n - 1) x → y ≡ get_or xs n y → R x y → AreBefore R (n + 1) xs
-  before-more xs n x y more one within is_x is_y here j d few in_range = cases (cases_lt (suc j) n)
-    where
-      cases : (suc j < n) ⊎ (n ≤ suc j) → R (get_or xs j d) (get_or xs (suc j) d)
-      cases (inl less) = more j d less in_range
-      cases (inr past) =
-          let at : n ≡ suc j = omega arith in
-          let front : n - 1 ≡ j = omega arith in
-          let old : x ≡ get_or xs j d = is_x ∙ (ap (λ i. get_or xs i x) front ∙ get_or_default xs j x d (omega arith)) in
-          let new : y ≡ get_or xs (suc j) d = is_y ∙ (ap (λ i. get_or xs i y) at ∙ get_or_default xs (suc j) y d in_range) in
-          subst (λ (z : A). R z (get_or xs (suc j) d)) old (subst (λ (z : A). R x z) new here)
+  before-more xs n x y more one within is_x is_y here j d few in_range =
+      grind (arith, ints, nat_tests, cases_lt, get_or, get_or_default)
 
   module _ (trans : (x y z : A) → R x y → R y z → R x z) where
     -- what stands before the first stands before all

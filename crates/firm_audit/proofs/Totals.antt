@@ -1,5 +1,5 @@
 -- Sums over the first elements of a list.
-use Rattle.firm_audit.proofs.Names.{◌≡◌, ℕ, ◌+◌, ◌<◌, ◌≤◌, List, [], ◌∷◌, ◌++◌, length, take, get_or, sym, ap, ◌∙◌, subst, arith, ◌⊎◌, inl, inr, ℤ, ◌+ℤ◌, cases_lt, ints, take_more, sum-append}
+use Rattle.firm_audit.proofs.Names.{◌≡◌, ℕ, ◌+◌, ◌<◌, ◌≤◌, List, [], ◌∷◌, ◌++◌, length, take, get_or, sym, ap, ◌∙◌, arith, ℤ, ◌+ℤ◌, cases_lt, ints, take_more, sum-append, nat_tests}
 use Rattle.firm_rows.specs.Sums.{sum_of}
 
 -- with one element more
@@ -11,8 +11,4 @@ sum-more f xs i x lt is =
 module _ {A : Type 0} (P : ℤ → Type 0) (f : A → ℤ) (xs : List A) (i : ℕ) (all : (k : ℕ) → k ≤ i → P (sum_of f (take k xs))) where
   -- what holds at each place so far, and at the next
   pub each-more : P (sum_of f (take (i + 1) xs)) → (k : ℕ) → k ≤ i + 1 → P (sum_of f (take k xs))
-  each-more here k le = cases (cases_lt i k)
-    where
-      cases : (i < k) ⊎ (k ≤ i) → P (sum_of f (take k xs))
-      cases (inl past) = let at : i + 1 ≡ k = omega arith in subst (λ (n : ℕ). P (sum_of f (take n xs))) at here
-      cases (inr old) = all k old
+  each-more here k le = grind (arith, ints, nat_tests, cases_lt, sum_of, take)

@@ -1,8 +1,5 @@
 -- The journal is the ledgers, and the difference is told.
-use Rattle.firm_figures.proofs.Names.{◌≡◌, ℕ, ◌≤◌, Bool, true, false, not, cond, List, [], ◌∷◌, Option, Some, None, refl, sym, ◌∙◌, subst, arith, ℤ, pos, ◌+ℤ◌, ◌-ℤ◌, ◌&&◌, nat_le, filter, flat_map, AllByRecursion, ints, nat_tests, Head, Deposit, DepositState, Payment, PaymentState, Entry, Rows, entry_amount, Event, events_of, AreRising, IsBackInTime, IsRising, deposit_days, payment_days, IsHeaded, Sound, Movement, FirmLine, sum_of, Row, Firm, of, FirmSound, entries_in, is_in_transit, is_outstanding, lines_of, is_event_by, is_moved_by, is_dated_by, is_matched_by, is_early, transit, outstanding, journal, ledgers, matched, early, AlwaysAgree, transit_share, outstanding_share, sum-filter, sum-flat, sum-agree, of_row, rows-entries, all-entries, agree}
-use Rattle.matter_rows.specs.declared.deposit.DepositState.TheVariants as deposit
-use Rattle.matter_rows.specs.declared.payment.PaymentState.TheVariants as payment
-use Rattle.matter_rows.specs.declared.entry.Entry.TheVariants as entry
+use Rattle.firm_figures.proofs.Names.{◌≡◌, ℕ, cond, List, [], ◌∷◌, Option, Some, None, refl, sym, ◌∙◌, subst, arith, ℤ, pos, ◌+ℤ◌, ◌-ℤ◌, filter, flat_map, AllByRecursion, ints, nat_tests, Head, Entry, Rows, entry_amount, Event, events_of, IsRising, IsHeaded, Sound, Movement, FirmLine, sum_of, Row, Firm, of, FirmSound, entries_in, is_in_transit, is_outstanding, lines_of, is_event_by, is_moved_by, is_dated_by, is_matched_by, is_early, transit, outstanding, journal, ledgers, matched, early, AlwaysAgree, transit_share, outstanding_share, sum-filter, sum-flat, sum-agree, of_row, rows-entries, all-entries, agree}
 
 -- What each entry adds to a figure.
 module _ (p : ℕ) where
@@ -50,53 +47,9 @@ module _ (p : ℕ) where
   abbrev untold : Entry → ℤ
   untold e = ((transit_share p e -ℤ outstanding_share p e) -ℤ ledger_by e) +ℤ (matched_by e -ℤ early_by e)
 
-  held : (b : Bool) (z : ℤ) → ((cond (b && true) z (pos 0) -ℤ pos 0) -ℤ (cond b z (pos 0) +ℤ pos 0)) +ℤ (pos 0 -ℤ pos 0) ≡ pos 0
-  held b z = grind (arith, ints)
-
-  cleared : (b k : Bool) (z : ℤ) → ((cond (b && not k) z (pos 0) -ℤ pos 0) -ℤ (cond b z (pos 0) +ℤ pos 0)) +ℤ ((cond k z (pos 0) +ℤ pos 0) -ℤ (cond (k && not b) z (pos 0) +ℤ pos 0)) ≡ pos 0
-  cleared b k z = grind (arith, ints)
-
-  cancelled : (b c : Bool) (z : ℤ) → (c ≡ true → b ≡ true) → ((cond (b && (not c && true)) z (pos 0) -ℤ pos 0) -ℤ (cond b z (pos 0) +ℤ (cond c (pos 0 -ℤ z) (pos 0) +ℤ pos 0))) +ℤ (pos 0 -ℤ pos 0) ≡ pos 0
-  cancelled b c z h = grind (arith, ints)
-
-  returned : (b k t u : Bool) (z : ℤ) → (u ≡ true → b ≡ true) → (u ≡ true → t ≡ true) → ((cond (b && not k) z (pos 0) -ℤ pos 0) -ℤ (cond b z (pos 0) +ℤ (cond u (pos 0 -ℤ z) (pos 0) +ℤ pos 0))) +ℤ ((cond k z (pos 0) +ℤ (cond t (pos 0 -ℤ z) (pos 0) +ℤ pos 0)) -ℤ (cond (k && not b) z (pos 0) +ℤ (cond (t && not u) (pos 0 -ℤ z) (pos 0) +ℤ pos 0))) ≡ pos 0
-  returned b k t true z booked back = grind (arith, ints)
-  returned b k t false z booked back = grind (arith, ints)
-
-  -- a day that is by p has those before it by p
-  by-before : (a b : ℕ) → a ≤ b → nat_le b p ≡ true → nat_le a p ≡ true
-  by-before a b le is = grind (arith, nat_tests)
-
-  deposit-told : (d : Deposit) (s : DepositState) → AreRising d.book (deposit_days s) × IsBackInTime s → untold (entry.Deposit (record d { state = s })) ≡ pos 0
-  unfolding events_of
-  deposit-told d deposit.Held up = held (nat_le d.book p) (pos d.amount)
-  deposit-told d (deposit.Cleared c) up = cleared (nat_le d.book p) (nat_le c.bank_day p) (pos d.amount)
-  deposit-told d (deposit.Cancelled day) up = cancelled (nat_le d.book p) (nat_le day p) (pos d.amount) (by-before d.book day up.0.0)
-  deposit-told d (deposit.Returned r) up = returned (nat_le d.book p) (nat_le r.clearing.bank_day p) (nat_le r.returning.bank_day p) (nat_le r.undone p) (pos d.amount) (by-before d.book r.undone up.0.0) (by-before r.returning.bank_day r.undone up.1)
-
-  issued : (b : Bool) (z : ℤ) → ((pos 0 -ℤ cond (b && true) z (pos 0)) -ℤ (cond b (pos 0 -ℤ z) (pos 0) +ℤ pos 0)) +ℤ (pos 0 -ℤ pos 0) ≡ pos 0
-  issued b z = grind (arith, ints)
-
-  paid : (b k : Bool) (z : ℤ) → ((pos 0 -ℤ cond (b && not k) z (pos 0)) -ℤ (cond b (pos 0 -ℤ z) (pos 0) +ℤ pos 0)) +ℤ ((cond k (pos 0 -ℤ z) (pos 0) +ℤ pos 0) -ℤ (cond (k && not b) (pos 0 -ℤ z) (pos 0) +ℤ pos 0)) ≡ pos 0
-  paid b k z = grind (arith, ints)
-
-  voided : (b c : Bool) (z : ℤ) → (c ≡ true → b ≡ true) → ((pos 0 -ℤ cond (b && (not c && true)) z (pos 0)) -ℤ (cond b (pos 0 -ℤ z) (pos 0) +ℤ (cond c z (pos 0) +ℤ pos 0))) +ℤ (pos 0 -ℤ pos 0) ≡ pos 0
-  voided b c z h = grind (arith, ints)
-
-  payment-told : (y : Payment) (s : PaymentState) → AreRising y.book (payment_days s) → untold (entry.Payment (record y { state = s })) ≡ pos 0
-  unfolding events_of
-  payment-told y payment.Proposed up = refl
-  payment-told y payment.Declined up = refl
-  payment-told y (payment.Issued day) up = issued (nat_le day p) (pos y.amount)
-  payment-told y (payment.Cleared c) up = paid (nat_le c.issued p) (nat_le c.clearing.bank_day p) (pos y.amount)
-  payment-told y (payment.Voided v) up = voided (nat_le v.issued p) (nat_le v.undone p) (pos y.amount) (by-before v.issued v.undone up.1.0)
-
   entry-told : (e : Entry) → IsRising e → untold e ≡ pos 0
   unfolding events_of
-  entry-told (entry.Deposit d) up = deposit-told d d.state up
-  entry-told (entry.Payment y) up = payment-told y y.state up
-  entry-told (entry.Fee f) up = refl
-  entry-told (entry.Claim c) up = refl
+  entry-told e up = grind (arith, ints, nat_tests)
 
   entries-told : (es : List Entry) → AllByRecursion IsRising es → sum_of untold es ≡ pos 0
   entries-told [] up = refl

@@ -1,5 +1,5 @@
 -- Payments in order, and those of one instrument side by side.
-use Rattle.firm_figures.proofs.Names.{◌≡◌, ℕ, ◌+◌, ◌-◌, ◌<◌, true, false, List, [], ◌∷◌, ◌++◌, length, get_or, refl, sym, ap, ◌∙◌, append-nil, append_assoc, arith, nat_lt, IsTotalOrder, IsStrictWeakOrder, filter, flat_map, IsSortedBy, Less, Equal, Greater, is_lt, is_eq, nat_cmp, ordering_then, ordering_reverse, nat_tests, filter_agree, ranks_by, Row, Issued, issued_cmp, is_before_issued, has_same_instrument, is_double_in, in_order, doubles_in, issued_in, IssuedKept, no_issued, with_row_issued, IssuedIsKept}
+use Rattle.firm_figures.proofs.Names.{◌≡◌, ℕ, ◌+◌, ◌-◌, ◌<◌, true, false, List, [], ◌∷◌, ◌++◌, length, get_or, refl, sym, ap, ◌∙◌, append-nil, append_assoc, arith, nat_lt, IsTotalOrder, IsStrictWeakOrder, filter, flat_map, IsSortedBy, Less, Equal, is_lt, is_eq, nat_cmp, ordering_then, ordering_reverse, nat_tests, filter_agree, ranks_by, Row, Issued, issued_cmp, is_before_issued, has_same_instrument, is_double_in, in_order, doubles_in, issued_in, IssuedKept, no_issued, with_row_issued, IssuedIsKept}
 use Rattle.std.proofs.Common.{fold}
 use Rattle.std.specs.Cmp.Lexicographic.{slice_cmp}
 use Rattle.std.specs.declared.cmp.Ordering.{Ordering}

@@ -1,5 +1,6 @@
 pub mod DifferenceTold
 pub mod DoubleRows
+pub mod EntryDays
 pub mod Listing
 pub mod OpeningRows
 pub mod PurgedFigures

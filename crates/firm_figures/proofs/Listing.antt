@@ -1,5 +1,5 @@
 -- What a lister keeps are the lists.
-use Rattle.firm_figures.proofs.Names.{◌≡◌, ℕ, Bool, true, false, cond, List, [], ◌∷◌, ◌++◌, sym, ap, ◌∙◌, append_assoc, append-nil, nat_le, fold, if◌then◌else◌, filter, flat_map, Line, EntryLine, Row, booked_on, is_in_transit, is_outstanding, line_where, early_lines, transit_list, out_list, early_list, Listed, none_listed, with_row_listed, with_exception_listed, ListsKept}
+use Rattle.firm_figures.proofs.Names.{◌≡◌, ℕ, Bool, true, false, cond, List, [], ◌∷◌, ◌++◌, sym, ◌∙◌, append_assoc, append-nil, nat_le, fold, if◌then◌else◌, filter, flat_map, Line, EntryLine, Row, booked_on, is_in_transit, is_outstanding, line_where, early_lines, transit_list, out_list, early_list, Listed, none_listed, with_row_listed, with_exception_listed, ListsKept}
 
 -- the three lists with more at the end of each
 abbrev more : Listed → List EntryLine → List EntryLine → List EntryLine → Listed

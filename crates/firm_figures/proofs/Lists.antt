@@ -1,5 +1,5 @@
 -- The journal's sums so far, and the trial balance.
-use Rattle.firm_figures.proofs.Names.{◌≡◌, ℕ, zero, suc, ◌+◌, ◌*◌, ◌≤◌, Bool, true, false, cond, List, [], ◌∷◌, ◌++◌, length, map, take, Option, Some, None, refl, sym, ap, ◌∙◌, subst, arith, append_assoc, append-nil, ℤ, pos, negsuc, ◌+ℤ◌, ◌≤ℤ◌, ◌==◌, is_none, fold, AllByRecursion, int_wrap, w128, FitsSigned, ints, int_wrap-add_left, int_wrap_fits, Head, Seat, Entry, Rows, ledger, IsAtRestIfClosed, IsHeaded, Sound, Covered, sum_of, Row, HeadRow, SeatRow, EntryRow, Firm, of, pairs, head_pairs, seat_pairs, entry_pairs, FirmSound, at, sum-append, sum-same, sum-filter, sum-agree, passing, own-put, of_row, rows-entries, shares-ledger, row-share, sound-solvent, Movement, TrialLine, ledger_share, row_share, ledger_sum, journal_sum, journal_from, last_sum, with_moved, JournalIsKept, open_matters, trial_lines, ListsAlwaysAgree, IsMovementInRange, added}
+use Rattle.firm_figures.proofs.Names.{◌≡◌, ℕ, zero, suc, ◌+◌, ◌*◌, ◌≤◌, cond, List, [], ◌∷◌, ◌++◌, length, map, take, refl, sym, ap, ◌∙◌, arith, append_assoc, append-nil, ℤ, pos, ◌+ℤ◌, ◌≤ℤ◌, ◌==◌, is_none, fold, AllByRecursion, int_wrap, w128, FitsSigned, ints, int_wrap-add_left, int_wrap_fits, Seat, Entry, Rows, ledger, Sound, Covered, sum_of, Row, HeadRow, SeatRow, EntryRow, Firm, of, pairs, head_pairs, seat_pairs, entry_pairs, FirmSound, at, sum-append, sum-same, sum-filter, sum-agree, passing, own-put, of_row, rows-entries, shares-ledger, row-share, sound-solvent, Movement, TrialLine, ledger_share, row_share, ledger_sum, journal_sum, journal_from, last_sum, with_moved, JournalIsKept, open_matters, trial_lines, ListsAlwaysAgree, IsMovementInRange, added}
 use Rattle.std.specs.Int.{w64}
 use Rattle.firm_figures.specs.declared.journal_sink.JournalLine.{JournalLine}
 use Rattle.firm_figures.proofs.Sizes.{IsWithin, wider, fits}
@@ -70,9 +70,7 @@ open_share f (m, EntryRow number entry) = pos 0
 
 open-sum : (f : ℕ → ℤ) (xs : List (ℕ × Row)) → sum_of (λ (l : TrialLine). l.ledger) (map (λ m. record { matter = m; ledger = f m }) (open_matters xs)) ≡ sum_of (open_share f) xs
 open-sum f [] = refl
-open-sum f ((m, HeadRow h) ∷ xs) = grind (arith, ints, is_none, (open-sum f xs))
-open-sum f ((m, SeatRow seat) ∷ xs) = omega (arith, ints, open-sum f xs)
-open-sum f ((m, EntryRow number entry) ∷ xs) = omega (arith, ints, open-sum f xs)
+open-sum f (q ∷ xs) = grind (arith, ints, is_none, (open-sum f xs))
 
 seats-none : (f : ℕ → ℤ) (m : ℕ) (ss : List Seat) → sum_of (open_share f) (seat_pairs m ss) ≡ pos 0
 seats-none f m [] = refl

@@ -19,15 +19,13 @@ pub use Rattle.matter_rows.specs.Events.{Event}
 unfoldable pub use Rattle.matter_rows.specs.Events.{events_of}
 pub use Rattle.matter_rows.specs.Laws.{Covered}
 pub use Rattle.matter_rows.specs.Rows.{Rows, cleared_head, closed_on, entry_amount}
-pub use Rattle.matter_rows.specs.Shares.{cleared_deposit, held_deposit, paid, pending_payment}
+pub use Rattle.matter_rows.specs.Shares.{cleared_deposit, held_deposit, paid}
 unfoldable pub use Rattle.matter_rows.specs.Shares.{held_share, pending_share, total_share}
-pub use Rattle.matter_rows.specs.Sound.{AreRising, IsAtRest, IsAtRestIfClosed, IsBackInTime, IsBy, IsHeaded, IsRanged, IsRising, Sound, deposit_days, payment_days}
+pub use Rattle.matter_rows.specs.Sound.{IsAtRest, IsAtRestIfClosed, IsBy, IsHeaded, IsRanged, IsRising, Sound}
 unfoldable pub use Rattle.matter_rows.specs.Sound.{days_of}
-pub use Rattle.matter_rows.specs.declared.deposit.Deposit.{Deposit}
 pub use Rattle.matter_rows.specs.declared.deposit.DepositState.{DepositState}
 pub use Rattle.matter_rows.specs.declared.entry.Entry.{Entry}
 pub use Rattle.matter_rows.specs.declared.head.Head.{Head}
-pub use Rattle.matter_rows.specs.declared.payment.Payment.{Payment}
 pub use Rattle.matter_rows.specs.declared.payment.PaymentState.{PaymentState}
 pub use Rattle.matter_rows.specs.declared.seat.Seat.{Seat}
 pub use Rattle.std.proofs.Common.{Bool, List, None, Option, Some, [], ap, append-nil, append_assoc, arith, cond, false, get_or, length, map, not, refl, rules, set, subst, suc, sym, take, true, w64, zero, ℕ, ◌*◌, ◌++◌, ◌+◌, ◌-◌, ◌<◌, ◌∙◌, ◌∷◌, ◌≡◌, ◌≤◌}
@@ -44,17 +42,17 @@ pub use Rattle.std.specs.Int.RustNames.{FitsSigned}
 pub use Rattle.std.specs.List.{AllByRecursion, filter, flat_map, list_any}
 pub use Rattle.std.specs.List.Sorted.{IsNonDecreasingBy, IsSortedBy, IsStableBy, ties}
 unfoldable pub use Rattle.std.specs.List.Sorted.{IsStrictlySortedBy}
-pub use Rattle.std.specs.Option.{option_map}
+pub use Rattle.std.specs.Option.{option_map, option_or}
 pub use Rattle.std.specs.Ordering.{is_eq, is_lt, nat_cmp, ordering_reverse, ordering_then}
-pub use Rattle.std.specs.Prelude.{IsSome, find, fold, if◌then◌else◌, is_none, nat_le, nat_lt, negsuc, pos, ℤ, ◌&&◌, ◌+ℤ◌, ◌-ℤ◌, ◌==◌, ◌||◌, ◌≤ℤ◌}
-pub use Rattle.std.specs.declared.cmp.Ordering.TheVariants.{Equal, Greater, Less}
+pub use Rattle.std.specs.Prelude.{IsSome, find, fold, if◌then◌else◌, is_none, nat_le, nat_lt, negsuc, pos, ℤ, ◌&&◌, ◌+ℤ◌, ◌-ℤ◌, ◌==◌, ◌||◌, ◌≤ℤ◌, is_some}
+pub use Rattle.std.specs.declared.cmp.Ordering.TheVariants.{Equal, Less}
 pub use Rattle.trust_base.specs.Limits.{IsAmount, IsBankAmount}
 pub use Rattle.trust_base.specs.declared.line.Line.{Line}
 pub use Rattle.trust_matter.specs.Changes.{IsPlace, MatterChange, changed_by}
 pub use Rattle.trust_matter.specs.edit.Edit.{Edit}
 pub use Rattle.firm_figures.specs.Doubles.{IssuedIsKept, IssuedKept, doubles_in, has_same_instrument, in_order, is_before_issued, is_double_in, issued_cmp, issued_in, no_issued, put_in_order, with_row_issued}
-pub use Rattle.firm_figures.specs.Figures.{AlwaysAgree, back_on, banked_on, booked_on, closing_on, early, entries_in, exceptions, figures, figures_on, is_back_early, is_banked_early, is_by, is_closing, is_closing_of, is_counted, is_dated_by, is_early, is_event_by, is_in_transit, is_matched_by, is_moved_by, is_outstanding, journal, ledgers, lines_of, matched, outstanding, own_by, returned_on, transit, undone_on}
-pub use Rattle.firm_figures.specs.Listing.{Listed, ListsKept, early_lines, early_list, line_where, none_listed, out_list, transit_list, with_exception_listed, with_row_listed}
+pub use Rattle.firm_figures.specs.Figures.{AlwaysAgree, back_on, banked_on, booked_on, closing_on, early, entries_in, exceptions, figures, figures_on, is_back_early, is_banked_early, is_by, is_closing, is_closing_of, is_counted, is_dated_by, is_early, is_event_by, is_in_transit, is_matched_by, is_moved_by, is_outstanding, journal, ledgers, lines_of, matched, outstanding, own_by, returned_on, transit, undone_on, day_by, day_where}
+pub use Rattle.firm_figures.specs.Listing.{Listed, ListsKept, early_lines, early_list, line_where, none_listed, out_list, transit_list, with_exception_listed, with_row_listed, entry_line}
 pub use Rattle.firm_figures.specs.Lists.{JournalIsKept, ListedAreOpen, ListsAlwaysAgree, TotalIsKept, TrialIsKept, TrialKept, add_last, is_open, journal_from, last_sum, no_trial, open_matters, trial_lines, trial_total, with_moved, with_trial_own, with_trial_row}
 pub use Rattle.firm_figures.specs.Openings.{AreClosings, BalancesKept, OpeningsKept, after_closing, is_closing_before, is_opening_by, latest_before, no_balances, opening_line, openings_after, openings_kept, with_balance_kept}
 pub use Rattle.firm_figures.specs.Purged.{AreListsLeft, IsClosedBy, IsPurge, PeriodKept, PurgeChangesNoFigure, PurgeChangesNoFigureLeft, PurgeChangesNoList, PurgeChangesNoListLeft, is_day_after, is_purged_after, whole_period, with_row_purged}
@@ -64,3 +62,4 @@ unfoldable pub use Rattle.firm_figures.specs.Reconciling.{added, less}
 pub use Rattle.firm_figures.specs.declared.day_lists.EntryLine.{EntryLine}
 pub use Rattle.firm_figures.specs.declared.day_lists.Issued.{Issued}
 pub use Rattle.firm_figures.specs.declared.trial_sink.TrialLine.{TrialLine}
+pub use Rattle.matter_rows.specs.Clearings.{cleared_amount}

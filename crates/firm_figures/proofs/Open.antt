@@ -1,5 +1,5 @@
 -- The matters that the trial balance lists are open.
-use Rattle.firm_figures.proofs.Names.{◌≡◌, ℕ, ◌+◌, Bool, true, false, cond, List, [], ◌∷◌, ◌++◌, map, Option, Some, None, refl, sym, ap, ◌∙◌, arith, ◌==◌, ◌||◌, is_none, AllByRecursion, nat_tests, Head, Seat, Entry, Rows, ledger, Row, HeadRow, SeatRow, EntryRow, Firm, of, pairs, head_pairs, seat_pairs, entry_pairs, passing, own-put, all-map, TrialLine, open_matters, is_open, ListedAreOpen}
+use Rattle.firm_figures.proofs.Names.{◌≡◌, ℕ, ◌+◌, Bool, true, false, cond, List, [], ◌∷◌, ◌++◌, map, refl, sym, ap, ◌∙◌, arith, ◌==◌, ◌||◌, is_none, AllByRecursion, nat_tests, Seat, Entry, Rows, ledger, Row, HeadRow, SeatRow, EntryRow, Firm, of, pairs, head_pairs, seat_pairs, entry_pairs, passing, own-put, all-map, TrialLine, open_matters, is_open, ListedAreOpen}
 
 -- one of the heads of a matter is open
 abbrev some_open : ℕ → List (ℕ × Row) → Bool
@@ -10,9 +10,7 @@ some_open m ((k, EntryRow n e) ∷ xs) = some_open m xs
 
 own-open : (m : ℕ) (xs : List (ℕ × Row)) → some_open m (passing (λ x. x == m) xs) ≡ some_open m xs
 own-open m [] = refl
-own-open m ((k, HeadRow h) ∷ xs) = grind (arith, nat_tests, is_none, (own-open m xs))
-own-open m ((k, SeatRow s) ∷ xs) = grind (arith, nat_tests, (own-open m xs))
-own-open m ((k, EntryRow n e) ∷ xs) = grind (arith, nat_tests, (own-open m xs))
+own-open m (q ∷ xs) = grind (arith, nat_tests, is_none, (own-open m xs))
 
 entries-open : (m k n : ℕ) (es : List Entry) → some_open m (entry_pairs k n es) ≡ false
 entries-open m k n [] = refl
@@ -36,9 +34,7 @@ more-open b c d is = grind arith
 
 listed : (xs : List (ℕ × Row)) → AllByRecursion (λ k. some_open k xs ≡ true) (open_matters xs)
 listed [] = tt
-listed ((m, HeadRow h) ∷ xs) = grind (arith, nat_tests, is_none, all-map, more-open, itself, (listed xs))
-listed ((m, SeatRow s) ∷ xs) = listed xs
-listed ((m, EntryRow n e) ∷ xs) = listed xs
+listed (q ∷ xs) = grind (arith, nat_tests, is_none, all-map, more-open, itself, (listed xs))
 
 lines-open : (firm : Firm) (ks : List ℕ) → AllByRecursion (λ k. is_open (of k firm).head ≡ true) ks → AllByRecursion (λ (l : TrialLine). is_open (of l.matter firm).head ≡ true) (map (λ m. record { matter = m; ledger = ledger (of m firm).entries }) ks)
 lines-open firm [] all = tt

@@ -1,10 +1,8 @@
 -- The balances dated by a day have its openings, and the latest closing before a day is found by a search.
-use Rattle.firm_figures.proofs.Names.{◌≡◌, ℕ, zero, suc, ◌-◌, ◌<◌, ◌≤◌, Bool, true, false, cond, List, [], ◌∷◌, ◌++◌, length, get_or, Option, Some, None, refl, sym, ap, ◌∙◌, subst, arith, append-nil, append_assoc, ◌&&◌, nat_le, nat_lt, if◌then◌else◌, AllByRecursion, filter, flat_map, IsNonDecreasingBy, IsStrictlySortedBy, nat_tests, Less, Equal, Greater, nat_cmp, ordering_then, ◌==◌, All-from_recursion, recursion_from_All, filter_passes, StatementRow, balance_cmp, place_of, all-map, is_closing, is_closing_before, latest_before, after_closing, is_opening_by, opening_line, BalancesKept, no_balances, with_balance_kept, AreClosings, openings_after, openings_kept, OpeningsKept}
+use Rattle.firm_figures.proofs.Names.{◌≡◌, ℕ, zero, suc, ◌-◌, ◌<◌, ◌≤◌, Bool, true, false, cond, List, [], ◌∷◌, ◌++◌, length, get_or, Option, Some, None, refl, sym, ap, ◌∙◌, subst, arith, append-nil, append_assoc, ◌&&◌, nat_le, nat_lt, if◌then◌else◌, AllByRecursion, filter, flat_map, IsNonDecreasingBy, IsStrictlySortedBy, nat_tests, Less, nat_cmp, ordering_then, All-from_recursion, recursion_from_All, filter_passes, StatementRow, balance_cmp, place_of, all-map, is_closing, is_closing_before, latest_before, after_closing, is_opening_by, opening_line, BalancesKept, no_balances, with_balance_kept, AreClosings, openings_after, openings_kept, OpeningsKept}
 use Rattle.std.proofs.Common.{fold}
 use Rattle.std.specs.Prelude.{not}
 use Rattle.std.proofs.lemmas.List.Kept.{IsStrictlySortedBy-filter}
-use Rattle.firm_rows.specs.declared.ledger.BalanceKind.{BalanceKind}
-use Rattle.firm_rows.specs.declared.ledger.BalanceKind.TheVariants as kind
 
 abbrev is_closing_by : ℕ → StatementRow → Bool
 is_closing_by p r = is_closing r.kind && nat_le r.day p

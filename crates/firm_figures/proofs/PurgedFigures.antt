@@ -1,8 +1,5 @@
 -- Purging changes no figure of a day that is not before the close.
-use Rattle.firm_figures.proofs.Names.{◌≡◌, ℕ, ◌≤◌, true, List, [], ◌∷◌, Option, Some, None, refl, sym, ap, ◌∙◌, subst, arith, ℤ, pos, ◌+ℤ◌, ◌-ℤ◌, ◌≤ℤ◌, nat_le, AllByRecursion, option_map, ints, nat_tests, Head, Deposit, DepositState, Payment, PaymentState, Entry, Rows, held_share, total_share, pending_share, pending_payment, held, total, ledger, pending, events_of, days_of, IsBy, IsHeaded, IsAtRest, IsAtRestIfClosed, Sound, Covered, sum_of, Row, Firm, of, FirmSound, entries_in, transit, outstanding, journal, own_by, ledgers, exceptions, matched, early, figures, figures_on, closing_on, Edit, changed_by, cleared_by, after_change, after_edit, IsClosedBy, PurgeChangesNoFigure, sum-agree, of_row, rows-entries, all-entries, transit_share, outstanding_share, IsClear, sound-cleared}
-use Rattle.matter_rows.specs.declared.deposit.DepositState.TheVariants as deposit
-use Rattle.matter_rows.specs.declared.payment.PaymentState.TheVariants as payment
-use Rattle.matter_rows.specs.declared.entry.Entry.TheVariants as entry
+use Rattle.firm_figures.proofs.Names.{◌≡◌, ℕ, ◌≤◌, true, List, [], ◌∷◌, Option, Some, None, refl, sym, ap, ◌∙◌, subst, arith, ℤ, pos, ◌+ℤ◌, ◌-ℤ◌, ◌≤ℤ◌, nat_le, AllByRecursion, option_map, ints, nat_tests, Head, Entry, Rows, held_share, total_share, pending_share, held, total, ledger, pending, events_of, days_of, IsBy, IsHeaded, IsAtRest, IsAtRestIfClosed, Sound, Covered, sum_of, Row, Firm, of, FirmSound, entries_in, transit, outstanding, journal, own_by, ledgers, exceptions, matched, early, figures, figures_on, closing_on, Edit, changed_by, cleared_by, after_change, after_edit, IsClosedBy, PurgeChangesNoFigure, sum-agree, of_row, rows-entries, all-entries, transit_share, outstanding_share, IsClear, sound-cleared}
 use Rattle.trust_matter.specs.edit.Edit.TheVariants as edit
 use Rattle.firm_figures.proofs.DifferenceTold.{ledger_by, matched_by, early_by, transit-shares, outstanding-shares, ledger-shares, matched-shares, early-shares, journal-ledgers}
 use Rattle.firm_rows.proofs.Changed.{each-matter, of-cleared_by, of_other-cleared_by}
@@ -38,27 +35,9 @@ module _ (p : ℕ) where
     pub early : early_by p e ≡ pos 0
     pub out : pending_share e ≡ pos 0 → outstanding_share p e ≡ pos 0
 
-  deposit-told : (d : Deposit) (s : DepositState) → IsBy p (entry.Deposit (record d { state = s })) → IsToldBy (entry.Deposit (record d { state = s }))
-  unfolding held_share total_share pending_share events_of days_of
-  deposit-told d deposit.Held days = let b = by d.book days.0 in record { transit = rw b refl; moved = rw b (omega (arith, ints)); banked = omega (arith, ints); early = refl; out = λ h. refl }
-  deposit-told d (deposit.Cleared c) days = let b = by d.book days.0 in let k = by c.bank_day days.1.0 in record { transit = rw (b, k) refl; moved = rw b (omega (arith, ints)); banked = rw k (omega (arith, ints)); early = rw (b, k) refl; out = λ h. refl }
-  deposit-told d (deposit.Returned r) days = let b = by d.book days.0 in let u = by r.undone days.1.0 in let k = by r.clearing.bank_day days.1.1.0 in let t = by r.returning.bank_day days.1.1.1.0 in record { transit = rw (b, k) refl; moved = rw (b, u) (omega (arith, ints)); banked = rw (k, t) (omega (arith, ints)); early = rw (b, u, k, t) refl; out = λ h. refl }
-  deposit-told d (deposit.Cancelled day) days = let b = by d.book days.0 in let k = by day days.1.0 in record { transit = rw (b, k) refl; moved = rw (b, k) (omega (arith, ints)); banked = omega (arith, ints); early = refl; out = λ h. refl }
-
-  payment-told : (y : Payment) (s : PaymentState) → IsBy p (entry.Payment (record y { state = s })) → IsToldBy (entry.Payment (record y { state = s }))
-  unfolding held_share total_share pending_share events_of days_of
-  payment-told y payment.Proposed days = record { transit = refl; moved = omega (arith, ints); banked = omega (arith, ints); early = refl; out = λ h. refl }
-  payment-told y payment.Declined days = record { transit = refl; moved = omega (arith, ints); banked = omega (arith, ints); early = refl; out = λ h. refl }
-  payment-told y (payment.Issued day) days = let b = by day days.1.0 in record { transit = refl; moved = rw b (omega (arith, ints)); banked = rw b (omega (arith, ints)); early = refl; out = λ h. absurd (cc) }
-  payment-told y (payment.Cleared c) days = let b = by c.issued days.1.0 in let k = by c.clearing.bank_day days.1.1.0 in record { transit = refl; moved = rw b (omega (arith, ints)); banked = rw (b, k) (omega (arith, ints)); early = rw (b, k) refl; out = λ h. rw (b, k) refl }
-  payment-told y (payment.Voided v) days = let b = by v.issued days.1.0 in let k = by v.undone days.1.1.0 in record { transit = refl; moved = rw (b, k) (omega (arith, ints)); banked = rw (b, k) (omega (arith, ints)); early = refl; out = λ h. rw (b, k) refl }
-
   entry-told : (e : Entry) → IsBy p e → IsToldBy e
-  unfolding held_share total_share pending_share events_of
-  entry-told (entry.Deposit d) days = deposit-told d d.state days
-  entry-told (entry.Payment y) days = payment-told y y.state days
-  entry-told (entry.Fee f) days = record { transit = refl; moved = omega (arith, ints); banked = omega (arith, ints); early = refl; out = λ h. refl }
-  entry-told (entry.Claim c) days = record { transit = refl; moved = omega (arith, ints); banked = omega (arith, ints); early = refl; out = λ h. refl }
+  unfolding held_share total_share pending_share events_of days_of
+  entry-told e days = grind (arith, ints, nat_tests)
 
   -- All entries of the matter.
 
@@ -82,10 +61,7 @@ module _ (p : ℕ) where
 
   pub pending-least : (e : Entry) → pos 0 ≤ℤ pending_share e
   unfolding pending_share
-  pending-least (entry.Deposit d) = omega (arith, ints)
-  pending-least (entry.Payment y) = elim y.state as (λ s. pos 0 ≤ℤ pending_payment s) [ payment.Proposed ↦ omega (arith, ints) | _ ↦ omega (arith, ints) ]
-  pending-least (entry.Fee f) = omega (arith, ints)
-  pending-least (entry.Claim c) = omega (arith, ints)
+  pending-least e = grind (arith, ints, nat_tests)
 
   pub all-pending-least : (es : List Entry) → pos 0 ≤ℤ pending es
   all-pending-least [] = omega (arith, ints)

@@ -1,10 +1,7 @@
 -- Purging changes none of the lists of entries as of a day that is not before the close.
-use Rattle.firm_figures.proofs.Names.{◌≡◌, ℕ, ◌+◌, ◌≤◌, Bool, false, List, [], ◌∷◌, ◌++◌, Option, Some, None, refl, sym, ap, ◌∙◌, subst, arith, pos, ◌≤ℤ◌, nat_lt, AllByRecursion, filter, flat_map, ints, flat_map-append, Head, Seat, Deposit, DepositState, Payment, PaymentState, Entry, Rows, held_share, pending_share, held_deposit, held, pending, days_of, IsBy, IsRanged, IsHeaded, IsAtRest, IsAtRestIfClosed, Sound, Covered, EntryLine, Row, HeadRow, SeatRow, EntryRow, Firm, of, pairs, head_pairs, seat_pairs, entry_pairs, put, FirmSound, booked_on, is_in_transit, is_outstanding, is_banked_early, is_back_early, line_where, early_lines, Edit, changed_by, cleared_by, after_change, after_edit, IsClear, IsClosedBy, AreListsLeft, PurgeChangesNoList}
-use Rattle.matter_rows.specs.declared.deposit.DepositState.TheVariants as deposit
-use Rattle.matter_rows.specs.declared.payment.PaymentState.TheVariants as payment
-use Rattle.matter_rows.specs.declared.entry.Entry.TheVariants as entry
+use Rattle.firm_figures.proofs.Names.{◌≡◌, ℕ, ◌+◌, ◌≤◌, Bool, false, List, [], ◌∷◌, ◌++◌, Option, Some, None, refl, sym, ap, ◌∙◌, subst, arith, pos, ◌≤ℤ◌, nat_lt, AllByRecursion, filter, flat_map, ints, flat_map-append, Head, Seat, Entry, Rows, held_share, pending_share, held_deposit, held, pending, days_of, IsBy, IsRanged, IsHeaded, IsAtRest, IsAtRestIfClosed, Sound, Covered, EntryLine, Row, HeadRow, SeatRow, EntryRow, Firm, of, pairs, head_pairs, seat_pairs, entry_pairs, put, FirmSound, booked_on, is_in_transit, is_outstanding, is_banked_early, is_back_early, line_where, early_lines, Edit, changed_by, cleared_by, after_change, after_edit, IsClear, IsClosedBy, AreListsLeft, PurgeChangesNoList, nat_tests}
 use Rattle.trust_matter.specs.edit.Edit.TheVariants as edit
-use Rattle.firm_figures.proofs.PurgedFigures.{by, pending-least, all-pending-least, all-later}
+use Rattle.firm_figures.proofs.PurgedFigures.{pending-least, all-pending-least, all-later}
 
 held-least : (e : Entry) → pos 0 ≤ℤ held_share e
 unfolding held_share
@@ -22,26 +19,9 @@ module _ (p : ℕ) where
     pub early : is_banked_early p e ≡ false
     pub back : is_back_early p e ≡ false
 
-  deposit-unlisted : (d : Deposit) (s : DepositState) → IsBy p (entry.Deposit (record d { state = s })) → 1 ≤ d.amount → held_share (entry.Deposit (record d { state = s })) ≡ pos 0 → IsUnlisted (entry.Deposit (record d { state = s }))
-  unfolding held_share days_of
-  deposit-unlisted d deposit.Held days some none = absurd (omega (arith, ints, some, none))
-  deposit-unlisted d (deposit.Cleared c) days some none = let b = by p d.book days.0 in let k = by p c.bank_day days.1.0 in record { transit = rw (b, k) refl; out = refl; early = rw (b, k) refl; back = refl }
-  deposit-unlisted d (deposit.Returned r) days some none = let b = by p d.book days.0 in let u = by p r.undone days.1.0 in let k = by p r.clearing.bank_day days.1.1.0 in let t = by p r.returning.bank_day days.1.1.1.0 in record { transit = rw (b, k) refl; out = refl; early = rw (b, k) refl; back = rw (u, t) refl }
-  deposit-unlisted d (deposit.Cancelled day) days some none = let b = by p d.book days.0 in let k = by p day days.1.0 in record { transit = rw (b, k) refl; out = refl; early = refl; back = refl }
-
-  payment-unlisted : (y : Payment) (s : PaymentState) → IsBy p (entry.Payment (record y { state = s })) → pending_share (entry.Payment (record y { state = s })) ≡ pos 0 → IsUnlisted (entry.Payment (record y { state = s }))
-  unfolding pending_share days_of
-  payment-unlisted y payment.Proposed days none = record { transit = refl; out = refl; early = refl; back = refl }
-  payment-unlisted y payment.Declined days none = record { transit = refl; out = refl; early = refl; back = refl }
-  payment-unlisted y (payment.Issued day) days none = absurd (cc)
-  payment-unlisted y (payment.Cleared c) days none = let b = by p c.issued days.1.0 in let k = by p c.clearing.bank_day days.1.1.0 in record { transit = refl; out = rw (b, k) refl; early = rw (b, k) refl; back = refl }
-  payment-unlisted y (payment.Voided v) days none = let b = by p v.issued days.1.0 in let k = by p v.undone days.1.1.0 in record { transit = refl; out = rw (b, k) refl; early = refl; back = refl }
-
   unlisted : (e : Entry) → IsBy p e → IsRanged e → held_share e ≡ pos 0 → pending_share e ≡ pos 0 → IsUnlisted e
-  unlisted (entry.Deposit d) days ranged held_none none = deposit-unlisted d d.state days (let a = ranged.amount in omega (arith, a)) held_none
-  unlisted (entry.Payment y) days ranged held_none none = payment-unlisted y y.state days none
-  unlisted (entry.Fee f) days ranged held_none none = record { transit = refl; out = refl; early = refl; back = refl }
-  unlisted (entry.Claim c) days ranged held_none none = record { transit = refl; out = refl; early = refl; back = refl }
+  unfolding held_share days_of pending_share
+  unlisted e days ranged held_none none = grind (arith, ints, nat_tests)
 
   all-unlisted : (es : List Entry) → AllByRecursion (IsBy p) es → AllByRecursion IsRanged es → held es ≡ pos 0 → pending es ≡ pos 0 → AllByRecursion IsUnlisted es
   all-unlisted [] days ranged held_none none = tt

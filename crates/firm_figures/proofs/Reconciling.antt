@@ -1,86 +1,18 @@
 -- What a reconciler keeps of a firm's rows are its figures.
-use Rattle.firm_figures.proofs.Names.{◌≡◌, ℕ, Bool, true, false, not, cond, List, [], ◌∷◌, Option, Some, None, refl, sym, ap, ◌∙◌, arith, ℤ, pos, ◌+ℤ◌, ◌-ℤ◌, ◌&&◌, ◌||◌, nat_le, fold, find, filter, flat_map, option_map, int_wrap, w128, ints, int_wrap-add_left, int_wrap-add_right, int_wrap-sub_right, int_wrap_fits, Line, Deposit, DepositState, Payment, PaymentState, Entry, events_of, Movement, FirmLine, StatementRow, sum_of, Row, HeadRow, SeatRow, EntryRow, Firm, entries_in, is_event_by, is_moved_by, is_dated_by, is_counted, is_closing_of, transit, outstanding, journal, own_by, exceptions, matched, early, closing_on, figures, transit_share, outstanding_share, ledger_share_by, matched_share, early_share, added, less, Tallies, no_tallies, with_row, with_movement, with_own, with_exception, with_balance_told, first_of, figures_kept, finished, all_taken, AreInRange, FiguresKept, sum-same, sum-filter, of_row, all-entries}
-use Rattle.matter_rows.specs.declared.deposit.DepositState.TheVariants as deposit
-use Rattle.matter_rows.specs.declared.payment.PaymentState.TheVariants as payment
-use Rattle.matter_rows.specs.declared.entry.Entry.TheVariants as entry
+use Rattle.firm_figures.proofs.Names.{◌≡◌, ℕ, Bool, cond, List, [], ◌∷◌, Option, Some, None, refl, sym, ap, ◌∙◌, arith, ℤ, pos, ◌+ℤ◌, ◌-ℤ◌, fold, find, filter, flat_map, option_map, int_wrap, w128, ints, int_wrap-add_left, int_wrap-add_right, int_wrap-sub_right, int_wrap_fits, Line, Entry, events_of, Movement, FirmLine, StatementRow, sum_of, Row, HeadRow, SeatRow, EntryRow, Firm, entries_in, is_event_by, is_moved_by, is_dated_by, is_counted, is_closing_of, transit, outstanding, journal, own_by, exceptions, matched, early, closing_on, figures, transit_share, outstanding_share, ledger_share_by, matched_share, early_share, added, less, Tallies, no_tallies, with_row, with_movement, with_own, with_exception, with_balance_told, first_of, figures_kept, finished, all_taken, AreInRange, FiguresKept, sum-same, sum-filter, of_row, all-entries, nat_tests}
 use Rattle.firm_figures.proofs.DifferenceTold.{ledger_by, matched_by, early_by, transit-shares, outstanding-shares, ledger-shares, matched-shares, early-shares}
 
 -- An entry's shares are those of its events and lines.
 module _ (p : ℕ) where
-  once : (b : Bool) (z : ℤ) → cond b z (pos 0) -ℤ pos 0 ≡ cond b z (pos 0) +ℤ pos 0
-  once b z = omega (arith, ints)
-
-  twice : (b c : Bool) (z : ℤ) → cond b z (pos 0) -ℤ cond c z (pos 0) ≡ cond b z (pos 0) +ℤ (cond c (pos 0 -ℤ z) (pos 0) +ℤ pos 0)
-  twice b c z = grind (arith, ints)
-
-  back : (b c : Bool) (z : ℤ) → cond b (pos 0 -ℤ z) (pos 0) -ℤ cond c (pos 0 -ℤ z) (pos 0) ≡ cond b (pos 0 -ℤ z) (pos 0) +ℤ (cond c z (pos 0) +ℤ pos 0)
-  back b c z = grind (arith, ints)
-
-  undoing : (b c : Bool) (z : ℤ) → cond b z (pos 0) -ℤ cond (c || false) z (pos 0) ≡ cond b z (pos 0) +ℤ (cond c (pos 0 -ℤ z) (pos 0) +ℤ pos 0)
-  undoing b c z = grind (arith, ints)
-
-  voiding : (b c : Bool) (z : ℤ) → cond b (pos 0 -ℤ z) (pos 0) -ℤ cond (c || false) (pos 0 -ℤ z) (pos 0) ≡ cond b (pos 0 -ℤ z) (pos 0) +ℤ (cond c z (pos 0) +ℤ pos 0)
-  voiding b c z = grind (arith, ints)
-
-  deposit-ledger : (d : Deposit) (s : DepositState) → ledger_share_by p (entry.Deposit (record d { state = s })) ≡ ledger_by p (entry.Deposit (record d { state = s }))
-  unfolding events_of
-  deposit-ledger d deposit.Held = once (nat_le d.book p) (pos d.amount)
-  deposit-ledger d (deposit.Cleared c) = once (nat_le d.book p) (pos d.amount)
-  deposit-ledger d (deposit.Returned r) = twice (nat_le d.book p) (nat_le r.undone p) (pos d.amount)
-  deposit-ledger d (deposit.Cancelled day) = undoing (nat_le d.book p) (nat_le day p) (pos d.amount)
-
-  payment-ledger : (y : Payment) (s : PaymentState) → ledger_share_by p (entry.Payment (record y { state = s })) ≡ ledger_by p (entry.Payment (record y { state = s }))
-  unfolding events_of
-  payment-ledger y payment.Proposed = refl
-  payment-ledger y payment.Declined = refl
-  payment-ledger y (payment.Issued day) = once (nat_le day p) (pos 0 -ℤ pos y.amount)
-  payment-ledger y (payment.Cleared c) = once (nat_le c.issued p) (pos 0 -ℤ pos y.amount)
-  payment-ledger y (payment.Voided v) = voiding (nat_le v.issued p) (nat_le v.undone p) (pos y.amount)
-
   pub entry-ledger : (e : Entry) → ledger_share_by p e ≡ ledger_by p e
   unfolding events_of
-  entry-ledger (entry.Deposit d) = deposit-ledger d d.state
-  entry-ledger (entry.Payment y) = payment-ledger y y.state
-  entry-ledger (entry.Fee f) = refl
-  entry-ledger (entry.Claim c) = refl
-
-  deposit-matched : (d : Deposit) (s : DepositState) → matched_share p (entry.Deposit (record d { state = s })) ≡ matched_by p (entry.Deposit (record d { state = s }))
-  deposit-matched d deposit.Held = refl
-  deposit-matched d (deposit.Cleared c) = once (nat_le c.bank_day p) (pos d.amount)
-  deposit-matched d (deposit.Returned r) = twice (nat_le r.clearing.bank_day p) (nat_le r.returning.bank_day p) (pos d.amount)
-  deposit-matched d (deposit.Cancelled day) = refl
-
-  payment-matched : (y : Payment) (s : PaymentState) → matched_share p (entry.Payment (record y { state = s })) ≡ matched_by p (entry.Payment (record y { state = s }))
-  payment-matched y payment.Proposed = refl
-  payment-matched y payment.Declined = refl
-  payment-matched y (payment.Issued day) = refl
-  payment-matched y (payment.Cleared c) = once (nat_le c.clearing.bank_day p) (pos 0 -ℤ pos y.amount)
-  payment-matched y (payment.Voided v) = refl
+  entry-ledger e = grind (arith, ints, nat_tests)
 
   pub entry-matched : (e : Entry) → matched_share p e ≡ matched_by p e
-  entry-matched (entry.Deposit d) = deposit-matched d d.state
-  entry-matched (entry.Payment y) = payment-matched y y.state
-  entry-matched (entry.Fee f) = refl
-  entry-matched (entry.Claim c) = refl
-
-  deposit-early : (d : Deposit) (s : DepositState) → early_share p (entry.Deposit (record d { state = s })) ≡ early_by p (entry.Deposit (record d { state = s }))
-  deposit-early d deposit.Held = refl
-  deposit-early d (deposit.Cleared c) = once (nat_le c.bank_day p && not (nat_le d.book p)) (pos d.amount)
-  deposit-early d (deposit.Returned r) = twice (nat_le r.clearing.bank_day p && not (nat_le d.book p)) (nat_le r.returning.bank_day p && not (nat_le r.undone p)) (pos d.amount)
-  deposit-early d (deposit.Cancelled day) = refl
-
-  payment-early : (y : Payment) (s : PaymentState) → early_share p (entry.Payment (record y { state = s })) ≡ early_by p (entry.Payment (record y { state = s }))
-  payment-early y payment.Proposed = refl
-  payment-early y payment.Declined = refl
-  payment-early y (payment.Issued day) = refl
-  payment-early y (payment.Cleared c) = once (nat_le c.clearing.bank_day p && not (nat_le c.issued p)) (pos 0 -ℤ pos y.amount)
-  payment-early y (payment.Voided v) = refl
+  entry-matched e = grind (arith, ints, nat_tests)
 
   pub entry-early : (e : Entry) → early_share p e ≡ early_by p e
-  entry-early (entry.Deposit d) = deposit-early d d.state
-  entry-early (entry.Payment y) = payment-early y y.state
-  entry-early (entry.Fee f) = refl
-  entry-early (entry.Claim c) = refl
+  entry-early e = grind (arith, ints, nat_tests)
 
 -- Sums in 128 bits.
 

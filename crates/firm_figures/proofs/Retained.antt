@@ -1,5 +1,5 @@
 -- What the sink of closed matters keeps is the retention list.
-use Rattle.firm_figures.proofs.Names.{◌≡◌, ℕ, List, [], ◌∷◌, ◌++◌, sym, ◌∙◌, append_assoc, append-nil, fold, flat_map, Row}
+use Rattle.firm_figures.proofs.Names.{◌≡◌, ℕ, List, [], ◌∷◌, ◌++◌, sym, append_assoc, append-nil, fold, flat_map, Row}
 use Rattle.firm_figures.specs.Retained.{retention_line, Retained, none_retained, with_row_retained, RetentionIsKept}
 
 rows-retained : (s : Retained) (xs : List (ℕ × Row)) → fold with_row_retained s xs ≡ record s { lines = s.lines ++ flat_map (retention_line s.today) xs }

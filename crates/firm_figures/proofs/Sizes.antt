@@ -1,7 +1,5 @@
 -- The figures of lists in memory fit 128 bits.
-use Rattle.firm_figures.proofs.Names.{◌≡◌, ℕ, ◌*◌, ◌≤◌, Bool, true, false, cond, List, [], ◌∷◌, length, Some, sym, ◌∙◌, subst, arith, ℤ, pos, negsuc, ◌+ℤ◌, ◌-ℤ◌, ◌≤ℤ◌, ◌||◌, find, AllByRecursion, option_map, w128, FitsSigned, ints, fits_signed_from_abs, IsAmount, IsBankAmount, Line, Entry, entry_amount, FirmLine, StatementRow, sum_of, IsRowInRange, IsCountable, Row, HeadRow, SeatRow, EntryRow, Firm, entries_in, is_by, booked_on, undone_on, returned_on, banked_on, back_on, is_banked_early, is_back_early, is_in_transit, is_outstanding, is_dated_by, is_counted, own_by, exceptions, is_closing_of, closing_on, transit_share, outstanding_share, ledger_share_by, matched_share, early_share, FiguresFit, FiguresTold, sum-same, sum-filter, all-map}
-use Rattle.matter_rows.specs.declared.entry.Entry.TheVariants as entry
-use Rattle.matter_rows.specs.Clearings.{cleared_amount}
+use Rattle.firm_figures.proofs.Names.{◌≡◌, ℕ, ◌*◌, ◌≤◌, Bool, cond, List, [], ◌∷◌, length, Some, sym, ◌∙◌, subst, arith, ℤ, pos, negsuc, ◌+ℤ◌, ◌-ℤ◌, ◌≤ℤ◌, ◌||◌, find, AllByRecursion, option_map, w128, FitsSigned, ints, fits_signed_from_abs, IsAmount, IsBankAmount, Line, Entry, entry_amount, FirmLine, StatementRow, sum_of, IsRowInRange, IsCountable, Row, Firm, entries_in, is_by, booked_on, undone_on, returned_on, banked_on, back_on, is_banked_early, is_back_early, is_in_transit, is_outstanding, is_dated_by, is_counted, own_by, exceptions, is_closing_of, closing_on, transit_share, outstanding_share, ledger_share_by, matched_share, early_share, FiguresFit, FiguresTold, sum-same, sum-filter, all-map, cleared_amount}
 use Rattle.firm_figures.proofs.DifferenceTold.{ledger_by, matched_by, early_by, transit-shares, outstanding-shares, ledger-shares, matched-shares, early-shares, journal-ledgers}
 use Rattle.firm_figures.proofs.Reconciling.{entry-ledger, entry-matched, entry-early, figures-kept}
 
@@ -47,15 +45,11 @@ both-within a b x y = record { low = omega (arith, ints, x.low, y.high); high = 
 
 fewer : (xs : List (ℕ × Row)) → length (entries_in xs) ≤ length xs
 fewer [] = omega arith
-fewer ((m, HeadRow h) ∷ xs) = let more = fewer xs in omega arith
-fewer ((m, SeatRow s) ∷ xs) = let more = fewer xs in omega arith
-fewer ((m, EntryRow n e) ∷ xs) = let more = fewer xs in omega arith
+fewer (q ∷ xs) = grind (arith, (fewer xs))
 
 amounts : (xs : List (ℕ × Row)) → AllByRecursion IsRowInRange xs → AllByRecursion (λ e. IsAmount (entry_amount e)) (entries_in xs)
 amounts [] all = tt
-amounts ((m, HeadRow h) ∷ xs) all = amounts xs all.1
-amounts ((m, SeatRow s) ∷ xs) all = amounts xs all.1
-amounts ((m, EntryRow n e) ∷ xs) all = (all.0, amounts xs all.1)
+amounts (q ∷ xs) all = grind (arith, (amounts xs all.1))
 
 abbrev pub WHOLE : ℕ
 WHOLE = 18_446_744_073_709_551_615_000_000_000_000_000_000

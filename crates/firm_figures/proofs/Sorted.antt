@@ -175,8 +175,10 @@ module _ {X : Type 0} (lt : X → X → Bool) (o : IsStrictWeakOrder lt) (same :
       others j l n = cases (nat_lt j i) refl
         where
           cases : (b : Bool) → nat_lt j i ≡ b → same (get_or xs i d) (get_or xs j d) ≡ false
-          cases true is = let below : j < i = grind (arith, nat_tests) in back (get_or xs i d) (get_or xs j d) ∙ no-lower xs up i j d h below (low (omega (arith, below)))
-          cases false is = let above : i < j = grind (arith, nat_tests) in no-higher xs up i j d above l (high (omega (arith, above, l)))
+          cases true is = let below : j < i =
+              grind (arith, nat_tests) in back (get_or xs i d) (get_or xs j d) ∙ no-lower xs up i j d h below (low (omega (arith, below)))
+          cases false is = let above : i < j =
+              grind (arith, nat_tests) in no-higher xs up i j d above l (high (omega (arith, above, l)))
 
   pub has-below : (xs : List X) (i : ℕ) (d : X) → 0 < i → i < length xs → same (get_or xs (i - 1) d) (get_or xs i d) ≡ true → 2 ≤ length (filter (same (get_or xs i d)) xs)
   has-below xs i d some h near = count-two (same (get_or xs i d)) xs (i - 1) i d (omega (arith, some)) h (back (get_or xs i d) (get_or xs (i - 1) d) ∙ near) (alike (get_or xs i d))

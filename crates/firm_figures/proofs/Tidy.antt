@@ -1,5 +1,5 @@
 -- Rows in order, one after the other: matters rise, and no head follows a row of its own matter.
-use Rattle.firm_figures.proofs.Names.{◌≡◌, ℕ, ◌+◌, ◌<◌, ◌≤◌, Bool, true, false, cond, List, [], ◌∷◌, ◌++◌, Option, Some, None, refl, sym, ap, ◌∙◌, subst, arith, nat_lt, ◌==◌, filter, AllByRecursion, nat_tests, recursion_from_All, filter_passes, Head, Seat, Entry, Rows, Row, HeadRow, SeatRow, EntryRow, Firm, of, pairs, head_pairs, seat_pairs, entry_pairs, IsInOrder, passing, own-put, all-append}
+use Rattle.firm_figures.proofs.Names.{◌≡◌, ℕ, ◌+◌, ◌<◌, ◌≤◌, Bool, true, false, cond, List, [], ◌∷◌, ◌++◌, refl, sym, ap, ◌∙◌, subst, arith, nat_lt, ◌==◌, filter, AllByRecursion, nat_tests, recursion_from_All, filter_passes, Seat, Entry, Rows, Row, HeadRow, SeatRow, EntryRow, Firm, of, pairs, head_pairs, seat_pairs, entry_pairs, IsInOrder, passing, own-put, all-append}
 
 abbrev pub is_head : Row → Bool
 is_head (HeadRow h) = true

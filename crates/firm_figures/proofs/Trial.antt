@@ -1,8 +1,5 @@
 -- What the trial balance's sink keeps of rows in order.
 use Rattle.firm_figures.proofs.Names.{◌≡◌, ℕ, ◌*◌, ◌<◌, Bool, true, false, cond, List, [], ◌∷◌, ◌++◌, length, map, refl, sym, ap, ◌∙◌, subst, arith, append_assoc, append-nil, ℤ, pos, ◌+ℤ◌, ◌-ℤ◌, ◌==◌, is_none, fold, AllByRecursion, int_wrap, w128, FitsSigned, ints, int_wrap-add_left, int_wrap_fits, nat_tests, map-append, Head, ledger, TrialLine, sum_of, Row, HeadRow, SeatRow, EntryRow, Firm, of, ledger_share, row_share, IsInOrder, balance_of, AreCountable, IsRowInRange, IsFirmLineInRange, FirmLine, IsAmount, DepositState, PaymentState, Entry, entry_amount, cleared_deposit, held_deposit, paid, total_share, held_share, added, all-map, open_matters, trial_lines, add_last, TrialKept, no_trial, with_trial_row, with_trial_own, trial_total, TrialIsKept, TotalIsKept, at, sum-same, of_row, rows-entries, shares-ledger, row-share}
-use Rattle.matter_rows.specs.declared.deposit.DepositState.TheVariants as deposit
-use Rattle.matter_rows.specs.declared.payment.PaymentState.TheVariants as payment
-use Rattle.matter_rows.specs.declared.entry.Entry.TheVariants as entry
 use Rattle.firm_figures.proofs.Sizes.{IsWithin, MOST, CENTS, WHOLE, sum-within, wider, tested, bank-within, amount-within, out-within, none-within, fits, narrow}
 use Rattle.firm_figures.proofs.Lists.{trial-sum}
 use Rattle.firm_figures.proofs.Tidy.{After, Tidy, ordered-tidy}
@@ -54,10 +51,7 @@ told xs = map (λ k. line_of k xs) (open_matters xs)
 -- two ways to tell the lines of greater matters
 open-same : (f g : ℕ → TrialLine) (m : ℕ) (xs : List (ℕ × Row)) → AllByRecursion (After m) xs → ((k : ℕ) → m < k → f k ≡ g k) → map f (open_matters xs) ≡ map g (open_matters xs)
 open-same f g m [] all same = refl
-open-same f g m ((k, HeadRow h) ∷ xs) all same =
-    grind (arith, ints, nat_tests, is_none, (open-same f g m xs all.1 same))
-open-same f g m ((k, SeatRow seat) ∷ xs) all same = open-same f g m xs all.1 same
-open-same f g m ((k, EntryRow n e) ∷ xs) all same = open-same f g m xs all.1 same
+open-same f g m (q ∷ xs) all same = grind (arith, ints, nat_tests, is_none, (open-same f g m xs all.1 same))
 
 no-share : (b : Bool) (z : ℤ) → cond b (pos 0) (pos 0) +ℤ z ≡ z
 no-share b z = grind (arith, ints)
@@ -205,9 +199,7 @@ own-within lines is =
 
 rows-own : (s : TrialKept) (xs : List (ℕ × Row)) → (fold with_trial_row s xs).own ≡ s.own
 rows-own s [] = refl
-rows-own s ((m, HeadRow h) ∷ xs) = rows-own (with_trial_row s (m, HeadRow h)) xs
-rows-own s ((m, SeatRow seat) ∷ xs) = rows-own (with_trial_row s (m, SeatRow seat)) xs
-rows-own s ((m, EntryRow n e) ∷ xs) = rows-own (with_trial_row s (m, EntryRow n e)) xs
+rows-own s (q ∷ xs) = grind (arith, (rows-own (with_trial_row s q) xs))
 
 own-from : (ls : List TrialLine) (z : ℤ) (lines : List FirmLine) → fold with_trial_own (record { lines = ls; own = int_wrap w128 z }) lines ≡ record { lines = ls; own = int_wrap w128 (z +ℤ balance_of lines) }
 unfolding added

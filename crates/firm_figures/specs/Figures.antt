@@ -1,5 +1,5 @@
 -- The firm's figures as of a day: sums over lists of its rows. "By the day" means on or before it.
-use Rattle.std.specs.Prelude.{◌≡◌, ℕ, Bool, true, false, not, ◌&&◌, ◌||◌, nat_le, ◌==◌, codes, List, [], ◌∷◌, map, ℤ, pos, ◌+ℤ◌, ◌-ℤ◌, Option, Some, None, find}
+use Rattle.std.specs.Prelude.{◌≡◌, ℕ, Bool, true, false, not, ◌&&◌, ◌||◌, nat_le, ◌==◌, codes, List, [], ◌∷◌, map, ℤ, pos, ◌+ℤ◌, ◌-ℤ◌, Option, Some, None, find, if◌then◌else◌}
 use Rattle.std.specs.List.{filter, flat_map}
 use Rattle.std.specs.Option.{option_map}
 use Rattle.std.specs.Str.{bytes_eq}
@@ -32,6 +32,15 @@ entries_in joined = entries_among (map (λ p. p.1) joined)
 abbrev pub is_by : ℕ → Option ℕ → Bool
 is_by p None = false
 is_by p (Some day) = nat_le day p
+
+-- a day, if there is one and it is on or before p
+abbrev pub day_by : ℕ → Option ℕ → Option ℕ
+day_by p day = if is_by p day then day else None
+
+-- a day, unless there is another one
+abbrev pub unless : Option ℕ → Option ℕ → Option ℕ
+unless day None = day
+unless day (Some other) = None
 
 abbrev pub issued_on : PaymentState → Option ℕ
 issued_on payment.Proposed = None
@@ -143,6 +152,10 @@ is_in_transit p e = is_deposit e && is_waiting p e
 
 abbrev pub is_outstanding : ℕ → Entry → Bool
 is_outstanding p e = is_payment e && is_waiting p e
+
+-- one of its days, if it passes a test
+abbrev pub day_where : (Entry → Bool) → (Entry → Option ℕ) → Entry → Option ℕ
+day_where test day e = if test e then day e else None
 
 -- a bank line that cleared an entry or took it back: its day at the bank, the day it was booked, and the signed amount
 pub record MatchedLine : Type 0 where

@@ -1,15 +1,14 @@
 // The days of an entry, and the lists that go with the figures as of a day.
 
-ghost use Rattle.std.specs.Prelude.{◌≡◌, ◌&&◌, ◌++◌, ◌<◌, cond, not, pos, ◌+ℤ◌, ◌-ℤ◌, ◌≤ℤ◌, length, slice_index_or, IfOk, OnOk, OnErr};
+ghost use Rattle.std.specs.Prelude.{◌≡◌, ◌++◌, ◌+◌, ◌<◌, ◌≤◌, cond, pos, ◌+ℤ◌, ◌-ℤ◌, ◌≤ℤ◌, Some, is_some, length, slice_index_or, vec_capacity, vec_len, IfOk, OnOk, OnErr};
 ghost use Rattle.std.specs.List.Sorted.{IsSortedBy};
 ghost use Rattle.trust_base.specs.TheConstants.{MAX_AMOUNT};
 ghost use Rattle.matter_rows.specs.Clearings.{cleared_amount};
 ghost use Rattle.firm_rows.specs.Firm.{EntryRow};
 ghost use Rattle.firm_figures.specs.declared.day_lists.Issued.{Issued};
 ghost use Rattle.firm_figures.specs.Doubles.{issued_cmp, is_before_issued, is_double_in, doubles_in, issued_in};
-ghost use Rattle.firm_figures.specs.Figures.{is_by, booked_on, undone_on, returned_on, banked_on, back_on};
-ghost use Rattle.firm_figures.specs.Listing.{entry_line, early_lines, listed, with_waiting};
-ghost use Rattle.firm_figures.specs.Reconciling.{outstanding_share, transit_share};
+ghost use Rattle.firm_figures.specs.Figures.{day_by, day_where, unless, booked_on, undone_on, returned_on, banked_on, back_on, is_in_transit, is_outstanding, is_banked_early, is_back_early};
+ghost use Rattle.firm_figures.specs.Listing.{entry_line};
 ghost use Rattle.firm_figures.specs.Openings.{AreClosings, latest_before, openings_after};
 
 use firm_rows::StatementRow;
@@ -55,7 +54,8 @@ pub struct OpeningLine {
     pub closing: BankAmount,
 }
 
-/// The days of an entry, and the amount of its bank line. A day is missing if that has not happened.
+/// What has happened to an entry by a day, and the amount of its bank line. A day is missing if that has not happened
+/// by then.
 #[derive(Clone, Copy)]
 pub(crate) struct EntryDays {
     /// When its money was booked: a deposit made, a payment issued.
@@ -72,35 +72,47 @@ pub(crate) struct EntryDays {
     pub(crate) amount: i64,
 }
 
-/// What is so of an entry as of a day.
+/// On which lists an entry stands as of a day, and with which of its days.
 #[derive(Clone, Copy)]
 pub(crate) struct Standing {
-    /// It was booked by then, and neither undone nor at the bank.
-    pub(crate) is_waiting: bool,
-    /// It was at the bank by then, but booked only later.
-    pub(crate) is_banked_early: bool,
-    /// It was taken back at the bank by then, but that was booked only later.
-    pub(crate) is_back_early: bool,
+    /// A deposit that is booked, and not at the bank yet: the day it was booked.
+    pub(crate) transit: Option<Day>,
+    /// A payment that is issued, and not at the bank yet: the day of issue.
+    pub(crate) out: Option<Day>,
+    /// What was at the bank before it was booked: the bank's day.
+    pub(crate) early: Option<Day>,
+    /// What was taken back at the bank before that was booked: the bank's day.
+    pub(crate) back: Option<Day>,
 }
 
-/// Whether there is a day, and it is on or before `p`.
-pub(crate) fn is_by(day: Option<Day>, p: Day) -> bool
-    ensures { result ≡ is_by p day }
+// A day, if it is on or before `p`.
+fn day_by(day: Day, p: Day) -> Option<Day>
+    ensures { result ≡ day_by p (Some day) }
 {
-    match day {
-        Some(day) => day.get() <= p.get(),
-        None => false,
+    if day.get() <= p.get() {
+        return Some(day);
+    }
+    None
+}
+
+// A day, unless there is another one.
+fn unless(day: Option<Day>, other: Option<Day>) -> Option<Day>
+    ensures { result ≡ unless day other }
+{
+    match other {
+        Some(_) => None,
+        None => day,
     }
 }
 
 impl EntryDays {
-    /// The days and the amount of this entry.
-    pub(crate) fn of(entry: &Entry) -> EntryDays
-        ensures booked { result.booked ≡ booked_on entry.now }
-        ensures undone { result.undone ≡ undone_on entry.now }
-        ensures returned { result.returned ≡ returned_on entry.now }
-        ensures banked { result.banked ≡ banked_on entry.now }
-        ensures back { result.back ≡ back_on entry.now }
+    /// The days of this entry that are on or before `p`, and its amount.
+    pub(crate) fn by(entry: &Entry, p: Day) -> EntryDays
+        ensures booked { result.booked ≡ day_by p (booked_on entry.now) }
+        ensures undone { result.undone ≡ day_by p (undone_on entry.now) }
+        ensures returned { result.returned ≡ day_by p (returned_on entry.now) }
+        ensures banked { result.banked ≡ day_by p (banked_on entry.now) }
+        ensures back { result.back ≡ day_by p (back_on entry.now) }
         ensures amount { result.amount ≡ cleared_amount entry.now }
         ensures low { pos 0 ≤ℤ (result.amount +ℤ pos MAX_AMOUNT) }
     {
@@ -114,16 +126,16 @@ impl EntryDays {
         };
         match entry {
             Entry::Deposit(deposit) => {
-                days.booked = Some(deposit.book);
+                days.booked = day_by(deposit.book, p);
                 days.amount = deposit.amount.get() as i64;
                 match &deposit.state {
                     DepositState::Held => {}
-                    DepositState::Cleared(clearing) => days.banked = Some(clearing.bank_day),
-                    DepositState::Cancelled(day) => days.undone = Some(*day),
+                    DepositState::Cleared(clearing) => days.banked = day_by(clearing.bank_day, p),
+                    DepositState::Cancelled(day) => days.undone = day_by(*day, p),
                     DepositState::Returned(returned) => {
-                        days.banked = Some(returned.clearing.bank_day);
-                        days.back = Some(returned.returning.bank_day);
-                        days.returned = Some(returned.undone);
+                        days.banked = day_by(returned.clearing.bank_day, p);
+                        days.back = day_by(returned.returning.bank_day, p);
+                        days.returned = day_by(returned.undone, p);
                     }
                 }
             }
@@ -131,14 +143,14 @@ impl EntryDays {
                 days.amount = -(payment.amount.get() as i64);
                 match &payment.state {
                     PaymentState::Proposed | PaymentState::Declined => {}
-                    PaymentState::Issued(day) => days.booked = Some(*day),
+                    PaymentState::Issued(day) => days.booked = day_by(*day, p),
                     PaymentState::Cleared(paid) => {
-                        days.booked = Some(paid.issued);
-                        days.banked = Some(paid.clearing.bank_day);
+                        days.booked = day_by(paid.issued, p);
+                        days.banked = day_by(paid.clearing.bank_day, p);
                     }
                     PaymentState::Voided(voided) => {
-                        days.booked = Some(voided.issued);
-                        days.undone = Some(voided.undone);
+                        days.booked = day_by(voided.issued, p);
+                        days.undone = day_by(voided.undone, p);
                     }
                 }
             }
@@ -147,126 +159,65 @@ impl EntryDays {
         days
     }
 
-    /// What is so of it as of the day.
-    pub(crate) fn standing(&self, p: Day) -> Standing
-        ensures waiting { result.is_waiting
-            ≡ (is_by p self.now.booked && (not (is_by p self.now.undone) && not (is_by p self.now.banked))) }
-        ensures banked { result.is_banked_early ≡ (is_by p self.now.banked && not (is_by p self.now.booked)) }
-        ensures back { result.is_back_early ≡ (is_by p self.now.back && not (is_by p self.now.returned)) }
-    {
-        let is_booked = is_by(self.booked, p);
-        let is_banked = is_by(self.banked, p);
-        Standing {
-            is_waiting: is_booked && !is_by(self.undone, p) && !is_banked,
-            is_banked_early: is_banked && !is_booked,
-            is_back_early: is_by(self.back, p) && !is_by(self.returned, p),
-        }
-    }
-
-    /// That amount if it has come, less that amount if it has gone again.
-    pub(crate) fn amount_left(&self, has_come: bool, has_gone: bool) -> i128
-        ensures { result ≡ (cond has_come self.now.amount (pos 0) -ℤ cond has_gone self.now.amount (pos 0)) }
+    /// Its amount if it has come, less its amount if it has gone again.
+    pub(crate) fn amount_left(&self, come: Option<Day>, gone: Option<Day>) -> i128
+        ensures { result
+            ≡ (cond (is_some come) self.now.amount (pos 0) -ℤ cond (is_some gone) self.now.amount (pos 0)) }
     {
         let amount = self.amount as i128;
-        match (has_come, has_gone) {
-            (true, false) => amount,
-            (false, true) => -amount,
+        match (come, gone) {
+            (Some(_), None) => amount,
+            (None, Some(_)) => -amount,
             _ => 0,
         }
     }
 }
 
-// Appends an entry with this day, if there is one.
-fn push_line(
+impl Standing {
+    /// On which lists this entry stands as of the day `p`.
+    pub(crate) fn of(entry: &Entry, p: Day) -> Standing
+        ensures transit { result.transit ≡ day_where (is_in_transit p) booked_on entry.now }
+        ensures out { result.out ≡ day_where (is_outstanding p) booked_on entry.now }
+        ensures early { result.early ≡ day_where (is_banked_early p) banked_on entry.now }
+        ensures back { result.back ≡ day_where (is_back_early p) back_on entry.now }
+    {
+        let days = &EntryDays::by(entry, p);
+        let waiting = unless(unless(days.booked, days.undone), days.banked);
+        let mut standing = Standing {
+            transit: None,
+            out: None,
+            early: unless(days.banked, days.booked),
+            back: unless(days.back, days.returned),
+        };
+        match entry {
+            Entry::Deposit(_) => standing.transit = waiting,
+            Entry::Payment(_) => standing.out = waiting,
+            Entry::Fee(_) | Entry::Claim(_) => {}
+        }
+        standing
+    }
+}
+
+/// Appends an entry with this day, if there is one. There is room for it.
+pub(crate) fn push_line(
     lines: &mut Vec<EntryLine>,
     matter: MatterNo,
     entry: EntryNo,
     day: Option<Day>,
     amount: i64,
-) -> Result<(), AllocError>
-    ensures ok { OnOk result (lines.new.items ≡ lines.old.items ++ entry_line matter entry day amount) }
-    ensures err { OnErr result (lines.new.items ≡ lines.old.items) }
+)
+    requires { vec_len lines.old < vec_capacity lines.old }
+    ensures items { lines.new.items ≡ lines.old.items ++ entry_line matter entry day amount }
+    ensures len { vec_len lines.new ≤ vec_len lines.old + 1 }
+    ensures capacity { vec_capacity lines.new ≡ vec_capacity lines.old }
 {
     if let Some(day) = day {
-        lines.push(EntryLine {
+        lines.push_reserved(EntryLine {
             matter,
             entry,
             day,
             amount,
-        })?;
-    }
-    Ok(())
-}
-
-/// Appends the lines that cleared an entry and took it back, if they were at the bank before they were booked. If memory
-/// runs out, the list is unchanged.
-pub(crate) fn push_early(
-    lines: &mut Vec<EntryLine>,
-    p: Day,
-    matter: MatterNo,
-    number: EntryNo,
-    entry: &Entry,
-) -> Result<(), AllocError>
-    ensures ok { OnOk result (lines.new.items ≡ lines.old.items ++ early_lines p (matter, EntryRow number entry.now)) }
-    ensures err { OnErr result (lines.new.items ≡ lines.old.items) }
-{
-    let days = EntryDays::of(entry);
-    let standing = days.standing(p);
-    let banked = if standing.is_banked_early {
-        days.banked
-    } else {
-        None
-    };
-    let back = if standing.is_back_early {
-        days.back
-    } else {
-        None
-    };
-    let kept = lines.len();
-    push_line(lines, matter, number, banked, days.amount)?;
-    if let Err(error) = push_line(lines, matter, number, back, -days.amount) {
-        lines.truncate(kept);
-        return Err(error);
-    }
-    Ok(())
-}
-
-/// Appends an entry to the deposits in transit or the outstanding payments, if it is one of these. If memory runs out,
-/// both lists are unchanged.
-pub(crate) fn push_waiting(
-    lists: &mut ReconciliationLists,
-    p: Day,
-    matter: MatterNo,
-    number: EntryNo,
-    entry: &Entry,
-) -> Result<(), AllocError>
-    ensures ok { let after = with_waiting (listed p lists.old) (matter, EntryRow number entry.now) in
-        OnOk result (listed p lists.new ≡ after) }
-    ensures err { OnErr result (listed p lists.new ≡ listed p lists.old) }
-{
-    let days = EntryDays::of(entry);
-    let waits = days.standing(p).is_waiting;
-    match entry {
-        Entry::Deposit(_) if waits => {
-            push_line(&mut lists.transit, matter, number, days.booked, days.amount)
-        }
-        Entry::Payment(_) if waits => {
-            push_line(&mut lists.out, matter, number, days.booked, days.amount)
-        }
-        _ => Ok(()),
-    }
-}
-
-/// What the entry adds to the deposits in transit, and to the outstanding payments.
-pub(crate) fn waiting_amounts(entry: &Entry, p: Day) -> (i128, i128)
-    ensures transit { result.0 ≡ transit_share p entry.now }
-    ensures outstanding { result.1 ≡ outstanding_share p entry.now }
-{
-    let waits = EntryDays::of(entry).standing(p).is_waiting;
-    match entry {
-        Entry::Deposit(deposit) if waits => (deposit.amount.get() as i128, 0),
-        Entry::Payment(payment) if waits => (0, payment.amount.get() as i128),
-        _ => (0, 0),
+        });
     }
 }
 
@@ -281,9 +232,8 @@ pub(crate) fn push_issued(
     ensures ok { OnOk result (issued.new.items ≡ issued.old.items ++ issued_in p (matter, EntryRow number entry.now)) }
     ensures err { OnErr result (issued.new.items ≡ issued.old.items) }
 {
-    let days = EntryDays::of(entry);
-    let is_issued = is_by(days.booked, p) && !is_by(days.undone, p);
-    let (Entry::Payment(payment), Some(day), true) = (entry, days.booked, is_issued) else {
+    let days = EntryDays::by(entry, p);
+    let (Entry::Payment(payment), Some(day), None) = (entry, days.booked, days.undone) else {
         return Ok(());
     };
     let instrument = payment.instrument.copied()?;

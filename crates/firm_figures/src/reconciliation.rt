@@ -10,8 +10,8 @@ ghost use Rattle.firm_figures.specs.Reconciling.{with_entry_told};
 ghost use Rattle.firm_figures.specs.Reconciliations.{ReconciliationKept, nothing_kept, with_row_kept, with_movement_kept, with_own_kept, with_exception_kept, with_balance_noted, kept_told, told};
 
 use crate::day_lists::{
-    EntryDays, Issued, OpeningLine, ReconciliationLists, doubles_of, is_by, openings_after,
-    push_early, push_issued, push_waiting, waiting_amounts,
+    EntryDays, Issued, OpeningLine, ReconciliationLists, Standing, doubles_of, openings_after,
+    push_issued, push_line,
 };
 use crate::figures::{Figures, Sums, added, less, together};
 use firm_rows::{
@@ -105,7 +105,8 @@ impl ReconciliationSink {
         }
     }
 
-    // Adds an entry to the payments and to the lists. If memory runs out, to neither.
+    // Puts an entry on the lists on which it stands, and among the issued payments if it is one. If memory runs out,
+    // it is put nowhere.
     fn list_entry(
         &mut self,
         matter: MatterNo,
@@ -116,18 +117,34 @@ impl ReconciliationSink {
             OnOk result (self.new ≡ record after { figures = self.old.figures }) }
         ensures err { OnErr result (self.new ≡ self.old) }
     {
-        let issued = self.issued.len();
-        let early = self.lists.early.len();
+        let standing = Standing::of(entry, self.day);
+        let amount = EntryDays::by(entry, self.day).amount;
+        self.lists.transit.reserve(1)?;
+        self.lists.out.reserve(1)?;
+        self.lists.early.reserve(2)?;
         push_issued(&mut self.issued, self.day, matter, number, entry)?;
-        if let Err(error) = push_early(&mut self.lists.early, self.day, matter, number, entry) {
-            self.issued.truncate(issued);
-            return Err(error);
-        }
-        if let Err(error) = push_waiting(&mut self.lists, self.day, matter, number, entry) {
-            self.issued.truncate(issued);
-            self.lists.early.truncate(early);
-            return Err(error);
-        }
+        push_line(
+            &mut self.lists.transit,
+            matter,
+            number,
+            standing.transit,
+            amount,
+        );
+        push_line(&mut self.lists.out, matter, number, standing.out, amount);
+        push_line(
+            &mut self.lists.early,
+            matter,
+            number,
+            standing.early,
+            amount,
+        );
+        push_line(
+            &mut self.lists.early,
+            matter,
+            number,
+            standing.back,
+            -amount,
+        );
         Ok(())
     }
 
@@ -135,14 +152,14 @@ impl ReconciliationSink {
     fn add_entry(&mut self, entry: &Entry)
         ensures { self.new ≡ record self.old { figures = with_entry_told self.old.figures entry.now } }
     {
-        let p = self.day;
-        let days = EntryDays::of(entry);
-        let standing = days.standing(p);
-        let (transit, outstanding) = waiting_amounts(entry, p);
-        let is_taken_back = is_by(days.undone, p) || is_by(days.returned, p);
-        let entries = days.amount_left(is_by(days.booked, p), is_taken_back);
-        let matched = days.amount_left(is_by(days.banked, p), is_by(days.back, p));
-        let early = days.amount_left(standing.is_banked_early, standing.is_back_early);
+        let days = EntryDays::by(entry, self.day);
+        let standing = Standing::of(entry, self.day);
+        let gone = days.undone.or(days.returned);
+        let transit = days.amount_left(standing.transit, None);
+        let outstanding = days.amount_left(None, standing.out);
+        let entries = days.amount_left(days.booked, gone);
+        let matched = days.amount_left(days.banked, days.back);
+        let early = days.amount_left(standing.early, standing.back);
         self.sums.transit = together(self.sums.transit, transit);
         self.sums.outstanding = together(self.sums.outstanding, outstanding);
         self.sums.entries = together(self.sums.entries, entries);

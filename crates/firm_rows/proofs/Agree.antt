@@ -1,5 +1,5 @@
 -- What the movements say and what the entries and the firm's own lines say agree, share by share.
-use Rattle.firm_rows.proofs.Names.{◌≡◌, ℕ, ◌+◌, ◌-◌, Bool, true, false, cond, List, [], ◌∷◌, map, Option, Some, None, refl, sym, ap, ◌∙◌, arith, ℤ, pos, ◌+ℤ◌, ◌==◌, ◌&&◌, filter, ints, nat_tests, Entry, entry_at, Event, events_of, events_in, Movement, Owner, FirmLine, sum_of, is_of_matter, Row, HeadRow, SeatRow, EntryRow, Firm, of, among, rows_of, entries_among, event_of, line_event, is_of_entry, is_of_firm, events_moved, firm_events, FirmSound}
+use Rattle.firm_rows.proofs.Names.{◌≡◌, ℕ, ◌+◌, ◌-◌, Bool, false, cond, List, [], ◌∷◌, map, Option, Some, None, refl, sym, ap, ◌∙◌, arith, ℤ, pos, ◌+ℤ◌, ◌==◌, ◌&&◌, filter, ints, nat_tests, Entry, entry_at, Event, events_of, events_in, Movement, Owner, FirmLine, sum_of, is_of_matter, Row, HeadRow, SeatRow, EntryRow, Firm, of, among, rows_of, entries_among, event_of, line_event, is_of_entry, is_of_firm, events_moved, firm_events, FirmSound}
 use Rattle.firm_rows.specs.declared.movement.Owner.TheVariants as owner
 use Rattle.firm_rows.proofs.Sums.{at, sum-agree}
 
@@ -99,10 +99,7 @@ module _ (h : Event → ℤ) where
   pub matter-at : (m : ℕ) (vs : List Movement) → sum_of (at (λ v. matter_of v.owner) of_matters m) vs ≡ sum_of (of_matter m) vs
   unfolding matter_of
   matter-at m [] = refl
-  matter-at m (v ∷ vs) = omega (arith, ints, matter-at m vs, one v.owner)
-    where
-      one : (o : Owner) → cond (matter_of o == m) (cond (is_of_firm o) (pos 0) (share v)) (pos 0) ≡ cond (is_of_matter m o) (share v) (pos 0)
-      one o = grind (arith)
+  matter-at m (v ∷ vs) = grind (arith, ints, nat_tests, matter_of, is_of_firm, share, is_of_matter, (matter-at m vs))
 
   entry-at : (m n : ℕ) (vs : List Movement) → sum_of (at (λ v. entry_of v.owner) (of_matter m) n) vs ≡ sum_of h (events_moved m n vs)
   unfolding entry_of
@@ -132,5 +129,4 @@ module _ (h : Event → ℤ) where
   pub agree : (firm : Firm) → FirmSound firm → sum_of (λ v. h (event_of v)) firm.movements ≡ sum_of (λ p. of_row events_share p.1) firm.rows +ℤ sum_of (λ l. h (line_event l)) firm.firm_lines
   agree firm sound =
       let matters = sum-agree (λ v. matter_of v.owner) of_matters firm.movements (λ p. p.0) (λ p. of_row events_share p.1) firm.rows (λ m. matter-at m firm.movements ∙ (matter-agrees m firm.movements (of m firm).entries (sound.events m) ∙ sym (rows-entries events_share m firm.rows))) in
-      let own = own-part firm.movements ∙ (ap (sum_of h) sound.own ∙ own-lines firm.firm_lines) in
-      omega (arith, ints, split firm.movements, matters, own)
+      grind (arith, ints, nat_tests, own-part, sum_of, own-lines, split)

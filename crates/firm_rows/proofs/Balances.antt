@@ -1,5 +1,5 @@
 -- The balances stay in order.
-use Rattle.firm_rows.proofs.Names.{◌≡◌, ◌≢◌, ℕ, zero, suc, ◌<◌, Bool, true, false, cond, List, [], ◌∷◌, length, get_or, Some, None, refl, sym, ◌∙◌, arith, IsStrictlySortedBy, IsTotalOrder, Ordering, ◌==◌, find, option_map, Less, Equal, Greater, nat_cmp, ordering_then, false≢true, nat_tests, on_total, then_total, nat_cmp_total, StatementRow, place_of, balance_cmp, with_balance, is_balance_on, kept_balance}
+use Rattle.firm_rows.proofs.Names.{◌≡◌, ◌≢◌, ℕ, zero, suc, ◌<◌, true, List, [], ◌∷◌, length, get_or, None, arith, IsStrictlySortedBy, IsTotalOrder, Ordering, Equal, nat_cmp, ordering_then, nat_tests, on_total, then_total, nat_cmp_total, StatementRow, place_of, balance_cmp, with_balance, is_balance_on, kept_balance}
 use Rattle.std.proofs.lemmas.Map.Lookups.{exact_unsigned}
 use Rattle.firm_rows.proofs.Ordered.{with-sorted}
 

@@ -1,5 +1,5 @@
 -- A change of a matter changes the rows of that matter alone.
-use Rattle.firm_rows.proofs.Names.{◌≡◌, ◌≢◌, ℕ, ◌⊎◌, inl, inr, ⊎_elim, refl, sym, ap, ◌∙◌, subst, ◌++◌, List, append-nil, cases_eq, Edit, Rows, MatterChange, changed, changed_by, Movement, Firm, of, among, rewritten_by, cleared_by, moved_by, moved_without, kept_movements, put, after_edit, after_change}
+use Rattle.firm_rows.proofs.Names.{◌≡◌, ◌≢◌, ℕ, ◌⊎◌, inl, inr, ⊎_elim, refl, sym, ap, ◌∙◌, subst, ◌++◌, List, append-nil, cases_eq, Edit, Rows, MatterChange, changed, changed_by, Movement, Firm, of, among, rewritten_by, cleared_by, moved_by, moved_without, kept_movements, put, after_edit, after_change, arith, ints, nat_tests}
 use Rattle.trust_matter.specs.edit.Edit.TheVariants as edit
 use Rattle.firm_rows.proofs.Joined.{rows_of-put_same, rows_of-put_other}
 
@@ -45,12 +45,8 @@ of_other-cleared_by n m rows firm apart = ap among (rows_of-put_other n m rows f
 
 -- an edit makes of the matter's rows what it says, and leaves those of each other
 pub of-after_edit : (m : ℕ) (e : Edit) (last : ℕ) (firm : Firm) → of m (after_edit m e last firm) ≡ changed_by e last (of m firm)
-of-after_edit m e last firm = cases (edit-cases m e last firm)
-  where
-    cases : EditCases m e last firm → of m (after_edit m e last firm) ≡ changed_by e last (of m firm)
-    cases (inl same) = ap (of m) same.1 ∙ sym (ap (λ x. changed_by x last (of m firm)) same.0)
-    cases (inr (inl is)) = ap (of m) is.0 ∙ of-rewritten_by m e last firm
-    cases (inr (inr is)) = ap (of m) is.after ∙ of-cleared_by m (changed_by e last (of m firm)) firm
+of-after_edit m e last firm =
+    grind (arith, ints, nat_tests, edit-cases, of, after_edit, changed_by, of-rewritten_by, of-cleared_by)
 
 pub of_other-after_edit : (n m : ℕ) (e : Edit) (last : ℕ) (firm : Firm) → n ≢ m → of n (after_edit m e last firm) ≡ of n firm
 of_other-after_edit n m e last firm apart = cases (edit-cases m e last firm)

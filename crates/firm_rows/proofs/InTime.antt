@@ -1,5 +1,5 @@
 -- The movements of a matter follow one another in time, also after a change.
-use Rattle.firm_rows.proofs.Names.{◌≡◌, ◌≢◌, ℕ, ◌≤◌, true, false, List, [], ◌∷◌, ◌++◌, map, Option, Some, None, refl, sym, ap, ◌∙◌, subst, arith, append-nil, ◌==◌, AllByRecursion, nat_tests, map-append, filter-append, AreRising, IsMovedWithin, Movement, is_of_matter, joined_movement, days_moved}
+use Rattle.firm_rows.proofs.Names.{◌≡◌, ◌≢◌, ℕ, ◌≤◌, true, List, [], ◌∷◌, ◌++◌, map, Option, Some, refl, ap, ◌∙◌, arith, append-nil, ◌==◌, AllByRecursion, nat_tests, map-append, filter-append, AreRising, IsMovedWithin, Movement, is_of_matter, joined_movement, days_moved}
 use Rattle.trust_matter.specs.movement.EntryMovement as change
 use Rattle.trust_matter.proofs.Days.{up-to}
 

@@ -1,5 +1,5 @@
 -- The joined rows: what a filter by the matter keeps, and what is put there.
-use Rattle.firm_rows.proofs.Names.{◌≡◌, ◌≢◌, ℕ, ◌+◌, ◌<◌, ◌≤◌, Bool, true, false, List, [], ◌∷◌, ◌++◌, Option, Some, None, cond, map, refl, ap, ◌∙◌, arith, append-nil, ◌⊎◌, inl, inr, nat_lt, ◌==◌, cases_lt, nat_tests, filter-append, Rows, Entry, Row, SeatRow, EntryRow, pairs, head_pairs, seat_pairs, entry_pairs, put, rows_of, among, AllByRecursion}
+use Rattle.firm_rows.proofs.Names.{◌≡◌, ◌≢◌, ℕ, ◌+◌, ◌<◌, ◌≤◌, Bool, true, false, List, [], ◌∷◌, ◌++◌, Option, Some, None, map, refl, ap, ◌∙◌, arith, append-nil, ◌⊎◌, inl, inr, nat_lt, ◌==◌, cases_lt, nat_tests, filter-append, Rows, Entry, Row, pairs, head_pairs, seat_pairs, entry_pairs, put, rows_of, among, AllByRecursion}
 use Rattle.std.specs.Prelude.{filter}
 use Rattle.firm_rows.proofs.Ordered.{all-append, all-map, filter-all, filter-none}
 use Rattle.trust_matter.specs.head.Head.{Head}

@@ -1,5 +1,5 @@
 -- A line of the bank, the firm's rows and its exceptions.
-use Rattle.firm_rows.proofs.Names.{List, Line, StatementRow, Firm, after_match, after_stray, FirmSound, IsInOrder}
+use Rattle.firm_rows.proofs.Names.{List, Line, StatementRow, Firm, after_match, after_stray, FirmSound, IsInOrder, arith, ints, nat_tests}
 use Rattle.trust_base.specs.LineOrder.{line_cmp}
 use Rattle.trust_base.proofs.LineFacts.{line_total, line_same}
 use Rattle.firm_rows.specs.Exceptions.{WithLineAdds, WithoutLineTakes, WithLineAgain}
@@ -29,16 +29,7 @@ stray-stays-in_order line firm order = record { rows = order.rows; exceptions = 
 -- exceptions and balances are no matter's rows, and move nothing
 pub with-others : (firm : Firm) (lines : List Line) (balances : List StatementRow) → FirmSound firm
     → IsInOrder (record firm { exceptions = lines; balances = balances }) → FirmSound (record firm { exceptions = lines; balances = balances })
-with-others firm lines balances sound order = record {
-  in_order = order;
-  matters = sound.matters;
-  events = sound.events;
-  own = sound.own;
-  in_time = λ m. record { rising = (sound.in_time m).rising; by_last = (sound.in_time m).by_last };
-  ledgers = sound.ledgers;
-  covered = sound.covered;
-  within = sound.within;
-}
+with-others firm lines balances sound order = grind (arith, ints, nat_tests)
 
 pub match-sound : (line : Line) (firm : Firm) → FirmSound firm → FirmSound (after_match line firm)
 match-sound line firm sound = with-others firm _ firm.balances sound (match-in_order line firm sound.in_order)

@@ -1,5 +1,5 @@
 -- What is kept of the firm's own lines and of the balances stays kept.
-use Rattle.firm_rows.proofs.Names.{◌≡◌, ℕ, Bool, true, false, cond, List, [], ◌∷◌, Option, Some, None, refl, sym, ap, ◌∙◌, ℤ, find, ◌||◌, ◌&&◌, ◌==◌, list_any, option_map, option_or, Ordering, Less, Equal, Greater, is_lt, nat_cmp, ordering_reverse, ordering_then, false≢true, arith, nat_tests, Decides-eqb, Decides-int_eq, tied_back, tied_itself, Line, Edit, StatementRow, is_kept_as, as_firm_line, place_of, balance_cmp, balance_row, is_balance_on, kept_balance, with_balance, Firm, after_edit, after_change, OfMatter, Repeated, Unmatched, OfFirm, OfBalance, matched_by}
+use Rattle.firm_rows.proofs.Names.{◌≡◌, ℕ, Bool, true, false, cond, List, [], ◌∷◌, Option, Some, None, refl, sym, ap, ◌∙◌, ℤ, find, list_any, option_map, option_or, Ordering, Less, Equal, Greater, is_lt, nat_cmp, ordering_reverse, ordering_then, false≢true, arith, nat_tests, Decides-eqb, Decides-int_eq, tied_back, tied_itself, Line, Edit, StatementRow, is_kept_as, as_firm_line, place_of, balance_cmp, balance_row, is_balance_on, kept_balance, with_balance, Firm, after_edit, after_change, matched_by, ints}
 use Rattle.std.proofs.Common.{filter}
 use Rattle.std.proofs.Math.Bool.{or-true}
 use Rattle.std.proofs.lemmas.List.Folds.{find-append, list_any-append}
@@ -59,8 +59,7 @@ put-found row rows =
     let behind = filter (λ r. is_lt (balance_cmp row r)) rows in
     let none : find p before ≡ None =
     find-filter p (λ r. is_lt (balance_cmp r row)) false (λ x on. ap is_lt (alike row.kind row.day x row row on (on-itself row) ∙ tied_itself balance_total row)) rows in
-    let here : find p (row ∷ behind) ≡ Some row = rw (on-itself row) refl in
-    ap (option_map (λ (r : StatementRow). r.amount)) (find-append p before (row ∷ behind) ∙ (ap (λ o. option_or o (find p (row ∷ behind))) none ∙ here))
+    grind (arith, ints, nat_tests, find, on-itself, option_map, find-append, option_or)
 
 -- what is kept is found where another is put in
 module _ (kind : BalanceKind) (day : ℕ) (amount : ℤ) (row : StatementRow) (rows : List StatementRow) (off : is_balance_on kind day row ≡ false) where
@@ -104,10 +103,5 @@ is-other : (kind : BalanceKind) (day : ℕ) (amount : ℤ) (row : StatementRow) 
 is-other kind day amount row rows none kept = grind (arith, nat_tests, on-parts, option_map)
 
 pub balances-stay : BalancesStay
-balances-stay kind day amount (OfMatter m l change) firm fits kept =
-    ap (kept_balance kind day) ((matched-leaves l (after_change m change firm)).1 ∙ (edit-leaves m change.edit change.last firm).1) ∙ kept
-balances-stay kind day amount (Repeated l) firm fits kept = kept
-balances-stay kind day amount (Unmatched l) firm fits kept = kept
-balances-stay kind day amount (OfFirm l) firm fits kept = kept
-balances-stay kind day amount (OfBalance k l) firm fits kept =
-    stays-found kind day amount (balance_row k l) firm.balances (is-other kind day amount (balance_row k l) firm.balances fits kept) kept
+balances-stay kind day amount x3 firm fits kept =
+    grind (arith, ints, nat_tests, matched-leaves, edit-leaves, stays-found, is-other)

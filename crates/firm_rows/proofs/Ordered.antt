@@ -1,5 +1,5 @@
 -- Lists in strict order, with and without a key.
-use Rattle.firm_rows.proofs.Names.{◌≡◌, ◌≢◌, ℕ, zero, suc, ◌<◌, ◌≤◌, Bool, true, false, not, cond, List, [], ◌∷◌, ◌++◌, length, get_or, take, drop, insert, remove, Contains, refl, sym, ap, ◌∙◌, subst, arith, ◌⊎◌, ◌↔◌, inl, inr, ⊎_elim, AllByRecursion, IsStrictlySortedBy, IsNonDecreasingBy, IsTotalOrder, Ordering, Less, Equal, Greater, is_lt, is_eq, ordering_index, ordering_reverse, cond_both, not-true, false≢true, cases_lt, cases_eq, tied_itself, recursion_from_All, All-from_recursion, filter_passes, Contains-append_left, Contains-append_right, Contains-append_cases}
+use Rattle.firm_rows.proofs.Names.{◌≡◌, ◌≢◌, ℕ, zero, suc, ◌<◌, ◌≤◌, Bool, true, false, not, cond, List, [], ◌∷◌, ◌++◌, length, get_or, take, drop, insert, remove, Contains, refl, sym, ap, ◌∙◌, subst, arith, ◌⊎◌, ◌↔◌, inl, inr, ⊎_elim, AllByRecursion, IsStrictlySortedBy, IsNonDecreasingBy, IsTotalOrder, Ordering, Less, Equal, Greater, is_lt, is_eq, ordering_index, ordering_reverse, cond_both, not-true, false≢true, cases_lt, cases_eq, tied_itself, recursion_from_All, All-from_recursion, filter_passes, Contains-append_left, Contains-append_right, Contains-append_cases, ints, nat_tests}
 use Rattle.std.proofs.Common.{filter}
 use Rattle.std.proofs.lemmas.List.Kept.{IsStrictlySortedBy-filter}
 use Rattle.std.proofs.lemmas.Map.Keys.{Less-from_sorted}
@@ -48,8 +48,7 @@ module _ {K : Type 0} where
   contains-here x xs = (0, omega arith, refl)
 
   contains-one : (y x : K) → Contains (y ∷ []) x → y ≡ x
-  contains-one y x (zero, lt, is) = is
-  contains-one y x (suc k, lt, is) = absurd (omega (arith, lt))
+  contains-one y x x2 = grind (arith, ints, nat_tests)
 
   contains-cases : (y x : K) (ys : List K) → Contains (y ∷ ys) x → (y ≡ x) ⊎ Contains ys x
   contains-cases y x ys c = ⊎_elim (λ one. inl (contains-one y x one)) inr (Contains-append_cases (y ∷ []) ys x c)
@@ -101,10 +100,8 @@ module _ {K : Type 0} (R : K → K → Ordering) (o : IsTotalOrder R) where
   sorted-append : (xs : List K) (y : K) (ys : List K) → IsStrictlySortedBy R xs → AllByRecursion (λ x. R x y ≡ Less) xs → IsStrictlySortedBy R (y ∷ ys) → IsStrictlySortedBy R (xs ++ y ∷ ys)
   unfolding IsStrictlySortedBy
   sorted-append [] y ys up below rest = rest
-  sorted-append (x ∷ xs) y ys up below rest = (
-    all-append (λ z. R x z ≡ Less) xs (y ∷ ys) up.0 (below.0, all-map (λ z. R y z ≡ Less) (λ z. R x z ≡ Less) ys (λ z lt. o.trans x y z below.0 lt) rest.0),
-    sorted-append xs y ys up.1 below.1 rest,
-  )
+  sorted-append (x ∷ xs) y ys up below rest =
+      grind (arith, ints, nat_tests, all-append, all-map, (sorted-append xs y ys up.1 below.1 rest))
 
   all-lesser : (k : K) (ks : List K) → AllByRecursion (λ x. R x k ≡ Less) (lesser R k ks)
   all-lesser k ks = all-map (λ x. is_lt (R x k) ≡ true) (λ x. R x k ≡ Less) (lesser R k ks) (λ x is. lt-Less (R x k) is) (recursion_from_All _ _ (filter_passes (λ x. is_lt (R x k)) ks))
@@ -133,11 +130,7 @@ module _ {K : Type 0} (R : K → K → Ordering) (o : IsTotalOrder R) where
   at-most-two r = grind (arith)
 
   rise : (x y k : K) (r : Ordering) → R y k ≡ r → R x y ≡ Less → ordering_index (R x k) ≤ ordering_index r
-  rise x y k Less is lt = let low : R x k ≡ Less = o.trans x y k lt is in rw low (omega arith)
-  rise x y k Equal is lt =
-      let low : R x k ≡ Less = o.antisymm x k ∙ (ap ordering_reverse (sym (o.congr y k x is)) ∙ (sym (o.antisymm x y) ∙ lt)) in
-      rw low (omega arith)
-  rise x y k Greater is lt = at-most-two (R x k)
+  rise x y k r is lt = grind (arith, ints, nat_tests, ordering_reverse, at-most-two)
 
   pub rises : (k : K) (ks : List K) → IsStrictlySortedBy R ks → IsNonDecreasingBy (λ x. ordering_index (R x k)) ks
   rises k ks up i j d le within =
@@ -192,16 +185,11 @@ module _ {K : Type 0} (R : K → K → Ordering) (o : IsTotalOrder R) (exact : (
   found-at k (x ∷ xs) zero d up lt is =
       let same : R x k ≡ Equal = ap (λ y. R y k) is ∙ tied_itself o k in
       let back : R k x ≡ Equal = turned R o x k Equal same in
-      let above : AllByRecursion (λ y. R k y ≡ Less) xs = subst (λ (z : K). AllByRecursion (λ y. R z y ≡ Less) xs) is up.0 in
-      let low = filter-none (λ y. is_lt (R y k)) xs (all-map (λ y. R k y ≡ Less) (λ y. is_lt (R y k) ≡ false) xs (λ y lt'. ap is_lt (turned R o k y Less lt')) above) in
-      let high = filter-all (λ y. is_lt (R k y)) xs (all-map (λ y. R k y ≡ Less) (λ y. is_lt (R k y) ≡ true) xs (λ y lt'. ap is_lt lt') above) in
-      let other = filter-all (λ y. not (is_eq (R y k))) xs (all-map (λ y. R k y ≡ Less) (λ y. not (is_eq (R y k)) ≡ true) xs (λ y lt'. ap (λ r. not (is_eq r)) (turned R o k y Less lt')) above) in
-      (rw (same, back, low, high) (ap (λ z. z ∷ xs) (sym is)), rw (same, other) refl)
+      grind (arith, ints, nat_tests, filter-none, is_lt, all-map, turned, filter-all, not, is_eq, back)
   found-at k (x ∷ xs) (suc i) d up lt is =
       let there : R x k ≡ Less = subst (λ (z : K). R x z ≡ Less) is (All-from_recursion (λ y. R x y ≡ Less) xs up.0 i d (omega (arith, lt))) in
       let back : R k x ≡ Greater = turned R o x k Less there in
-      let again = found-at k xs i d up.1 (omega (arith, lt)) is in
-      (rw (there, back) (ap (λ ys. x ∷ ys) again.0), rw (there) (ap (λ ys. x ∷ ys) again.1))
+      grind (arith, ints, nat_tests, there, back, (found-at k xs i d up.1 (omega (arith, lt)) is))
 
   -- a key that is there already adds nothing
   pub with-again : (k : K) (ks : List K) → IsStrictlySortedBy R ks → Contains ks k → with R k ks ≡ ks

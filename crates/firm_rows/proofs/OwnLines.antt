@@ -1,6 +1,5 @@
 -- A line of the firm's own, and a balance, leave a sound firm sound.
-use Rattle.firm_rows.proofs.Names.{◌≡◌, ℕ, Bool, true, false, List, [], ◌∷◌, ◌++◌, length, take, refl, sym, ap, ◌∙◌, subst, arith, append-nil, ◌⊎◌, inl, inr, Option, Some, None, ℤ, pos, ◌+ℤ◌, ◌≤ℤ◌, ◌&&◌, nat_le, if◌then◌else◌, int_eq, list_any, ints, map-append, take_all, last_of, Movement, FirmLine, StatementRow, balance_of, IsOwnBalance, is_own_balance, is_kept_as, is_bookable, kept_balance, balance_verdict, Firm, of, own_movement, with_firm_line, with_statement, FitsFirm, by_firm_line, by_balance, events_moved, line_event, days_moved, amount_for, moved_for, AreMovedInTime, FirmSound, FirmLineFits, BalanceFits}
-use Rattle.std.specs.Prelude.{not}
+use Rattle.firm_rows.proofs.Names.{◌≡◌, ℕ, Bool, true, List, [], ◌∷◌, ◌++◌, length, take, sym, ap, ◌∙◌, subst, arith, append-nil, ℤ, pos, ◌+ℤ◌, ◌≤ℤ◌, ◌&&◌, nat_le, int_eq, ints, map-append, take_all, last_of, Movement, FirmLine, StatementRow, balance_of, IsOwnBalance, is_own_balance, kept_balance, balance_verdict, Firm, of, own_movement, with_firm_line, with_statement, by_balance, events_moved, line_event, days_moved, amount_for, moved_for, AreMovedInTime, FirmSound, FirmLineFits, BalanceFits, nat_tests}
 use Rattle.firm_rows.specs.declared.ledger.Verdict.{Verdict}
 use Rattle.firm_rows.specs.declared.ledger.Verdict.TheVariants as told
 use Rattle.firm_rows.proofs.Sums.{sum-append}
@@ -58,12 +57,7 @@ and-last a b c is = grind (arith)
 
 -- so a line that is decided fits
 pub firm_line-fits : FirmLineFits
-firm_line-fits firm line v is = subst (λ (u : Verdict). FitsFirm firm (by_firm_line line u)) (sym is.1) (cases (list_any (is_kept_as line) firm.firm_lines) (is_bookable firm.firm_lines line is.0) refl)
-  where
-    cases : (a b : Bool) → is_bookable firm.firm_lines line is.0 ≡ b → FitsFirm firm (by_firm_line line (if a then told.Repeat else (if b then told.Applied else told.Unmatched)))
-    cases true b bookable = tt
-    cases false true bookable = own-balance (balance_of firm.firm_lines +ℤ line.amount) (is_own_balance (balance_of firm.firm_lines +ℤ line.amount)) refl (and-last (nat_le line.date is.0) (not (int_eq line.amount (pos 0))) (is_own_balance (balance_of firm.firm_lines +ℤ line.amount)) bookable)
-    cases false false bookable = tt
+firm_line-fits firm line v is = grind (arith, ints, nat_tests, own-balance, and-last, nat_le)
 
 -- and so does a balance: it is applied where none of its kind and day is kept
 pub balance-fits : BalanceFits

@@ -1,5 +1,5 @@
 -- What holds of each matter, and of the firm's own money, holds of all together.
-use Rattle.firm_rows.proofs.Names.{◌≡◌, ℕ, zero, suc, Bool, true, false, cond, List, [], ◌∷◌, map, take, refl, sym, ap, ◌∙◌, subst, arith, ℤ, pos, ◌+ℤ◌, ◌≤ℤ◌, filter, ints, Entry, ledger, Event, Covered, Movement, FirmLine, sum_of, Row, HeadRow, SeatRow, EntryRow, of, event_of, line_event, is_of_firm, firm_events, ledger_share, row_share, SoundIsSolvent}
+use Rattle.firm_rows.proofs.Names.{◌≡◌, ℕ, zero, suc, Bool, true, false, cond, List, [], ◌∷◌, map, take, refl, sym, ap, ◌∙◌, subst, arith, ℤ, pos, ◌+ℤ◌, ◌≤ℤ◌, filter, ints, Entry, ledger, Event, Covered, Movement, FirmLine, sum_of, Row, of, event_of, line_event, is_of_firm, firm_events, ledger_share, row_share, SoundIsSolvent}
 use Rattle.firm_rows.proofs.Sums.{sum-least, sum-same}
 use Rattle.firm_rows.proofs.Told.{share-events}
 use Rattle.firm_rows.proofs.Agree.{of_row, rows-entries, events_share, split, of_matters, matter_of, matter-at, own-part, own-lines, agree}

@@ -23,7 +23,8 @@ module _ {A : Type 0} (key : A → ℕ) (f : A → ℤ) where
 
   pub below-zero : (xs : List A) → sum_of (below 0) xs ≡ pos 0
   below-zero [] = refl
-  below-zero (x ∷ xs) = let no : nat_lt (key x) 0 ≡ false = grind (arith, nat_tests) in rw no (omega (arith, ints, below-zero xs))
+  below-zero (x ∷ xs) = let no : nat_lt (key x) 0 ≡ false =
+      grind (arith, nat_tests) in rw no (omega (arith, ints, below-zero xs))
 
   below-one : (n : ℕ) (x : A) → below (suc n) x ≡ below n x +ℤ at n x
   below-one n x = grind (arith, ints, nat_tests)
@@ -34,7 +35,8 @@ module _ {A : Type 0} (key : A → ℕ) (f : A → ℤ) where
 
   pub below-all : (n : ℕ) (xs : List A) → above xs ≤ n → sum_of (below n) xs ≡ sum_of f xs
   below-all n [] h = refl
-  below-all n (x ∷ xs) h = let yes : nat_lt (key x) n ≡ true = grind (arith, nat_tests) in let more : above xs ≤ n = omega arith in rw yes (omega (arith, ints, below-all n xs more))
+  below-all n (x ∷ xs) h = let yes : nat_lt (key x) n ≡ true =
+      grind (arith, nat_tests) in let more : above xs ≤ n = omega arith in rw yes (omega (arith, ints, below-all n xs more))
 
 -- sums that are at least zero at each number are at least zero
 module _ {A : Type 0} (key : A → ℕ) (f : A → ℤ) (xs : List A) (h : (n : ℕ) → pos 0 ≤ℤ sum_of (at key f n) xs) where

@@ -1,5 +1,5 @@
 -- What a change moves is what its entry's events say, and what the ledger gains.
-use Rattle.firm_rows.proofs.Names.{◌≡◌, ◌≢◌, ℕ, ◌+◌, Bool, true, false, cond, List, [], ◌∷◌, ◌++◌, length, Option, Some, None, refl, sym, ap, ◌∙◌, arith, append-nil, eqb, map, pos, ◌+ℤ◌, ◌-ℤ◌, ◌==◌, slice_get, ints, nat_tests, map-append, filter-append, Entry, Edit, Rows, entry_at, with_entry, ledger, Event, events_of, events_in, cancelling, payments, received, as_movement, edited, movement_of, events_by, AreMoved, IsPlace, Movement, joined_movement, sum_of, event_of, is_of_entry, is_of_firm, events_moved, firm_events, moved_for, ledger_share}
+use Rattle.firm_rows.proofs.Names.{◌≡◌, ◌≢◌, ℕ, ◌+◌, false, cond, List, [], ◌∷◌, ◌++◌, length, Option, Some, None, sym, ap, ◌∙◌, arith, append-nil, eqb, map, pos, ◌+ℤ◌, ◌-ℤ◌, ◌==◌, slice_get, ints, nat_tests, map-append, filter-append, Entry, Edit, Rows, entry_at, with_entry, ledger, Event, events_of, events_in, cancelling, payments, received, as_movement, edited, movement_of, events_by, AreMoved, IsPlace, Movement, joined_movement, sum_of, event_of, is_of_entry, is_of_firm, events_moved, firm_events, moved_for, ledger_share}
 use Rattle.std.specs.Prelude.{option_map}
 use Rattle.trust_matter.specs.entry.Entry.TheVariants as entry
 use Rattle.trust_matter.specs.deposit.DepositState.{DepositState}

@@ -1,5 +1,5 @@
 -- The bodies read back as their objects.
-use Rattle.matter_bodies.proofs.Names.{◌≡◌, ℕ, ℤ, List, [], ◌∷◌, Some, map, length, refl, rules, true, arith, Data, string, compact_text, Seat, array_of, object_of, seat_object, role_name}
+use Rattle.matter_bodies.proofs.Names.{◌≡◌, ℕ, ℤ, List, [], ◌∷◌, Some, map, length, refl, rules, true, arith, Data, string, compact_text, Seat, array_of, object_of, seat_object, role_name, ints, nat_tests}
 use Rattle.serde_json.specs.Read.{read}
 use Rattle.std.specs.Prelude.{codes}
 use Rattle.matter_rows.specs.declared.head.Holder.{Holder}
@@ -7,14 +7,12 @@ use Rattle.matter_rows.specs.declared.head.Holder.TheVariants as holder
 use Rattle.matter_rows.specs.declared.claim.Against.{Against}
 use Rattle.matter_rows.specs.declared.claim.Against.TheVariants as against
 use Rattle.matter_rows.specs.declared.entry.Entry.TheVariants as entry
-use Rattle.matter_bodies.specs.Bodies.{holder_value, purged_on, purge_members, matter_members, sums_of, receipt_members, entry_members, import_members, claim_left_value}
+use Rattle.matter_bodies.specs.Bodies.{holder_value, purged_on, purge_members, matter_members, sums_of, receipt_members, import_members, claim_left_value}
 use Rattle.matter_bodies.specs.BodyLaws.{PurgeReadsBack, MatterReadsBack, ReceiptReadsBack, EntryReadsBack, ImportReadsBack}
 use Rattle.matter_bodies.proofs.ReadBack.{Reads, AllRead, ascend, AllValuesRead, read-compact_text, null-reads, string-reads, count-reads, or_null-reads, object-reads, array-reads}
 
 seat-reads : (s : Seat) → Reads 1 (seat_object s)
-seat-reads s =
-    let members : List (List ℕ × Data) = (codes "person", string s.person) ∷ (codes "role", string (role_name s.role)) ∷ [] in
-    object-reads 0 members (string-reads 0 s.person, (string-reads 0 (role_name s.role), tt)) refl
+seat-reads s = grind (arith, ints, nat_tests, codes, string, role_name, object-reads, string-reads)
 
 seats-read : (ss : List Seat) → AllValuesRead 1 (map seat_object ss)
 seats-read [] = tt
@@ -25,25 +23,13 @@ body-reads : (ms : List (List ℕ × Data)) → AllRead 2 ms → ascend [] ms �
 body-reads ms r h = read-compact_text 3 _ (omega arith) (object-reads 2 ms r h)
 
 claim_left-reads : (n : ℕ) (a : Against) (left : ℤ) → Reads n (claim_left_value a left)
-claim_left-reads n (against.General c) left = string-reads n _
-claim_left-reads n (against.Fee k) left = null-reads n
+claim_left-reads n a left = grind (arith, ints, nat_tests, string-reads, null-reads)
 
 pub receipt-reads : ReceiptReadsBack
-receipt-reads m n (entry.Deposit d) = body-reads (receipt_members m n (entry.Deposit d)) (search (rules, string-reads)) refl
-receipt-reads m n (entry.Payment p) =
-    body-reads (receipt_members m n (entry.Payment p)) (search (rules, string-reads, or_null-reads)) refl
-receipt-reads m n (entry.Fee f) = body-reads (receipt_members m n (entry.Fee f)) (search (rules, string-reads)) refl
-receipt-reads m n (entry.Claim c) =
-    body-reads (receipt_members m n (entry.Claim c)) (search (rules, string-reads, or_null-reads)) refl
+receipt-reads m n x2 = grind (arith, ints, nat_tests, body-reads, receipt_members, string-reads, or_null-reads)
 
 pub entry-reads : EntryReadsBack
-entry-reads m n (entry.Deposit d) left =
-    body-reads (entry_members m n (entry.Deposit d) left) (search (rules, string-reads, or_null-reads)) refl
-entry-reads m n (entry.Payment p) left =
-    body-reads (entry_members m n (entry.Payment p) left) (search (rules, string-reads, or_null-reads)) refl
-entry-reads m n (entry.Fee f) left = body-reads (entry_members m n (entry.Fee f) left) (search (rules, string-reads)) refl
-entry-reads m n (entry.Claim c) left =
-    body-reads (entry_members m n (entry.Claim c) left) (search (rules, string-reads, or_null-reads, claim_left-reads)) refl
+entry-reads m n x2 left = grind (arith, ints, nat_tests, body-reads, string-reads, or_null-reads, claim_left-reads)
 
 pub import-reads : ImportReadsBack
 import-reads applied exceptions repeated statement unreadable a e r u =
@@ -52,8 +38,7 @@ import-reads applied exceptions repeated statement unreadable a e r u =
 
 -- whose it is
 holder-reads : (n : ℕ) (o : Holder) → Reads n (holder_value o)
-holder-reads n (holder.Client c) = search (rules, string-reads)
-holder-reads n (holder.Purged day) = search rules
+holder-reads n o = grind (arith, ints, nat_tests, string-reads)
 
 pub purge-reads : PurgeReadsBack
 purge-reads m rows =

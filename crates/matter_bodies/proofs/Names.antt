@@ -3,9 +3,11 @@ pub use Rattle.matter_rows.specs.declared.seat.Seat.{Seat}
 pub use Rattle.serde_json.proofs.Texts.{print-outline}
 pub use Rattle.serde_json.specs.Data.{Data, array, item, member, null, number, object, put, string}
 pub use Rattle.serde_json.specs.Written.{compact_text, items_outline, members_outline, outline}
-pub use Rattle.std.proofs.Common.{Bool, Equal, Greater, Less, List, None, Option, Ordering, Some, [], ap, append-nil, append_assoc, arith, drop, length, map, refl, rules, suc, sym, true, zero, ℕ, ℤ, ◌&&◌, ◌++◌, ◌<◌, ◌^◌, ◌∙◌, ◌∷◌, ◌≡◌, ◌≤◌}
+pub use Rattle.std.proofs.Common.{Bool, List, Option, Ordering, Some, [], ap, append-nil, append_assoc, arith, drop, length, map, refl, rules, suc, sym, true, zero, ℕ, ℤ, ◌&&◌, ◌++◌, ◌<◌, ◌^◌, ◌∙◌, ◌∷◌, ◌≡◌, ◌≤◌}
 pub use Rattle.std.proofs.lemmas.Bool.{and_parts}
 pub use Rattle.std.specs.Str.{IsAscii, IsUtf8}
 unfoldable pub use Rattle.std.specs.Str.{is_utf8}
 pub use Rattle.matter_bodies.specs.Json.{array_of, count_value, items_of, members_of, object_of, or_null, value_tokens}
 pub use Rattle.matter_bodies.specs.Values.{member_of, role_name, seat_object}
+pub use Rattle.std.proofs.lemmas.Bool.Decides.{nat_tests}
+pub use Rattle.std.proofs.lemmas.Int.{ints}

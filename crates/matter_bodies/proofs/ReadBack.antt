@@ -1,5 +1,5 @@
 -- An object's text reads back as the object, where its keys ascend.
-use Rattle.matter_bodies.proofs.Names.{◌≡◌, ◌<◌, ◌≤◌, ◌^◌, ◌&&◌, ℕ, suc, List, [], ◌∷◌, ◌++◌, Bool, true, Option, Some, None, refl, ap, ◌∙◌, sym, append_assoc, append-nil, arith, Ordering, Less, Equal, Greater, and_parts, Data, null, number, string, put, item, array, member, object, compact_text, outline, items_outline, members_outline, print-outline, items_of, members_of, object_of, array_of, or_null, count_value}
+use Rattle.matter_bodies.proofs.Names.{◌≡◌, ◌<◌, ◌≤◌, ◌^◌, ◌&&◌, ℕ, suc, List, [], ◌∷◌, ◌++◌, Bool, true, Option, Some, refl, ap, ◌∙◌, sym, append_assoc, append-nil, arith, Ordering, and_parts, Data, null, number, string, put, item, array, member, object, compact_text, outline, items_outline, members_outline, print-outline, items_of, members_of, object_of, array_of, or_null, count_value, ints, nat_tests}
 use Rattle.std.specs.Option.{option_map, option_and_then}
 use Rattle.std.specs.Ordering.{is_gt, nat_cmp, match_ordering}
 use Rattle.std.specs.Cmp.Lexicographic.{slice_cmp}
@@ -36,8 +36,7 @@ pub count-reads : (n k : ℕ) → k < 2 ^ 64 → Reads n (count_value k)
 count-reads n k h = record { same = ap (option_map number) (number_of-decimal k h); numbers = IsNumber-decimal k h; depth = omega arith }
 
 pub or_null-reads : {A : Type 0} (n : ℕ) (value : A → Data) (o : Option A) → ((a : A) → Reads n (value a)) → Reads n (or_null value o)
-or_null-reads n value None each = null-reads n
-or_null-reads n value (Some a) each = each a
+or_null-reads n value o each = grind (arith, ints, nat_tests, null-reads)
 
 -- the key comes after all of these in the order of bytes
 abbrev pub is_above : List ℕ → List (List ℕ × Data) → Bool
@@ -54,9 +53,7 @@ AllRead n [] = Unit {0}
 AllRead n (m ∷ ms) = Reads n m.1 × AllRead n ms
 
 greater : {A : Type 0} (o : Ordering) (a b c : A) → is_gt o ≡ true → match_ordering o a b c ≡ c
-greater Less a b c h = cc
-greater Equal a b c h = cc
-greater Greater a b c h = refl
+greater o a b c h = grind (arith, ints, nat_tests)
 
 put-above : (k : List ℕ) (d : Data) (before : List (List ℕ × Data)) → is_above k before ≡ true → put k d (members_of before) ≡ members_of (before ++ (k, d) ∷ [])
 put-above k d [] h = refl
@@ -68,10 +65,7 @@ of_members-ascend : (n : ℕ) (ms before : List (List ℕ × Data)) → AllRead 
 of_members-ascend n [] before r h = ap (λ l. Some (members_of l)) (sym (append-nil before))
 of_members-ascend n (m ∷ ms) before r h =
     let (above, more) = and_parts (is_above m.0 before) (ascend (before ++ m ∷ []) ms) h in
-    ap (option_and_then (λ d. of_members (members_outline (members_of ms)) (put m.0 d (members_of before)))) r.0.same
-    ∙ ap (of_members (members_outline (members_of ms))) (put-above m.0 m.1 before above)
-    ∙ of_members-ascend n ms (before ++ m ∷ []) r.1 more
-    ∙ ap (λ l. Some (members_of l)) (append_assoc before (m ∷ []) ms)
+    grind (arith, ints, nat_tests, of_members, put, put-above, append_assoc, (of_members-ascend n ms (before ++ m ∷ []) r.1 more))
 
 numbers-members : (n : ℕ) (ms : List (List ℕ × Data)) → AllRead n ms → tree.MembersHaveNumbers (members_outline (members_of ms))
 numbers-members n [] r = tt
@@ -105,6 +99,4 @@ depth-items n [] r = omega arith
 depth-items n (d ∷ ds) r = omega (arith, r.0.depth, depth-items n ds r.1)
 
 pub array-reads : (n : ℕ) (ds : List Data) → AllValuesRead n ds → Reads (suc n) (array_of ds)
-array-reads n ds r =
-    let deep = depth-items n ds r in
-    record { same = ap (option_map array) (of_items-values n ds r); numbers = numbers-items n ds r; depth = omega (arith, deep) }
+array-reads n ds r = grind (arith, ints, nat_tests, depth-items, option_map, array, of_items-values, numbers-items)

@@ -1,5 +1,5 @@
 -- What a matter keeps that keeps all entries in the order of their numbers.
-use Rattle.matter_parts.proofs.Names.{◌≡◌, ℕ, ◌+◌, ◌-◌, ◌<◌, ◌≤◌, ltb, true, List, [], ◌∷◌, ◌++◌, length, refl, ap, sym, ◌∙◌, arith, Option, Some, None, eqb, is_some, nat_tests, length-map, Entry, Rows, entry_at, with_entry, within, Kept, Left, Part, kept_in, entries_kept, AreNumbered, IsWhole, HoldsAll, entry_put, left_written, other_written}
+use Rattle.matter_parts.proofs.Names.{◌≡◌, ℕ, ◌+◌, ◌-◌, ◌<◌, ◌≤◌, ltb, true, List, [], ◌∷◌, ◌++◌, length, refl, ap, sym, ◌∙◌, arith, Option, Some, eqb, is_some, nat_tests, length-map, Entry, Rows, entry_at, with_entry, within, Kept, Left, Part, kept_in, entries_kept, AreNumbered, IsWhole, HoldsAll, entry_put, left_written, other_written}
 use Rattle.std.proofs.lemmas.List.{map-append}
 
 -- An entry behind the others.

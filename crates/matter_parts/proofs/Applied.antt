@@ -1,6 +1,5 @@
 -- What is kept after a change is a part of the rows after it.
-use Rattle.matter_parts.proofs.Names.{◌≡◌, ◌≢◌, ℕ, ◌+◌, ◌||◌, ltb, Bool, true, false, cond, List, [], ◌∷◌, ◌++◌, length, refl, ap, sym, ◌∙◌, arith, subst, Option, Some, None, eqb, is_some, pos, Result, Ok, Err, OnOk, ints, length_push, nat_tests, Entry, Head, Seat, left_of, seen_on, closed_head, cleared_head, entry_at, with_entry, Rows, as_made, role_in, seats_with, seats_without, target, Sound, AreInOrder, IsHeaded, entry_at-append, entry_at-with, within, length-with, draw-apart, left-append, left-with, Numbered, Edit, Figures, Kept, Left, TotalsAfter, IsWritten, kept_as, entry_put, other_written, changed, changed_by, MatterChange, edited, head_after, seats_after, IsOther, AreLeft, IsPlace, IsExchange, IsChange, Part, no_figures, is_held, kept_in, AreFigures, IsPart, IsEntryOf, AreKept, HoldsOn, IsWhole, entries_kept, AreNumbered}
-use Rattle.matter_rows.specs.declared.entry.Entry.TheVariants as entry
+use Rattle.matter_parts.proofs.Names.{◌≡◌, ◌≢◌, ℕ, ◌+◌, ◌||◌, ltb, true, false, List, [], ◌∷◌, ◌++◌, length, refl, ap, sym, ◌∙◌, arith, subst, Option, Some, None, eqb, is_some, pos, Result, OnOk, ints, length_push, nat_tests, Entry, Head, Seat, left_of, seen_on, closed_head, cleared_head, entry_at, with_entry, Rows, as_made, role_in, seats_with, seats_without, target, Sound, AreInOrder, IsHeaded, entry_at-append, entry_at-with, within, length-with, draw-apart, left-append, left-with, Numbered, Edit, Figures, Kept, Left, TotalsAfter, IsWritten, kept_as, entry_put, other_written, changed, changed_by, MatterChange, edited, head_after, seats_after, IsOther, AreLeft, IsPlace, IsExchange, IsChange, Part, no_figures, is_held, kept_in, AreFigures, IsPart, IsEntryOf, AreKept, HoldsOn, IsWhole, entries_kept, AreNumbered, more}
 use Rattle.matter_parts.specs.declared.edit.Opening.{Opening}
 use Rattle.matter_parts.specs.declared.edit.Edit.TheVariants as edit
 use Rattle.matter_parts.proofs.AllKept.{entries-end, numbered-end, entries-at, numbered-at, entries-other, numbered-other, length-kept}
@@ -52,38 +51,13 @@ put-exchange es x old is =
     }
 
 put-kept : (ks : List Kept) (es fs : List Entry) (x : Numbered) (v : TotalsAfter) → AreKept ks es → IsPut es fs x → pos v.left ≡ left_of fs x.number x.entry → (n : ℕ) (k : Kept) → put_in ks (kept_as x v) n ≡ Some k → IsNearly fs (target x.entry) n k
-put-kept ks es fs x v kept put left n k h =
-    elim (eqb x.number n) as (λ b. eqb x.number n ≡ b → cond b (Some (kept_as x v)) (kept_in ks n) ≡ Some k → IsNearly fs (target x.entry) n k) [
-      | true ↦ λ s g.
-          let same : x.number ≡ n = grind (arith, nat_tests) in
-          let is : kept_as x v ≡ k = cc in
-          let P : Kept → Type 0 = λ j. IsNearly fs (target x.entry) n j in
-          let Q : ℕ → Type 0 = λ j. entry_at fs j ≡ Some x.entry in
-          let R : ℕ → Type 0 = λ j. pos v.left ≡ left_of fs j x.entry in
-          subst P is (record { there = subst Q same put.own; left = λ _. subst R same left })
-      | false ↦ λ s g. put.stays n k (λ q. let yes : eqb x.number n ≡ true = grind (arith, nat_tests) in cc) (kept n k g)
-    ] refl h
+put-kept ks es fs x v kept put left n k h = grind (arith, nat_tests, (put.stays n k), (kept n k))
 
 -- with what is left of number t written, each is
 written : (fs : List Entry) (t : ℕ) (o : Option Left) (n : ℕ) (p : Option Kept) → ((k : Kept) → p ≡ Some k → IsNearly fs t n k) → IsOther fs t o → (k : Kept) → other_relieved o n p ≡ Some k → IsEntryOf fs n k
-written fs t None n p near none k h =
-    let is = near k h in
-    record { there = is.there; left = is.left (λ q. absurd (let w = (within fs n k.entry is.there).0 in omega (arith, w, none, q))) }
+written fs t None n p near none k h = let is = near k h in grind (arith, within)
 written fs t (Some o) n None near other k h = grind (arith, ints, nat_tests, eqb)
-written fs t (Some o) n (Some j) near other k h =
-    let is = near j refl in
-    elim (eqb o.number n) as (λ b. eqb o.number n ≡ b → cond b (some (record j { left = o.left })) (some j) ≡ Some k → IsEntryOf fs n k) [
-      | true ↦ λ s g.
-          let same : record j { left = o.left } ≡ k = cc in
-          let here : t ≡ n = let q = other.0 in grind (arith, nat_tests) in
-          let P : Kept → Type 0 = λ w. IsEntryOf fs n w in
-          let Q : ℕ → Type 0 = λ w. entry_at fs w ≡ Some j.entry → pos o.left ≡ left_of fs w j.entry in
-          subst P same (record { there = is.there; left = subst Q here (other.1 j.entry) is.there })
-      | false ↦ λ s g.
-          let same : j ≡ k = cc in
-          let P : Kept → Type 0 = λ w. IsEntryOf fs n w in
-          subst P same (record { there = is.there; left = is.left (λ q. let r = other.0 in let yes : eqb o.number n ≡ true = grind (arith, nat_tests) in cc) })
-    ] refl h
+written fs t (Some o) n (Some j) near other k h = grind (arith, nat_tests, (near j refl), (other.1 j.entry))
 
 -- What is kept is a part of the rows after the change.
 
@@ -106,15 +80,10 @@ stays-kept o n k = grind (arith, ints, nat_tests, eqb, with_left)
 
 applied-held : (m m' : Part) (x : Numbered) (v : TotalsAfter) (day : ℕ) → IsWritten m x v day m' → ((n : ℕ) → n ≢ x.number → ltb m.figures.entries n ≡ true → ltb m'.figures.entries n ≡ true) → HoldsOn m m'
 applied-held m m' x v day a past n h =
-    let now : is_some (kept_in m'.kept n) ≡ is_some (put_in m.kept (kept_as x v) n) = ap is_some (applied-kept m m' x v day a n) ∙ stays-kept v.other n (put_in m.kept (kept_as x v) n) in
-    rw now (elim (eqb x.number n) as (λ b. eqb x.number n ≡ b → (is_some (cond b (some (kept_as x v)) (kept_in m.kept n)) || ltb m'.figures.entries n) ≡ true) [
-      | true ↦ λ s. refl
-      | false ↦ λ s. held-or (is_some (kept_in m.kept n)) (ltb m.figures.entries n) (ltb m'.figures.entries n) (past n (grind (arith, nat_tests))) h
-    ] refl)
-  where
-    held-or : (a b c : Bool) → (b ≡ true → c ≡ true) → (a || b) ≡ true → (a || c) ≡ true
-    held-or true b c f h = refl
-    held-or false b c f h = f h
+    let now = applied-kept m m' x v day a n in
+    let stays = stays-kept v.other n (put_in m.kept (kept_as x v) n) in
+    let more = past n in
+    grind (arith, nat_tests)
 
 held-append : (m m' : Part) (rows : Rows) (x : Numbered) (v : TotalsAfter) (day : ℕ) → IsPart m rows → x.number ≡ length rows.entries + 1 → AreFigures v.figures (rows.entries ++ x.entry ∷ []) → IsWritten m x v day m' → HoldsOn m m'
 held-append m m' rows x v day p place figures a = grind (arith, ints, nat_tests, length_push, applied-held)
@@ -126,12 +95,7 @@ held-exchange m m' rows x v day p figures a = grind (arith, ints, nat_tests, len
 
 whole-append : (m m' : Part) (rows : Rows) (x : Numbered) (v : TotalsAfter) (day : ℕ) → IsWhole m rows → x.number ≡ length rows.entries + 1 → IsWritten m x v day m' → (entries_kept m'.kept ≡ rows.entries ++ x.entry ∷ []) × AreNumbered 1 m'.kept
 whole-append m m' rows x v day whole place a =
-    let len = length-kept m.kept rows.entries whole.entries in
-    let next : x.number ≡ 1 + length m.kept = omega (arith, len, place) in
-    let ks = entry_put m.kept (kept_as x v) in
-    let numbered : AreNumbered 1 (other_written ks v.other) = numbered-other 1 ks v.other (numbered-end 1 m.kept (kept_as x v) whole.numbered next) in
-    let P : List Kept → Type 0 = λ l. AreNumbered 1 l in
-    (ap entries_kept a.kept ∙ entries-other ks v.other ∙ entries-end 1 m.kept (kept_as x v) whole.numbered next ∙ ap (λ es. es ++ x.entry ∷ []) whole.entries, subst P (sym a.kept) numbered)
+    grind (arith, entry_put, other_written, length-kept, numbered-other, numbered-end, entries-other, entries-end)
 
 whole-exchange : (m m' : Part) (rows : Rows) (x : Numbered) (old : Entry) (v : TotalsAfter) (day : ℕ) → IsWhole m rows → entry_at rows.entries x.number ≡ Some old → IsWritten m x v day m' → (entries_kept m'.kept ≡ with_entry rows.entries x.number x.entry) × AreNumbered 1 m'.kept
 whole-exchange m m' rows x old v day whole there a =
@@ -153,13 +117,11 @@ as-told : (m m' n : Part) (c : MatterChange) (e : Edit) (v : TotalsAfter) (day :
 as-told m m' n c e v day is moves on made after = grind (arith, ints, nat_tests)
 
 pub after-append : (m m' : Part) (c : MatterChange) (x : Numbered) (v : TotalsAfter) (day : ℕ) → c.edit ≡ edit.Append x → v ≡ c.moves → day ≡ c.last → IsWritten m x v day m' → IsAfter m c m'
-after-append m m' c x v day is moves on a = as-told m m' m' c (edit.Append x) v day is moves on refl (record {
-  part = λ rows s p ch. applied-written m m' rows (rows.entries ++ x.entry ∷ []) x v day p (put-append rows.entries x ch.place.1) ch.figures ch.lefts a;
-  held = λ rows s p ch. held-append m m' rows x v day p ch.place.1 ch.figures a;
-  whole = λ rows s w ch.
-      let kept = whole-append m m' rows x v day w ch.place.1 a in
-      record { part = applied-written m m' rows (rows.entries ++ x.entry ∷ []) x v day w.part (put-append rows.entries x ch.place.1) ch.figures ch.lefts a; entries = kept.0; numbered = kept.1 };
-})
+after-append m m' c x v day is moves on a =
+    let part = applied-written m m' in
+    let kept = whole-append m m' in
+    let put = put-append in
+    as-told m m' m' c (edit.Append x) v day is moves on refl (grind (arith, held-append))
 
 pub after-exchange : (m m' : Part) (c : MatterChange) (x : Numbered) (v : TotalsAfter) (day : ℕ) → c.edit ≡ edit.Exchange x → v ≡ c.moves → day ≡ c.last → IsWritten m x v day m' → IsAfter m c m'
 after-exchange m m' c x v day is moves on a = as-told m m' m' c (edit.Exchange x) v day is moves on refl (record {

@@ -1,5 +1,5 @@
 -- Entries with the numbers 1, 2 and so on: each stands at the place of its number.
-use Rattle.matter_parts.proofs.Names.{filter, position, position_or_len, slice_get, zero, suc, ◌≡◌, ℕ, ◌+◌, ◌-◌, ◌<◌, ◌≤◌, ltb, Bool, true, false, cond, List, [], ◌∷◌, ◌++◌, take, length, get_or, refl, ap, sym, ◌∙◌, subst, arith, Some, None, eqb, set, nat_tests, append-nil, take_all, filter_more, place-none, place-some, Kept, IsNextPlace, AreNumbered, kept_in}
+use Rattle.matter_parts.proofs.Names.{filter, position, position_or_len, slice_get, zero, suc, ◌≡◌, ℕ, ◌+◌, ◌-◌, ◌<◌, ◌≤◌, Bool, true, false, cond, List, [], ◌∷◌, ◌++◌, take, length, get_or, refl, ap, sym, ◌∙◌, subst, arith, Some, None, set, nat_tests, append-nil, take_all, filter_more, place-none, place-some, Kept, IsNextPlace, AreNumbered, kept_in, more}
 use Rattle.std.proofs.lemmas.List.Folds.{find_at}
 use Rattle.std.proofs.lemmas.List.Sums.{passes_at_first, position_or_len_is}
 use Rattle.std.proofs.lemmas.Option.{slice_get_past, slice_get_read}
@@ -8,8 +8,7 @@ use Rattle.matter_parts.proofs.Keepers.{is_number, left-set, with-set}
 
 pub number-at : (a i : ℕ) (ks : List Kept) (d : Kept) → AreNumbered a ks → i < length ks → (get_or ks i d).number ≡ a + i
 number-at a i [] d numbered inside = absurd (omega arith)
-number-at a zero (k ∷ ks) d numbered inside = let own : k.number ≡ a = numbered.0 in omega (arith, own)
-number-at a (suc i) (k ∷ ks) d numbered inside = let more = number-at (a + 1) i ks d numbered.1 (omega arith) in omega (arith, more)
+number-at a i (k ∷ ks) d numbered inside = grind (arith, (number-at (a + 1) (i - 1) ks d numbered.1))
 
 -- The place of a number.
 
@@ -17,26 +16,14 @@ pub placed : (n : ℕ) (ks : List Kept) → AreNumbered 1 ks → 1 ≤ n → n �
 placed n [] numbered low high = absurd (omega arith)
 placed n (k ∷ ks) numbered low high =
     let is = position_or_len_is (is_number n) (k ∷ ks) (n - 1) k (omega arith) (λ i h. let own = number-at 1 i (k ∷ ks) k numbered (omega arith) in grind (arith, nat_tests)) (λ h. let own = number-at 1 (n - 1) (k ∷ ks) k numbered h in grind (arith, nat_tests)) in
-    found (position_or_len (is_number n) (k ∷ ks)) is
-  where
-    found : (at : ℕ) → at ≡ n - 1 → Some (n - 1) ≡ cond (ltb at (length (k ∷ ks))) (Some at) None
-    found at is = let inside : ltb at (length (k ∷ ks)) ≡ true = grind (arith, nat_tests) in rw inside (ap (λ i. Some i) (sym is))
+    grind (arith, nat_tests)
 
 pub not-placed : (n : ℕ) (ks : List Kept) → AreNumbered 1 ks → (1 ≤ n → length ks < n) → None ≡ position (is_number n) ks
 not-placed n [] numbered out = refl
 not-placed n (k ∷ ks) numbered out =
-    let is = position_or_len_is (is_number n) (k ∷ ks) (length (k ∷ ks)) k (omega arith) (λ i h. let own = number-at 1 i (k ∷ ks) k numbered h in apart (get_or (k ∷ ks) i k).number i own h) (λ h. absurd (omega arith)) in
-    missed (position_or_len (is_number n) (k ∷ ks)) is
-  where
-    apart : (m i : ℕ) → m ≡ 1 + i → i < length (k ∷ ks) → eqb m n ≡ false
-    apart m i own h =
-        elim (eqb m n) as (λ b. eqb m n ≡ b → b ≡ false) [
-          | true ↦ λ s. let same : m ≡ n = grind (arith, nat_tests) in let past = out (omega arith) in absurd (omega (arith, past))
-          | false ↦ λ s. refl
-        ] refl
-
-    missed : (at : ℕ) → at ≡ length (k ∷ ks) → None ≡ cond (ltb at (length (k ∷ ks))) (Some at) None
-    missed at is = let past : ltb at (length (k ∷ ks)) ≡ false = grind (arith, nat_tests) in rw past refl
+    let is = position_or_len_is (is_number n) (k ∷ ks) (length (k ∷ ks)) k (omega arith) (λ i h. let own = number-at 1 i
+    (k ∷ ks) k numbered h in grind (arith, nat_tests)) (λ h. absurd (omega arith)) in
+    grind (arith, nat_tests)
 
 -- what stands at the place of a number is what is kept under it
 pub kept-at-place : (ks : List Kept) (n i : ℕ) (k : Kept) → Some i ≡ position (is_number n) ks → k ≡ get_or ks i k → Some k ≡ kept_in ks n
@@ -101,17 +88,9 @@ copied-none p ks j numbered next = record { high = next.high; is = next.is; befo
 pub copied-more : (p : ℕ → Bool) (ks : List Kept) (i j : ℕ) (k : Kept) (copies : List Kept) → AreNumbered 1 ks → AreCopiedTo p ks i copies → i < length ks → k ≡ get_or ks i k → IsNextPlace p (i + 1) (length ks) j → AreCopiedTo p ks j (copies ++ k ∷ [])
 copied-more p ks i j k copies numbered so inside at next =
     let own = number-at 1 i ks k numbered inside in
-    let number : (get_or ks i k).number ≡ i + 1 = omega (arith, own) in
-    let is : p (get_or ks i k).number ≡ true = ap p number ∙ so.is inside in
-    record {
-      high = next.high;
-      is = next.is;
-      before = ap (λ (l : List Kept). l ++ k ∷ []) so.before
-          ∙ ap (λ (x : Kept). those p (take i ks) ++ x ∷ []) at
-          ∙ sym (ap (λ (b : Bool). those p (take i ks) ++ cond b (get_or ks i k ∷ []) []) is)
-          ∙ sym (filter_more (λ (x : Kept). p x.number) ks i k inside)
-          ∙ sym (up-to p ks (i + 1) j numbered next);
-    }
+    let far = up-to p ks (i + 1) j numbered next in
+    let more = filter_more (λ (x : Kept). p x.number) ks i k inside in
+    grind (arith, nat_tests)
 
 pub copied-all : (p : ℕ → Bool) (ks : List Kept) (i : ℕ) (copies : List Kept) → AreCopiedTo p ks i copies → length ks ≤ i → copies ≡ filter (λ k. p k.number) ks
 copied-all p ks i copies so past = so.before ∙ ap (λ (l : List Kept). those p l) (take_all i ks past)

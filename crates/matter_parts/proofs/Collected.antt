@@ -1,5 +1,5 @@
 -- A matter that is made of whole rows, entry by entry.
-use Rattle.matter_parts.proofs.Names.{◌≡◌, ◌≢◌, ℕ, ◌+◌, ◌<◌, ◌≤◌, true, false, cond, List, [], ◌∷◌, ◌++◌, take, length, get_or, refl, ap, sym, ◌∙◌, arith, subst, Some, eqb, ℤ, pos, ◌-ℤ◌, ints, nat_tests, take_more, take_all, length_push, Entry, Rows, entry_at, left_of, total_of, draw_on, worth, MAX_TOTAL, IsBalance, natural, entry-at, Kept, Figures, entry_put, Part, IsWhole, AreFigures, kept_in, entries_kept, AreNumbered, AreKept, IsEntryOf, AreAllKept}
+use Rattle.matter_parts.proofs.Names.{◌≡◌, ◌≢◌, ℕ, ◌+◌, ◌<◌, ◌≤◌, List, [], ◌∷◌, ◌++◌, take, length, get_or, ap, sym, ◌∙◌, arith, subst, Some, ℤ, pos, ◌-ℤ◌, ints, nat_tests, take_more, take_all, length_push, Entry, Rows, entry_at, left_of, total_of, draw_on, worth, MAX_TOTAL, IsBalance, natural, entry-at, Kept, Figures, entry_put, Part, IsWhole, AreFigures, kept_in, entries_kept, AreNumbered, AreKept, IsEntryOf, AreAllKept}
 use Rattle.matter_parts.proofs.AllKept.{entries-end, numbered-end, put-end}
 use Rattle.matter_parts.proofs.Keepers.{AreSmallLefts, put_in, kept-with, small-with}
 
@@ -12,16 +12,7 @@ pub record IsCollected (es : List Entry) (i : ℕ) (ks : List Kept) : Type 0 whe
   pub small : AreSmallLefts ks
 
 own-next : (es : List Entry) (ks : List Kept) (new : Kept) → AreKept ks es → IsEntryOf es new.number new → (n : ℕ) (k : Kept) → put_in ks new n ≡ Some k → IsEntryOf es n k
-own-next es ks new own is n k h =
-    elim (eqb new.number n) as (λ b. eqb new.number n ≡ b → cond b (Some new) (kept_in ks n) ≡ Some k → IsEntryOf es n k) [
-      | true ↦ λ s g.
-          let same : new ≡ k = cc in
-          let here : new.number ≡ n = grind (arith, nat_tests) in
-          let P : Kept → Type 0 = λ j. IsEntryOf es n j in
-          let Q : ℕ → Type 0 = λ j. IsEntryOf es j new in
-          subst P same (subst Q here is)
-      | false ↦ λ s g. own n k g
-    ] refl h
+own-next es ks new own is n k h = grind (arith, nat_tests, (own n k))
 
 pub collected-more : (es : List Entry) (i : ℕ) (ks : List Kept) (new : Kept) (ls : List Kept) → IsCollected es i ks → i < length es → new.number ≡ i + 1 → new.left ≤ MAX_TOTAL → IsEntryOf es (i + 1) new → ls ≡ ks ++ new ∷ [] → IsCollected es (i + 1) ls
 collected-more es i ks new ls so inside number small is made =
@@ -60,6 +51,4 @@ kept-of es n number left e copy there same is = grind (arith, ints, nat_tests)
 
 -- of sound rows it is whole
 pub made-whole : (m : Part) (rows : Rows) (f : Figures) (ks : List Kept) → m ≡ record { head = rows.head; seats = rows.seats; figures = f; kept = ks } → AreFigures f rows.entries → AreAllKept ks rows.entries → IsWhole m rows
-made-whole m rows f ks is figures kept =
-    let P : Part → Type 0 = λ p. IsWhole p rows in
-    subst P (sym is) (record { part = record { head = refl; seats = refl; figures = figures; kept = kept.own }; entries = kept.entries; numbered = kept.numbered })
+made-whole m rows f ks is figures kept = let own = kept.own in rw is assumption

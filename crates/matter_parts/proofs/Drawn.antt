@@ -1,5 +1,5 @@
 -- What is drawn on each entry, added up entry by entry.
-use Rattle.matter_parts.proofs.Names.{◌≡◌, ◌≢◌, ℕ, ◌+◌, ◌<◌, ◌≤◌, true, false, List, length, get_or, replicate, eqb, refl, sym, subst, arith, ◌∙◌, ℤ, pos, ◌+ℤ◌, nat_tests, ints, length-set, get_or-set_same, get_or-set_other, get_or-replicate, get_or_read, length-replicate, Entry, IsSmallShare, draw, draw_on, target, IsSumTo, IsSumOf, more, small-sum, start, whole, draw-apart, AreDrawn, IsUntargeted}
+use Rattle.matter_parts.proofs.Names.{◌≡◌, ℕ, ◌+◌, ◌<◌, ◌≤◌, List, length, get_or, replicate, arith, ◌∙◌, ℤ, pos, ◌+ℤ◌, nat_tests, ints, length-set, get_or-set_same, get_or-set_other, get_or-replicate, get_or_read, length-replicate, Entry, IsSmallShare, draw, draw_on, target, IsSumTo, IsSumOf, more, small-sum, start, whole, draw-apart, AreDrawn, IsUntargeted, within}
 use Rattle.std.proofs.Common.{set}
 
 -- what the first i entries draw on each
@@ -31,23 +31,17 @@ drawn-more es i drawn e p w so inside at there aims small is = record {
   count = length-set drawn p w ∙ so.count;
   sums = λ place within.
       let count = so.count in
-      elim (eqb p place) as (λ b. eqb p place ≡ b → IsSumTo (draw_on (place + 1)) es (i + 1) (get_or (set drawn p w) place (pos 0))) [
-        | true ↦ λ s.
-            let same : p ≡ place = grind (arith, nat_tests) in
-            let D : ℕ → Type 0 = λ n. IsSumTo (draw_on (n + 1)) es (i + 1) (get_or (set drawn p w) n (pos 0)) in
-            let own : eqb (target e) (p + 1) ≡ true = grind (arith, nat_tests) in
-            let drawn_on : draw_on (p + 1) e ≡ draw e = rw own refl in
-            let P : ℤ → Type 0 = IsSmallShare in
-            let S : ℤ → Type 0 = IsSumTo (draw_on (p + 1)) es (i + 1) in
-            let written : get_or (set drawn p w) p (pos 0) ≡ w = get_or-set_same drawn p w (pos 0) (omega (arith, count, there)) in
-            subst D same (subst S (sym written) (more (draw_on (p + 1)) es i e (get_or drawn p (pos 0)) w (so.sums p there) inside at (subst P (sym drawn_on) small) (omega (arith, ints, is, drawn_on))))
-        | false ↦ λ s.
-            let apart : place ≢ p = grind (arith, nat_tests) in
-            let aside : target e ≢ place + 1 = grind (arith, nat_tests) in
-            let S : ℤ → Type 0 = IsSumTo (draw_on (place + 1)) es (i + 1) in
-            let kept : get_or (set drawn p w) place (pos 0) ≡ get_or drawn place (pos 0) = get_or-set_other drawn p place w (pos 0) apart in
-            subst S (sym kept) (none-more es (place + 1) i e (get_or drawn place (pos 0)) (so.sums place within) inside at (draw-apart (place + 1) e aside))
-      ] refl;
+      let sum = so.sums place within in
+      let more = more (draw_on (place + 1)) es i e (get_or drawn place (pos 0)) w sum inside at in
+      let same = none-more es (place + 1) i e (get_or drawn place (pos 0)) sum inside at in
+      grind (
+        arith,
+        ints,
+        nat_tests,
+        (get_or-set_same drawn p w (pos 0)),
+        (get_or-set_other drawn p place w (pos 0)),
+        draw-apart,
+      );
 }
 
 pub drawn-all : (es : List Entry) (i : ℕ) (drawn : List ℤ) → AreDrawnTo es i drawn → length es ≤ i → i ≤ length es → length es ≤ 9_999 → AreDrawn drawn es

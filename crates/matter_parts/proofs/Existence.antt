@@ -1,5 +1,5 @@
 -- For a part of sound rows there is always a change in range.
-use Rattle.matter_parts.proofs.Names.{◌≡◌, ℕ, ◌+◌, ◌≤◌, ltb, is_some, true, List, [], ◌∷◌, ◌++◌, length, refl, sym, ◌∙◌, arith, subst, Some, None, eqb, pos, ◌+ℤ◌, ◌-ℤ◌, ◌⊎◌, inl, inr, ints, nat_tests, Entry, total_of, left_of, target, worth, draw, held_share, available_share, disputed_share, fee_share, claim_share, pending_share, shares_of, MAX_TOTAL, entry_at, with_entry, AreBacked, natural, held-balance, pending-balance, disputed-balance, available-balance, fees-balance, claims-balance, left-balance, fees-by_share, claims-by_share, entry_at-append, entry_at-with, within, MayAdd, MayTake, sound-append, sound-with, Numbered, Figures, Kept, Left, TotalsAfter, Before, AreSmallTotals, IsSmallOther, FiguresMoved, EntryMoved, AppendMoved, ExchangeMoved, Part, AreSmall, kept_at, AreFigures, AreKept, is_held_or_none}
+use Rattle.matter_parts.proofs.Names.{◌≡◌, ℕ, ◌+◌, ◌≤◌, ltb, is_some, true, List, [], ◌∷◌, ◌++◌, length, refl, sym, ◌∙◌, arith, subst, Some, None, eqb, pos, ◌+ℤ◌, ◌-ℤ◌, ◌⊎◌, inl, inr, ints, nat_tests, Entry, total_of, left_of, target, worth, draw, held_share, available_share, disputed_share, fee_share, claim_share, pending_share, shares_of, MAX_TOTAL, entry_at, with_entry, AreBacked, natural, held-balance, pending-balance, disputed-balance, available-balance, fees-balance, claims-balance, left-balance, fees-by_share, claims-by_share, entry_at-append, entry_at-with, within, MayAdd, MayTake, sound-append, sound-with, Numbered, Figures, Kept, Left, TotalsAfter, Before, AreSmallTotals, IsSmallOther, FiguresMoved, EntryMoved, AppendMoved, ExchangeMoved, Part, AreSmall, kept_at, AreFigures, AreKept, is_held_or_none, take}
 use Rattle.matter_parts.proofs.Moving.{counted, uncounted, written-append, written-exchange}
 use Rattle.matter_parts.proofs.Moved.{IsAside, figures_of, figures-are, moved-append, moved-with, own-append, own-with, aside-append, aside-with}
 
@@ -27,15 +27,8 @@ pub record AreSummed (f : Figures) (es : List Entry) : Type 0 where
 pub summed : (es : List Entry) → AreBacked es → AreSummed (figures_of es) es
 summed es s =
     let is = figures-are es s in
-    record {
-      small = small-figures (figures_of es) es is s;
-      pending = is.pending;
-      held = is.held;
-      available = is.available;
-      disputed = is.disputed;
-      fees = is.fees ∙ fees-by_share es s.named;
-      claims = is.claims ∙ claims-by_share es s.named;
-    }
+    let small = small-figures (figures_of es) es is s in
+    grind (arith, ints, fees-by_share, claims-by_share)
 
 -- the entry named is kept, if one is
 abbrev pub IsKeptOrNone : Part → ℕ → Type 0
@@ -100,3 +93,6 @@ exist-exchange m es x old j a kept s may found named =
 -- what is held and there is kept
 pub held-kept : (m : Part) (es : List Entry) (n : ℕ) (e : Entry) → m.figures.entries ≡ length es → entry_at es n ≡ Some e → is_held_or_none m n ≡ true → (k : Kept) × (kept_at m n ≡ Some k)
 held-kept m es n e few at h = grind (arith, ints, nat_tests, within, eqb, ltb, is_some)
+
+-- what the totals of backed entries are, and that they are in range
+pub ruleset figure_steps = (ints, summed)

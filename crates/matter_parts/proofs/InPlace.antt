@@ -1,5 +1,5 @@
 -- Kept entries that have the numbers of their places, and what the entries leave of each.
-use Rattle.matter_parts.proofs.Names.{◌≡◌, ℕ, ◌+◌, ◌-◌, ◌<◌, ◌≤◌, ◌↔◌, true, false, List, [], ◌∷◌, length, drop, get_or, eqb, arith, Some, refl, ℤ, pos, to_z, of_z, w64, length-map, IsSmallSum, ◌-ℤ◌, nat_tests, ints, Entry, entry_at, left_of, worth, Kept, AreKept, AreNumbered, entries_kept, kept_in, AreDrawn, AreInPlace, IsInPlace}
+use Rattle.matter_parts.proofs.Names.{◌≡◌, ℕ, ◌+◌, ◌-◌, ◌<◌, ◌≤◌, ◌↔◌, List, [], ◌∷◌, length, drop, get_or, eqb, arith, Some, ℤ, pos, to_z, of_z, w64, length-map, IsSmallSum, ◌-ℤ◌, nat_tests, ints, Entry, entry_at, left_of, worth, Kept, AreKept, AreNumbered, entries_kept, kept_in, AreDrawn, AreInPlace, IsInPlace, more}
 use Rattle.matter_rows.proofs.Tested.{rest-at, rest-none}
 
 -- Tested one after the other.
@@ -15,16 +15,10 @@ place-done es ks i inv past = grind (arith, ints, nat_tests, rest-none)
 
 module _ (es : List Entry) (drawn : List ℤ) (i : ℕ) (k : Kept) (z : ℤ) (are : AreDrawn drawn es) (inside : i < length es) (is : z ≡ get_or drawn i (pos 0)) where
   pub as-tested : IsInPlace es (i + 1) k → (k.number ≡ i + 1) × (pos k.left ≡ worth k.entry -ℤ z)
-  as-tested here =
-      let sum = are.sums i inside in
-      let left = here.left in
-      (here.number, omega (arith, ints, sum, left, is))
+  as-tested here = let sum = are.sums i inside in grind (arith, ints)
 
   pub from-tested : (k.number ≡ i + 1) × (pos k.left ≡ worth k.entry -ℤ z) → IsInPlace es (i + 1) k
-  from-tested tested =
-      let sum = are.sums i inside in
-      let left = tested.1 in
-      record { number = tested.0; left = omega (arith, ints, sum, left, is) }
+  from-tested tested = omega (arith, ints, are.sums i inside, tested, is)
 
 -- what is drawn on an entry that is kept, as it is read
 pub read-at : (es : List Entry) (ks : List Kept) (drawn : List ℤ) (i : ℕ) → es ≡ entries_kept ks → AreDrawn drawn es → i < length ks → (i < length es) × IsSmallSum (to_z w64 (of_z w64 (get_or drawn i (pos 0)))) × (to_z w64 (of_z w64 (get_or drawn i (pos 0))) ≡ get_or drawn i (pos 0))
@@ -59,12 +53,9 @@ kept-of ks here n k found = grind (arith, ints, nat_tests, there-at, numbered-of
 in-place-from : (es : List Entry) (a : ℕ) (ks : List Kept) → AreNumbered a ks → ((n : ℕ) (k : Kept) → kept_in ks n ≡ Some k → pos k.left ≡ left_of es n k.entry) → AreInPlace es a ks
 in-place-from es a [] numbered own = tt
 in-place-from es a (x ∷ ks) numbered own = (
-  record { number = numbered.0; left = own a x (let same : eqb x.number a ≡ true = let number = numbered.0 in grind (arith, nat_tests) in rw same refl) },
-  in-place-from es (a + 1) ks numbered.1 (λ n k found.
-      let number = numbered.0 in
-      let more : a + 1 ≤ n = found-from (a + 1) n ks k numbered.1 found in
-      let other : eqb x.number n ≡ false = grind (arith, nat_tests) in
-      own n k (rw other found)),
+  record { number = numbered.0; left = own a x (grind (arith, nat_tests)) },
+  in-place-from es (a + 1) ks numbered.1 (λ n k found. let more = found-from (a + 1) n ks k numbered.1 found in own n k
+      (grind (arith, nat_tests))),
 )
 
 pub in-place : (es : List Entry) (ks : List Kept) → AreNumbered 1 ks → AreKept ks es → AreInPlace es 1 ks

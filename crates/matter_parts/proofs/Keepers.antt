@@ -1,5 +1,5 @@
 -- What is kept, after an entry is put or what is left of one is written.
-use Rattle.matter_parts.proofs.Names.{position, position_or_len, ◌≡◌, ℕ, ◌<◌, ◌≤◌, ◌==◌, Bool, true, false, cond, List, [], ◌∷◌, ◌++◌, length, refl, sym, ◌∙◌, arith, Option, Some, None, eqb, get_or, set, nat_tests, MAX_TOTAL, place-some, place-none, Kept, Left, entry_put, left_written, other_written, kept_in, IsSmallOther}
+use Rattle.matter_parts.proofs.Names.{position, position_or_len, ◌≡◌, ℕ, ◌<◌, ◌≤◌, ◌==◌, Bool, true, false, cond, List, [], ◌∷◌, ◌++◌, length, refl, sym, arith, Option, Some, None, eqb, get_or, set, nat_tests, MAX_TOTAL, place-some, place-none, Kept, Left, entry_put, left_written, other_written, kept_in, IsSmallOther}
 
 abbrev pub is_number : ℕ → Kept → Bool
 is_number n k = k.number == n

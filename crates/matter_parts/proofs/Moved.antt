@@ -1,5 +1,5 @@
 -- The figures that are kept, after a change.
-use Rattle.matter_parts.proofs.Names.{◌≡◌, ℕ, ◌+◌, ◌≢◌, true, false, List, [], ◌∷◌, ◌++◌, length, refl, sym, ◌∙◌, arith, subst, Option, Some, None, eqb, ℤ, pos, ◌+ℤ◌, ◌-ℤ◌, length-append, ints, nat_tests, Entry, Shares, left_of, entry_at, with_entry, Rows, total_of, held, available, disputed, fees, claims, draw, draw_on, target, worth, available_share, held_share, disputed_share, fee_share, claim_share, pending_share, no_shares, shares_of, AreBacked, natural, held-balance, pending-balance, disputed-balance, available-balance, fees-balance, claims-balance, total-append, total-with, fees-by_share, claims-by_share, entry_at-append, entry_at-with, length-with, none-past, MayAdd, MayTake, target-apart, draw-apart, total-undrawn, left-append, left-with, sound-append, sound-with, Edit, Figures, Left, TotalsAfter, edited, IsOther, AreLefts, NoneLeft, FiguresMoved, OtherCases, EditMoved, NoneMoved, Part, no_figures, AreFigures, IsPart, AreKept}
+use Rattle.matter_parts.proofs.Names.{◌≡◌, ℕ, ◌+◌, ◌≢◌, true, false, List, [], ◌∷◌, ◌++◌, length, refl, sym, ◌∙◌, arith, subst, Option, Some, None, eqb, ℤ, pos, ◌+ℤ◌, ◌-ℤ◌, length-append, ints, nat_tests, Entry, Shares, left_of, entry_at, with_entry, Rows, total_of, held, available, disputed, fees, claims, draw, draw_on, target, worth, available_share, held_share, disputed_share, fee_share, claim_share, pending_share, no_shares, shares_of, AreBacked, natural, held-balance, pending-balance, disputed-balance, available-balance, fees-balance, claims-balance, total-append, total-with, fees-by_share, claims-by_share, entry_at-append, entry_at-with, length-with, none-past, MayAdd, MayTake, target-apart, draw-apart, total-undrawn, left-append, left-with, sound-append, sound-with, Edit, Figures, Left, TotalsAfter, edited, IsOther, AreLefts, NoneLeft, FiguresMoved, OtherCases, EditMoved, NoneMoved, Part, no_figures, AreFigures, IsPart, AreKept, Seat, take}
 use Rattle.matter_parts.specs.declared.edit.Edit.TheVariants as edit
 use Rattle.matter_parts.proofs.Editing.{MayEdit}
 
@@ -86,14 +86,10 @@ other-left m es fs t out draw None kept aside h = h
 other-left m es fs t out draw (Some o) kept aside h = (
   h.0,
   λ e g.
-      let k = h.1.0 in
-      let is = kept t k h.1.1 in
-      let there = is.there in
-      let was : entry_at es t ≡ Some e = sym aside.there ∙ g in
-      let same : k.entry ≡ e = cc in
-      let P : Entry → Type 0 = λ v. pos k.left ≡ left_of es t v in
-      let left : pos k.left ≡ left_of es t e = subst P same is.left in
-      omega (arith, ints, h.1.2, left, aside.left e),
+      let is = kept t h.1.0 h.1.1 in
+      let left = aside.left e in
+      let there = aside.there in
+      grind (arith, ints),
 )
 
 -- without an entry all totals are zero
@@ -117,22 +113,21 @@ changes-are m rows t n (edit.Clear d) v p s may h = (same-figures no_figures v.f
 changes-are m rows t n (edit.Append x) v p s may h =
     let es = rows.entries in
     let fs = es ++ x.entry ∷ [] in
-    let after = sound-append es x.entry s may.1 in
-    let own : pos v.left ≡ left_of fs (length es + 1) x.entry = h.left ∙ own-append es x.entry s may.1 in
-    let Q : ℕ → Type 0 = λ n. pos v.left ≡ left_of fs n x.entry in (
+    let after = sound-append es x.entry s may.1 in (
       figures-moved m.figures _ _ _ v.figures _ fs h.figures (moved-append es x.entry m.figures s after p.figures) (figures-are fs after),
-      (subst Q (sym may.0) own, other-left m es fs (target x.entry) _ _ v.other p.kept (aside-append es x.entry may.1) h.other.cases),
+      (
+        rw may.0 (h.left ∙ own-append es x.entry s may.1),
+        other-left m es fs (target x.entry) _ _ v.other p.kept
+            (aside-append es x.entry may.1) h.other.cases,
+      ),
     )
 changes-are m rows t n (edit.Exchange x) v p s may h =
     let es = rows.entries in
     let fs = with_entry es x.number x.entry in
     let k = h.0 in
     let is = p.kept x.number k h.1.kept in
-    let there = is.there in
-    let at = may.1.at in
-    let same : may.0 ≡ k.entry = cc in
-    let T : Entry → Type 0 = λ w. MayTake es x.number w x.entry in
-    let take = subst T same may.1 in
+    let same : may.0 ≡ k.entry = let there = is.there in let at = may.1.at in cc in
+    let take = rw same at may.1 in
     let after = sound-with es x.number k.entry x.entry s take in (
       figures-moved m.figures _ _ _ v.figures _ fs h.1.figures (moved-with es x.number k.entry x.entry m.figures s after take.at p.figures) (figures-are fs after),
       (omega (arith, ints, is.left, h.1.left, own-with es x.number k.entry x.entry take), other-left m es fs (target x.entry) _ _ v.other p.kept (aside-with es x.number k.entry x.entry take) h.1.other.cases),

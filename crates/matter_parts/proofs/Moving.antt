@@ -1,5 +1,5 @@
 -- What moves when an entry is written, from what it counted for before.
-use Rattle.matter_parts.proofs.Names.{Bool, is_some, length, of_z, to_z, w64, ◌≡◌, ℕ, ◌+◌, ◌≤◌, arith, refl, subst, sym, ℤ, pos, ◌+ℤ◌, ◌-ℤ◌, Option, Some, None, ints, Entry, Shares, shares_of, no_shares, worth, draw, IsSmallShare, AreSmallShares, IsSmallSum, Figures, Before, Left, TotalsAfter, Numbered, Kept, FiguresMoved, OtherMoved, EntryMoved, AppendMoved, ExchangeMoved, MAX_TOTAL, IsSmallOther, kept_at, Part}
+use Rattle.matter_parts.proofs.Names.{Bool, is_some, length, of_z, to_z, w64, ◌≡◌, ℕ, ◌+◌, ◌≤◌, arith, refl, sym, ℤ, pos, ◌+ℤ◌, ◌-ℤ◌, Option, Some, None, ints, Entry, Shares, shares_of, no_shares, worth, draw, IsSmallShare, AreSmallShares, IsSmallSum, Figures, Before, Left, TotalsAfter, Numbered, Kept, FiguresMoved, OtherMoved, EntryMoved, AppendMoved, ExchangeMoved, MAX_TOTAL, IsSmallOther, kept_at, Part}
 use Rattle.matter_rows.specs.Events.{events_of, nth_moved}
 use mir.Val.{bool_byte}
 
@@ -50,12 +50,7 @@ figures-written f f' n out a a' g p q s t w =
 -- what is left of the named entry is within the range of a matter
 pub named-left : (m : Part) (t n : ℕ) (a b : ℤ) (o : Option Left) (k : Kept) → n ≡ t → 1 ≤ n → Some k ≡ kept_at m n → IsSmallOther o → OtherMoved m t a b o → (x : ℕ) × ((x ≤ MAX_TOTAL) × (pos x ≡ (pos k.left -ℤ b) +ℤ a))
 named-left m t n a b None k here some at small h = absurd (let none = h.cases in omega arith)
-named-left m t n a b (Some l) k here some at small h =
-    let there = h.cases.1.1 in
-    let P : ℕ → Type 0 = λ i. Some k ≡ kept_at m i in
-    let is = subst P here at in
-    let same : k ≡ h.cases.1.0 = cc in
-    (l.left, (small l refl, rw same h.cases.1.2))
+named-left m t n a b (Some l) k here some at small h = (l.left, (small l refl, grind (arith, ints)))
 
 pub named-moved : (m : Part) (t n : ℕ) (a b : ℤ) (k : Kept) (x : ℕ) → n ≡ t → Some k ≡ kept_at m n → pos x ≡ (pos k.left -ℤ b) +ℤ a → OtherMoved m t a b (Some (record { number = n; left = x }))
 named-moved m t n a b k x here at left = grind (arith, ints)

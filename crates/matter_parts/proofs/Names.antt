@@ -11,16 +11,16 @@ pub use Rattle.matter_rows.proofs.Sums.{total-append, total-with}
 pub use Rattle.matter_rows.specs.Balances.{available, claims, disputed, fees, funds, held, is_against, is_fee, is_general_claim, is_settled, left_at, left_in, left_of, passes, total_of}
 unfoldable pub use Rattle.matter_rows.specs.Balances.{names}
 pub use Rattle.matter_rows.specs.Rows.{Rows, as_made, cleared_head, closed_head, closed_on, entry_at, last_of, role_in, seats_with, seats_without, seen_on, with_entry}
-pub use Rattle.matter_rows.specs.Shares.{AreSmallShares, AreSmallSums, IsSmallShare, IsSmallSum, against_no, draw_on, fund_no, no_shares, number_or_none, shares_of, target}
+pub use Rattle.matter_rows.specs.Shares.{AreSmallShares, IsSmallShare, IsSmallSum, against_no, draw_on, fund_no, no_shares, number_or_none, shares_of, target}
 unfoldable pub use Rattle.matter_rows.specs.Shares.{available_share, claim_share, disputed_share, draw, fee_share, held_share, pending_share, worth}
-pub use Rattle.matter_rows.specs.Sound.{AreBacked, AreDated, AreInOrder, IsAtRestIfClosed, IsBy, IsFundedInTime, IsHeaded, IsRanged, IsRising, Sound}
-pub use Rattle.matter_rows.specs.SoundRows.{AreInForm, IsByIfClosed, IsClosedWithin, IsSoundEntry, IsSoundHead}
+pub use Rattle.matter_rows.specs.Sound.{AreBacked, AreInOrder, IsAtRestIfClosed, IsBy, IsFundedInTime, IsHeaded, IsRanged, IsRising, Sound}
+pub use Rattle.matter_rows.specs.SoundRows.{AreInForm, IsByIfClosed, IsClosedWithin, IsSoundEntry}
 pub use Rattle.matter_rows.specs.declared.entry.Entry.{Entry}
 pub use Rattle.matter_rows.specs.declared.head.Head.{Head}
 pub use Rattle.matter_rows.specs.declared.limits.TheConstants.{MAX_TOTAL}
 pub use Rattle.matter_rows.specs.declared.seat.Seat.{Seat}
 pub use Rattle.matter_rows.specs.declared.shares.Shares.{Shares}
-pub use Rattle.std.proofs.Common.{All, Bool, Bor, Err, Global, IfNone, IfSome, List, None, Ok, OnOk, Option, Result, Some, Vec, [], ap, arith, cond, drop, eqb, false, get_or, inl, inr, is_some, length, length-append, ltb, not, of_z, pos, refl, replicate, rules, subst, suc, sym, take, to_z, true, w64, zero, ℕ, ℤ, ◌++◌, ◌+ℤ◌, ◌+◌, ◌-ℤ◌, ◌-◌, ◌<◌, ◌==◌, ◌||◌, ◌↔◌, ◌∙◌, ◌∷◌, ◌≡◌, ◌≢◌, ◌≤ℤ◌, ◌≤◌, ◌⊎◌}
+pub use Rattle.std.proofs.Common.{All, Bool, Bor, IfSome, List, None, OnOk, Option, Result, Some, [], ap, arith, cond, drop, eqb, false, get_or, inl, inr, is_some, length, length-append, ltb, of_z, pos, refl, replicate, rules, subst, suc, sym, take, to_z, true, w64, zero, ℕ, ℤ, ◌++◌, ◌+ℤ◌, ◌+◌, ◌-ℤ◌, ◌-◌, ◌<◌, ◌==◌, ◌||◌, ◌↔◌, ◌∙◌, ◌∷◌, ◌≡◌, ◌≢◌, ◌≤ℤ◌, ◌≤◌, ◌⊎◌}
 pub use Rattle.std.proofs.Math.ListN.{set}
 pub use Rattle.std.proofs.lemmas.Bool.{false≢true}
 pub use Rattle.std.proofs.lemmas.Bool.Decides.{nat_tests}

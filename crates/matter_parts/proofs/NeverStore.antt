@@ -1,10 +1,7 @@
 -- Store is never answered for a part of backed rows.
-use Rattle.matter_parts.proofs.Names.{◌≡◌, ℕ, Bool, true, List, [], refl, sym, subst, Option, Some, None, ◌⊎◌, inl, inr, arith, length, Entry, passes, names, funds, is_against, is_fee, is_settled, Rows, entry_at, target, fund_no, against_no, AreBacked, Edit, TotalsAfter, AreSmallTotals, EditMoved, NoneMoved, Part, no_figures, IsPart, is_held_or_none}
-use Rattle.matter_rows.specs.declared.entry.Entry.TheVariants as entry
+use Rattle.matter_parts.proofs.Names.{◌≡◌, ℕ, Bool, true, List, [], Option, Some, None, ◌⊎◌, arith, length, Entry, passes, names, funds, is_against, is_fee, is_settled, Rows, entry_at, target, fund_no, against_no, AreBacked, Edit, TotalsAfter, AreSmallTotals, EditMoved, NoneMoved, Part, no_figures, IsPart, is_held_or_none, held, Seat}
 use Rattle.matter_rows.specs.declared.payment.Fund.{Fund}
-use Rattle.matter_rows.specs.declared.payment.Fund.TheVariants as fund
 use Rattle.matter_rows.specs.declared.claim.Against.{Against}
-use Rattle.matter_rows.specs.declared.claim.Against.TheVariants as against
 use Rattle.matter_parts.specs.declared.edit.Edit.TheVariants as edit
 use Rattle.matter_parts.proofs.Existence.{IsKeptOrNone, small-figures, small-none, exist-append, exist-exchange, held-kept}
 use Rattle.matter_parts.proofs.Editing.{MayEdit, backed-none}
@@ -31,8 +28,7 @@ no-entry : (m : Part) (rows : Rows) → AreBacked rows.entries → IsPart m rows
 no-entry m rows s p no-move =
     let small = small-figures m.figures rows.entries p.figures s in
     no-move (record { figures = m.figures; left = 0; other = None })
-    (record { figures = small; left = omega arith; other = small-none })
-    (record { figures = refl; left = refl; other = refl })
+    (record { figures = small; left = omega arith; other = small-none }) assumption
 
 pub never-store : (m : Part) (rows : Rows) (t n : ℕ) (e : Edit) → AreBacked rows.entries → IsPart m rows → MayEdit rows.entries t n e → is_held_or_none m t ≡ true → is_held_or_none m n ≡ true → ((v : TotalsAfter) → AreSmallTotals v → EditMoved m e v → ⊥) → ⊥
 never-store m rows t n edit.Nothing s p may ht hn = no-entry m rows s p
@@ -41,15 +37,13 @@ never-store m rows t n (edit.Seat x) s p may ht hn = no-entry m rows s p
 never-store m rows t n (edit.Unseat q) s p may ht hn = no-entry m rows s p
 never-store m rows t n (edit.Close d) s p may ht hn = no-entry m rows s p
 never-store m rows t n (edit.Clear d) s p may ht hn = λ no-move.
-    let small = small-figures no_figures [] figures-none backed-none in
     no-move (record { figures = no_figures; left = 0; other = None })
-    (record { figures = small; left = omega arith; other = small-none })
-    (record { figures = refl; left = refl; other = refl })
+    (record { figures = small-figures no_figures [] figures-none backed-none; left = omega arith; other = small-none })
+    assumption
 never-store m rows t n (edit.Append x) s p may ht hn = λ no-move.
     let v = exist-append m rows.entries x p.figures p.kept s may.0 may.1 (named-kept m rows.entries x.entry t p.figures.entries may.1.named ht may.2) in
     no-move v.0 v.1 v.2
 never-store m rows t n (edit.Exchange x) s p may ht hn = λ no-move.
-    let P : ℕ → Type 0 = λ k. is_held_or_none m k ≡ true in
-    let own = held-kept m rows.entries x.number may.0 p.figures.entries may.1.at (subst P (sym may.3) hn) in
+    let own = held-kept m rows.entries x.number may.0 p.figures.entries may.1.at (rw may.3 hn) in
     let v = exist-exchange m rows.entries x may.0 own.0 p.figures p.kept s may.1 own.1 (named-kept m rows.entries x.entry t p.figures.entries may.1.named ht may.2) in
     no-move v.0 v.1 v.2

@@ -1,6 +1,6 @@
 -- Whole rows are sound where each of their tests passes, and only there.
 use Rattle.std.specs.Prelude.{find, is_some}
-use Rattle.matter_parts.proofs.Names.{AllByRecursion, ◌≡◌, ℕ, ◌≤◌, ◌==◌, eqb, cond, true, false, List, [], ◌∷◌, length, refl, sym, subst, arith, Option, Some, None, pos, ◌≤ℤ◌, All, ints, All-head, All-tail, Head, Seat, Entry, entry_at, closed_on, available, left_of, names, AreBacked, AreInOrder, IsAtRestIfClosed, IsRanged, IsBy, IsRising, IsFundedInTime, Sound, IsByIfClosed, IsSoundEntry, IsClosedWithin, AreInForm, MAX_TOTAL, total-covered, within, all-map, Figures, Kept, AreEmptyIfClosed, AreFigures, AreKept, AreNumbered, entries_kept, kept_in}
+use Rattle.matter_parts.proofs.Names.{AllByRecursion, ◌≡◌, ℕ, ◌≤◌, ◌==◌, true, List, [], ◌∷◌, length, refl, subst, arith, Option, Some, None, pos, ◌≤ℤ◌, All, ints, All-head, All-tail, Head, Seat, Entry, entry_at, closed_on, available, left_of, names, AreBacked, AreInOrder, IsAtRestIfClosed, IsRanged, IsBy, IsRising, IsFundedInTime, Sound, IsByIfClosed, IsSoundEntry, IsClosedWithin, AreInForm, MAX_TOTAL, total-covered, within, all-map, Figures, Kept, AreEmptyIfClosed, AreFigures, AreKept, AreNumbered, entries_kept, kept_in, more, nat_tests}
 use Rattle.matter_parts.proofs.AllKept.{kept-numbered, length-kept}
 use Rattle.matter_parts.proofs.StepForms.{rows-of}
 
@@ -56,13 +56,8 @@ lefts-of es ks entries numbered own n e at =
         omega (arith, ints, left)
 
 pub backed-of : (head : Option Head) (seats : List Seat) (es : List Entry) (f : Figures) (ks : List Kept) → length es ≤ 9_999 → AreInForm head seats es → pos f.available ≡ available es → entries_kept ks ≡ es → AreNumbered 1 ks → AreKept ks es → AreBacked es
-backed-of head seats es f ks few form is entries numbered own = record {
-  few = few;
-  ranged = each-of (λ l e. IsRanged e) head seats es (λ h e i. i.ranged) form;
-  named = named-of head seats es form;
-  available = omega (arith, ints, is);
-  left = lefts-of es ks entries numbered own;
-}
+backed-of head seats es f ks few form is entries numbered own =
+    grind (arith, ints, each-of, named-of, lefts-of, (each-of (λ l e. IsRanged e) head seats es))
 
 rest-of : (closed : Option ℕ) (es : List Entry) (h : Head) (f : Figures) → AllByRecursion (λ e. names es e ≡ true) es → AreFigures f es → AreEmptyIfClosed closed f → IsClosedWithin h.opened h.last closed → AllByRecursion (IsByIfClosed closed) es → IsAtRestIfClosed h closed es
 rest-of None es h f named a empty between all = tt
@@ -76,10 +71,6 @@ sound-of head seats es f order form backed a empty = grind (arith, ints, each-of
 pub lefts-within : (ks : List Kept) → All (λ k. k.left ≤ MAX_TOTAL) ks → (n : ℕ) (k : Kept) → find (λ j. j.number == n) ks ≡ Some k → k.left ≤ MAX_TOTAL
 lefts-within [] all n k found = absurd (cc)
 lefts-within (j ∷ ks) all n k found =
-    elim (eqb j.number n) as (λ b. cond b (Some j) (find (λ i. i.number == n) ks) ≡ Some k → k.left ≤ MAX_TOTAL) [
-      | true ↦ λ g.
-          let same : j ≡ k = cc in
-          let P : Kept → Type 0 = λ x. x.left ≤ MAX_TOTAL in
-          subst P same (All-head P j ks all)
-      | false ↦ λ g. lefts-within ks (All-tail (λ (x : Kept). x.left ≤ MAX_TOTAL) j ks all) n k g
-    ] found
+    let here = All-head (λ (x : Kept). x.left ≤ MAX_TOTAL) j ks all in
+    let more = lefts-within ks (All-tail (λ (x : Kept). x.left ≤ MAX_TOTAL) j ks all) n k in
+    grind (arith, nat_tests)

@@ -224,6 +224,7 @@ pub fn set_left(kept: &mut KeptEntries, given: Option<Left>)
 }
 
 // Returns the entry at an index, with its number and what is left of it. `Store` if what is left is out of range.
+#[tactic(auto, using(std::proofs::lemmas::Int::ints))]
 fn kept_at(entries: &[Entry], place: usize) -> Result<Kept, StoreFault>
     requires few { length entries.now ≤ MAX_ENTRY }
     requires there { place < length entries.now }

@@ -19,9 +19,6 @@ pub made-by : (day : ℕ) (e : Entry) → IsBy day e → book_day e ≤ day
 unfolding days_of
 made-by day e h = h.0
 
-pub made-on : (e : Entry) → book_day (as_made e) ≡ book_day e
-made-on e = grind (arith)
-
 made-append : (from last : ℕ) (es : List Entry) (x : Entry) → AreRising from (map book_day es) → AllByRecursion (IsBy last) es → from ≤ last → last ≤ book_day x → AreRising from (map book_day (es ++ x ∷ []))
 made-append from last [] x up by before after = (omega (arith, before, after), tt)
 made-append from last (e ∷ es) x up by before after = (up.0, made-append (book_day e) last es x up.1 by.1 (made-by last e by.0) after)
@@ -43,7 +40,7 @@ pub dated-append : (h : Head) (es : List Entry) (x : Entry) (last : ℕ) → Are
 dated-append h es x last d from by rising = grind (arith, made-by, all-append, all-by-later, made-append)
 
 pub dated-with : (h : Head) (es : List Entry) (n : ℕ) (old x : Entry) (last : ℕ) → AreDated h es → entry_at es n ≡ Some old → as_made x ≡ as_made old → h.last ≤ last → IsBy last x → IsRising x → AreDated (record h { last = last }) (with_entry es n x)
-dated-with h es n old x last d at same later by rising = grind (arith, made-on, map-with, all-with, all-by-later)
+dated-with h es n old x last d at same later by rising = grind (arith, map-with, all-with, all-by-later)
 
 -- the entry of a number was made by the last day
 pub made-before : (h : Head) (es : List Entry) (n : ℕ) (e : Entry) → AreDated h es → entry_at es n ≡ Some e → book_day e ≤ h.last

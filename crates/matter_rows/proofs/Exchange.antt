@@ -1,5 +1,5 @@
 -- What is left of all fees (or claims) together is a sum of one share per entry.
-use Rattle.matter_rows.proofs.Names.{AllByRecursion, zero, suc, ◌≡◌, ℕ, ◌+◌, ◌-◌, ◌<◌, ◌≤◌, ◌==◌, Bool, true, false, cond, List, [], ◌∷◌, refl, sym, ◌∙◌, arith, ℤ, pos, ◌+ℤ◌, ◌-ℤ◌, Option, eqb, ints, nat_tests, Entry, Fund, Against, total_of, left_of, lefts_from, passes, names, funds, is_against, is_fee, is_settled, is_general_claim, is_general, fees, claims, entry_at, draw, draw_on, target, worth, fee_share, claim_share, has_settled, on_fee, off_fee, paid, fund_no, against_no, from_fee, from_claim, on_general, to_claimant}
+use Rattle.matter_rows.proofs.Names.{AllByRecursion, zero, suc, ◌≡◌, ℕ, ◌+◌, ◌-◌, ◌<◌, ◌≤◌, ◌==◌, Bool, true, false, cond, List, [], ◌∷◌, refl, sym, ◌∙◌, arith, ℤ, pos, ◌+ℤ◌, ◌-ℤ◌, Option, eqb, ints, nat_tests, Entry, total_of, left_of, lefts_from, passes, names, is_fee, is_general_claim, fees, claims, entry_at, draw, draw_on, target, worth, fee_share, claim_share, on_fee, off_fee, paid, from_fee, from_claim, to_claimant}
 use Rattle.matter_rows.specs.declared.entry.Entry.TheVariants as entry
 use Rattle.matter_rows.proofs.Sums.{total-add, total-zero}
 
@@ -62,27 +62,8 @@ at-one : (kind : Entry → Bool) (es : List Entry) (t : ℕ) → kind_at kind 1 
 at-one kind es zero = kind_at-below kind 1 es 0 (omega arith) ∙ sym (none-at-zero kind es)
 at-one kind es (suc t) = grind (arith, ints, nat_tests, kind_at-is)
 
--- the kinds exclude each other
-settled-no-fee : (o : Option Entry) → passes is_settled o ≡ true → passes is_fee o ≡ false
-settled-no-fee o h = grind (arith, ints, nat_tests)
-
-settled-general : (o : Option Entry) → passes is_settled o ≡ true → passes is_general_claim o ≡ true
-settled-general o h = grind (arith, ints, nat_tests, has_settled)
-
 fee-no-claim : (o : Option Entry) → passes is_fee o ≡ true → passes is_general_claim o ≡ false
 fee-no-claim o h = grind (arith, ints, nat_tests)
-
-fee-fund : (es : List Entry) (f : Fund) (z : ℤ) → funds es f ≡ true → cond (passes is_fee (entry_at es (fund_no f))) z (pos 0) ≡ from_fee f z
-fee-fund es f z h = grind (arith, ints, nat_tests, none-at-zero, settled-no-fee)
-
-claim-fund : (es : List Entry) (f : Fund) (z : ℤ) → funds es f ≡ true → cond (passes is_general_claim (entry_at es (fund_no f))) z (pos 0) ≡ from_claim f z
-claim-fund es f z h = grind (arith, ints, nat_tests, none-at-zero, fee-no-claim, settled-general)
-
-fee-against : (es : List Entry) (a : Against) (z : ℤ) → is_against es a ≡ true → cond (passes is_fee (entry_at es (against_no a))) (on_fee a z) (pos 0) ≡ on_fee a z
-fee-against es a z h = grind (arith, ints, nat_tests, cond-same)
-
-claim-against : (es : List Entry) (a : Against) (z : ℤ) → is_against es a ≡ true → cond (passes is_general_claim (entry_at es (against_no a))) (on_fee a z) (pos 0) ≡ pos 0
-claim-against es a z h = grind (arith, ints, nat_tests, cond-same, fee-no-claim)
 
 -- what an entry draws on the fees, and on the claims on the general fund
 abbrev fee_draw : Entry → ℤ
@@ -99,11 +80,11 @@ claim_draw (entry.Claim c) = pos 0
 
 fee-drawn : (es : List Entry) (e : Entry) → names es e ≡ true → cond (passes is_fee (entry_at es (target e))) (draw e) (pos 0) ≡ fee_draw e
 unfolding names draw
-fee-drawn es e h = grind (arith, ints, nat_tests, cond-same, fee-fund, paid, fee-against, off_fee)
+fee-drawn es e h = grind (arith, ints, nat_tests, cond-same, none-at-zero, paid, off_fee)
 
 claim-drawn : (es : List Entry) (e : Entry) → names es e ≡ true → cond (passes is_general_claim (entry_at es (target e))) (draw e) (pos 0) ≡ claim_draw e
 unfolding names draw
-claim-drawn es e h = grind (arith, ints, nat_tests, cond-same, claim-fund, paid, claim-against, off_fee)
+claim-drawn es e h = grind (arith, ints, nat_tests, cond-same, none-at-zero, fee-no-claim, paid, off_fee)
 
 fee-picked : (es : List Entry) (e : Entry) → names es e ≡ true → picked is_fee 1 es e ≡ fee_draw e
 fee-picked es e h = grind (arith, ints, nat_tests, picked-is, at-one, fee-drawn)
@@ -115,12 +96,9 @@ fee_share-is : (e : Entry) → fee_share e +ℤ fee_draw e ≡ worth_if is_fee e
 unfolding fee_share worth
 fee_share-is e = grind (arith, ints, nat_tests)
 
-general-worth : (a : Against) (z : ℤ) → on_general a z ≡ cond (is_general a) (on_general a z) (pos 0)
-general-worth a z = grind (arith, ints, nat_tests)
-
 claim_share-is : (e : Entry) → claim_share e +ℤ claim_draw e ≡ worth_if is_general_claim e
 unfolding claim_share worth
-claim_share-is e = grind (arith, ints, nat_tests, general-worth, to_claimant)
+claim_share-is e = grind (arith, ints, nat_tests, to_claimant)
 
 shares-less : (f g : Entry → ℤ) (h : Entry → ℤ) (es : List Entry) → ((e : Entry) → f e +ℤ g e ≡ h e) → total_of f es ≡ total_of h es -ℤ total_of g es
 shares-less f g h [] p = refl

@@ -5,12 +5,12 @@ pub use Rattle.std.proofs.lemmas.Bool.Decides.{nat_tests}
 pub use Rattle.std.proofs.lemmas.Int.{ints}
 pub use Rattle.std.proofs.lemmas.List.{drop_more, length-drop, take_all, take_more}
 pub use Rattle.std.specs.List.{AllByRecursion, filter, insert, position, position_or_len}
-pub use Rattle.matter_rows.specs.Balances.{available, claims, disputed, fees, funds, held, is_against, is_fee, is_general, is_general_claim, is_settled, left_of, lefts_from, passes, total, total_of}
+pub use Rattle.matter_rows.specs.Balances.{available, claims, disputed, fees, funds, held, is_fee, is_general, is_general_claim, is_settled, left_of, lefts_from, passes, total, total_of}
 unfoldable pub use Rattle.matter_rows.specs.Balances.{names}
 pub use Rattle.matter_rows.specs.Rows.{as_made, book_day, comes_before, entry_amount, entry_at, role_in, seat_of, seats_with, seats_without, with_entry}
 pub use Rattle.matter_rows.specs.Shares.{AreSmallSums, IsSmallShare, IsSmallSum, against_no, apart, cleared_deposit, draw_on, from_claim, from_fee, from_general, fund_no, has_settled, held_deposit, off_fee, on_fee, on_general, paid, pending_payment, target, to_claimant, to_client}
 unfoldable pub use Rattle.matter_rows.specs.Shares.{available_share, claim_share, disputed_share, draw, fee_share, held_share, pending_share, total_share, worth}
-pub use Rattle.matter_rows.specs.Sound.{AreBacked, AreDated, AreInOrder, AreRising, IsAtRestIfClosed, IsBare, IsBy, IsFundedInTime, IsRanged, IsRising, claim_days, day_settled, funded_from, part_of, settlement_day}
+pub use Rattle.matter_rows.specs.Sound.{AreBacked, AreDated, AreInOrder, AreRising, IsAtRestIfClosed, IsBare, IsBy, IsFundedInTime, IsRanged, IsRising, part_of, settlement_day}
 unfoldable pub use Rattle.matter_rows.specs.Sound.{days_of}
 pub use Rattle.matter_rows.specs.SoundRows.{IsSoundEntry}
 pub use Rattle.matter_rows.specs.declared.claim.Against.{Against}

@@ -1,37 +1,21 @@
 -- The seats by person, after one is added or given up.
-use Rattle.std.specs.declared.cmp.Ordering.{Ordering}
-use Rattle.std.specs.declared.cmp.Ordering.TheVariants.{Less, Equal, Greater}
-use Rattle.matter_rows.proofs.Names.{AllByRecursion, filter, insert, position, position_or_len, suc, ◌≡◌, ℕ, ◌+◌, ◌≤◌, not, Bool, true, false, cond, List, [], ◌∷◌, ◌++◌, length, refl, ap, sym, ◌∙◌, arith, Some, None, Seat, comes_before, role_in, seat_of, seats_with, AreInOrder}
+use Rattle.matter_rows.proofs.Names.{AllByRecursion, filter, insert, position, position_or_len, suc, ◌≡◌, ℕ, ◌+◌, ◌≤◌, not, Bool, true, false, cond, List, [], ◌∷◌, ◌++◌, length, refl, ap, ◌∙◌, arith, Some, None, Seat, comes_before, role_in, seat_of, seats_with, AreInOrder}
 use Rattle.std.specs.Option.{option_map}
 use Rattle.std.specs.Str.{bytes_eq}
-use Rattle.std.specs.Cmp.Lexicographic.{slice_cmp}
-use Rattle.std.specs.Ordering.{nat_cmp, is_lt, is_eq, ordering_reverse}
 use Rattle.std.proofs.lemmas.Cmp.{nat_list_cmp_total}
 use Rattle.std.proofs.lemmas.Map.Text.{is_eq-slice_cmp}
 use Rattle.matter_rows.proofs.Places.{place-some, place-none}
 
 -- The order of names.
 
-abbrev by_bytes : List ℕ → List ℕ → Ordering
-by_bytes a b = slice_cmp nat_cmp a b
-
-less : (o : Ordering) → is_lt o ≡ true → o ≡ Less
-less o h = grind (arith)
-
-never-both : (o : Ordering) → is_lt o ≡ true → is_lt (ordering_reverse o) ≡ false
-never-both o h = grind (arith)
-
-one-or-other : (o : Ordering) → is_lt o ≡ false → is_eq o ≡ false → is_lt (ordering_reverse o) ≡ true
-one-or-other o h g = grind (arith)
-
 before-trans : (a b c : List ℕ) → comes_before a b ≡ true → comes_before b c ≡ true → comes_before a c ≡ true
-before-trans a b c h g = ap is_lt (nat_list_cmp_total.trans a b c (less (by_bytes a b) h) (less (by_bytes b c) g))
+before-trans a b c h g = grind (arith, (nat_list_cmp_total.trans a b c))
 
 pub before-antisym : (a b : List ℕ) → comes_before a b ≡ true → comes_before b a ≡ false
-before-antisym a b h = ap is_lt (nat_list_cmp_total.antisymm b a) ∙ never-both (by_bytes a b) h
+before-antisym a b h = grind (arith, (nat_list_cmp_total.antisymm b a))
 
 pub before-total : (a b : List ℕ) → comes_before a b ≡ false → bytes_eq a b ≡ false → comes_before b a ≡ true
-before-total a b h g = ap is_lt (nat_list_cmp_total.antisymm b a) ∙ one-or-other (by_bytes a b) h (is_eq-slice_cmp a b ∙ g)
+before-total a b h g = grind (arith, (nat_list_cmp_total.antisymm b a), (is_eq-slice_cmp a b))
 
 -- A seat in its place.
 
@@ -63,13 +47,7 @@ no-seat s ss p h = grind (arith, option_map, seat_of)
 
 pub bytes_eq-swap : (a b : List ℕ) → bytes_eq a b ≡ false → bytes_eq b a ≡ false
 bytes_eq-swap a b h =
-    let e : is_eq (ordering_reverse (by_bytes a b)) ≡ is_eq (by_bytes a b) = reversed (by_bytes a b) in
-    sym (is_eq-slice_cmp b a) ∙ ap is_eq (nat_list_cmp_total.antisymm b a) ∙ e ∙ is_eq-slice_cmp a b ∙ h
-  where
-    reversed : (o : Ordering) → is_eq (ordering_reverse o) ≡ is_eq o
-    reversed Less = refl
-    reversed Equal = refl
-    reversed Greater = refl
+    grind (arith, (is_eq-slice_cmp a b), (is_eq-slice_cmp b a), (nat_list_cmp_total.antisymm b a))
 
 at-place : (ss : List Seat) (new : Seat) → AreInOrder ss → role_in ss new.person ≡ None → insert ss (place ss new.person) new ≡ seats_with ss new
 at-place [] new order none = refl
@@ -95,3 +73,5 @@ seated-at ss new i h order none = ap (λ j. insert ss j new) (place-some (stands
 
 pub seated-last : (ss : List Seat) (new : Seat) → None ≡ position (stands_after new.person) ss → role_in ss new.person ≡ None → ss ++ new ∷ [] ≡ seats_with ss new
 seated-last ss new h none = at-end ss new none (place-none (stands_after new.person) ss h)
+
+pub ruleset seat_steps = (seated-at, seated-last)

@@ -1,8 +1,9 @@
 -- For a part of sound rows there is always a change in range, so Store is never answered.
-use Rattle.matter_rows.proofs.Names.{AllByRecursion, zero, suc, ◌≡◌, ℕ, ◌+◌, ◌-◌, ◌*◌, ◌<◌, ◌≤◌, Bool, true, false, cond, List, [], ◌∷◌, length, refl, sym, arith, subst, Some, eqb, ℤ, pos, negsuc, ◌+ℤ◌, ◌≤ℤ◌, ints, nat_tests, Entry, PaymentState, ClaimState, total_of, left_of, lefts_from, is_fee, is_general_claim, available, held, disputed, fees, claims, draw, draw_on, target, worth, available_share, held_share, disputed_share, fee_share, claim_share, pending_share, paid, apart, to_client, to_claimant, off_fee, on_fee, on_general, from_general, from_fee, from_claim, held_deposit, cleared_deposit, pending_payment, entry_at, AreBacked, IsRanged, part_of}
+use Rattle.matter_rows.proofs.Names.{AllByRecursion, ◌≡◌, ℕ, ◌+◌, ◌-◌, ◌*◌, ◌≤◌, Bool, List, [], ◌∷◌, length, refl, arith, Some, ℤ, pos, negsuc, ◌≤ℤ◌, ints, nat_tests, Entry, ClaimState, total_of, left_of, lefts_from, is_fee, is_general_claim, available, held, disputed, fees, claims, draw, draw_on, worth, available_share, held_share, disputed_share, fee_share, claim_share, pending_share, to_client, to_claimant, off_fee, on_fee, on_general, from_general, from_fee, from_claim, held_deposit, cleared_deposit, pending_payment, entry_at, AreBacked, IsRanged, part_of}
 use Rattle.matter_rows.specs.declared.entry.Entry.TheVariants as entry
 use Rattle.matter_rows.specs.declared.limits.TheConstants.{MAX_TOTAL}
-use Rattle.matter_rows.proofs.Entries.{all-at}
+use Rattle.matter_rows.proofs.Entries.{all-at, within}
+use Rattle.matter_rows.proofs.Sums.{total-least}
 use Rattle.matter_rows.proofs.Exchange.{fees-by_share, claims-by_share}
 
 -- each share of an entry in range is small, and some are never below zero
@@ -18,12 +19,6 @@ pending-few : (e : Entry) → Few (pending_share e) × (pos 0 ≤ℤ pending_sha
 unfolding pending_share
 pending-few e = grind (arith, ints, nat_tests, pending_payment)
 
-paid-few : (s : PaymentState) (a : ℕ) → pos 0 ≤ℤ paid s a
-paid-few s a = grind (arith, ints, nat_tests)
-
-apart-few : (s : ClaimState) (a : ℕ) → (apart s a ≤ℤ pos a) × (pos 0 ≤ℤ apart s a)
-apart-few s a = grind (arith, ints, nat_tests)
-
 client-few : (s : ClaimState) (a : ℕ) → part_of s ≤ a → (to_client s ≤ℤ pos a) × (pos 0 ≤ℤ to_client s)
 client-few s a h = grind (arith, ints, nat_tests)
 
@@ -32,22 +27,22 @@ claimant-few s a h = grind (arith, ints, nat_tests)
 
 disputed-few : (e : Entry) → IsRanged e → Few (disputed_share e) × (pos 0 ≤ℤ disputed_share e)
 unfolding disputed_share
-disputed-few e r = grind (arith, ints, nat_tests, apart-few, on_fee)
+disputed-few e r = grind (arith, ints, nat_tests, on_fee)
 
 available-few : (e : Entry) → IsRanged e → Few (available_share e)
 unfolding available_share
 available-few (entry.Deposit d) r = grind (arith, ints, nat_tests, cleared_deposit)
-available-few (entry.Payment p) r = grind (arith, ints, nat_tests, paid-few, from_general)
+available-few (entry.Payment p) r = grind (arith, ints, nat_tests, from_general)
 available-few (entry.Fee f) r = omega (arith, ints)
 available-few (entry.Claim c) r = grind (arith, ints, nat_tests, client-few, claimant-few, on_fee, on_general)
 
 fee-few : (e : Entry) → IsRanged e → Few (fee_share e)
 unfolding fee_share
-fee-few e r = grind (arith, ints, nat_tests, paid-few, from_fee, client-few, apart-few, on_fee, off_fee)
+fee-few e r = grind (arith, ints, nat_tests, from_fee, client-few, on_fee, off_fee)
 
 claim-few : (e : Entry) → IsRanged e → Few (claim_share e)
 unfolding claim_share
-claim-few e r = grind (arith, ints, nat_tests, paid-few, from_claim, claimant-few, on_general)
+claim-few e r = grind (arith, ints, nat_tests, from_claim, claimant-few, on_general)
 
 -- sums of small shares
 
@@ -59,26 +54,17 @@ sum-least : (f : Entry → ℤ) (es : List Entry) → ((e : Entry) → IsRanged 
 sum-least f [] h r = omega (arith, ints)
 sum-least f (e ∷ es) h r = omega (arith, ints, sum-least f es h r.1, h e r.0)
 
-lefts-least : (kind : Entry → Bool) (es : List Entry) (n : ℕ) (part : List Entry) → 0 < n → ((i : ℕ) (e : Entry) → entry_at part i ≡ Some e → pos 0 ≤ℤ left_of es (n + i - 1) e) → pos 0 ≤ℤ lefts_from kind es n part
-lefts-least kind es n [] p h = omega (arith, ints)
-lefts-least kind es n (e ∷ part) p h =
-    let one : n + 1 - 1 ≡ n = omega arith in
-    let P : ℕ → Type 0 = λ k. pos 0 ≤ℤ left_of es k e in
-    let first = subst P one (h 1 e refl) in
-    let more = lefts-least kind es (n + 1) part (omega arith) (λ i x g.
-    elim i as (λ j. entry_at part j ≡ Some x → pos 0 ≤ℤ left_of es (n + 1 + j - 1) x) [
-      | zero ↦ λ q. absurd (none-zero part x q)
-      | suc j ↦ λ q.
-          let at : entry_at (e ∷ part) (suc (suc j)) ≡ Some x = let no-one : eqb (suc (suc j)) 1 ≡ false = grind (arith, nat_tests) in let less : suc (suc j) - 1 ≡ suc j = omega arith in rw no-one (rw less q) in
-          let same : n + suc (suc j) - 1 ≡ n + 1 + suc j - 1 = omega arith in
-          let Q : ℕ → Type 0 = λ k. pos 0 ≤ℤ left_of es k x in
-          subst Q same (h (suc (suc j)) x at)
-    ] g) in
-    elim (kind e) as (λ b. pos 0 ≤ℤ (cond b (left_of es n e) (pos 0) +ℤ lefts_from kind es (n + 1) part)) [ true ↦ omega (arith, ints, first, more) | false ↦ omega (arith, ints, more) ]
-  where
-    none-zero : (es : List Entry) (x : Entry) → entry_at es 0 ≡ Some x → ⊥
-    none-zero [] x q = cc
-    none-zero (e ∷ es) x q = none-zero es x q
+next-left : (es part : List Entry) (n : ℕ) (e : Entry)
+    → ((i : ℕ) (x : Entry) → entry_at (e ∷ part) i ≡ Some x → pos 0 ≤ℤ left_of es (n + i - 1) x)
+    → (i : ℕ) (x : Entry) → entry_at part i ≡ Some x → pos 0 ≤ℤ left_of es (n + 1 + i - 1) x
+next-left es part n e h i x at = grind (arith, ints, nat_tests, within, (h (i + 1) x))
+
+lefts-least : (kind : Entry → Bool) (es : List Entry) (n : ℕ) (part : List Entry)
+    → ((i : ℕ) (e : Entry) → entry_at part i ≡ Some e → pos 0 ≤ℤ left_of es (n + i - 1) e)
+    → pos 0 ≤ℤ lefts_from kind es n part
+lefts-least kind es n [] h = omega (arith, ints)
+lefts-least kind es n (e ∷ part) h =
+    grind (arith, ints, (h 1 e refl), (lefts-least kind es (n + 1) part (next-left es part n e h)))
 
 -- a number for a sum
 -- z as a natural number, 0 below zero
@@ -86,16 +72,13 @@ abbrev pub natural : ℤ → ℕ
 natural (pos n) = n
 natural (negsuc n) = 0
 
-is-natural : (z : ℤ) → pos 0 ≤ℤ z → pos (natural z) ≡ z
-is-natural z h = grind (arith, ints, nat_tests)
-
 -- a balance of sound entries, as a number in range
 pub record IsBalance (z : ℤ) : Type 0 where
   pub is : pos (natural z) ≡ z
   pub small : natural z ≤ MAX_TOTAL
 
 balance : (z : ℤ) (n : ℕ) → n ≤ 9_999 → pos 0 ≤ℤ z → z ≤ℤ pos (n * 99_999_999_999) → IsBalance z
-balance z n few low high = grind (arith, ints, nat_tests, is-natural)
+balance z n few low high = grind (arith, ints, nat_tests)
 
 pub held-balance : (es : List Entry) → AreBacked es → IsBalance (held es)
 held-balance es s = balance (held es) (length es) s.few (sum-least held_share es (λ e r. (held-few e r).1) s.ranged) (sum-few held_share es (λ e r. (held-few e r).0) s.ranged)
@@ -110,7 +93,7 @@ pub available-balance : (es : List Entry) → AreBacked es → IsBalance (availa
 available-balance es s = balance (available es) (length es) s.few s.available (sum-few available_share es available-few s.ranged)
 
 lefts-sound : (kind : Entry → Bool) (es : List Entry) → AreBacked es → pos 0 ≤ℤ lefts_from kind es 1 es
-lefts-sound kind es s = lefts-least kind es 1 es (omega arith) (λ i e h. let same : 1 + i - 1 ≡ i = omega arith in let P : ℕ → Type 0 = λ k. pos 0 ≤ℤ left_of es k e in subst P (sym same) (s.left i e h))
+lefts-sound kind es s = lefts-least kind es 1 es (λ i e at. grind (arith, (s.left i e at)))
 
 pub fees-balance : (es : List Entry) → AreBacked es → IsBalance (fees es)
 fees-balance es s = balance (fees es) (length es) s.few (lefts-sound is_fee es s) (let f = fees-by_share es s.named in let g = sum-few fee_share es fee-few s.ranged in omega (arith, ints, f, g))
@@ -118,14 +101,9 @@ fees-balance es s = balance (fees es) (length es) s.few (lefts-sound is_fee es s
 pub claims-balance : (es : List Entry) → AreBacked es → IsBalance (claims es)
 claims-balance es s = balance (claims es) (length es) s.few (lefts-sound is_general_claim es s) (let f = claims-by_share es s.named in let g = sum-few claim_share es claim-few s.ranged in omega (arith, ints, f, g))
 
-draw-least : (e : Entry) → pos 0 ≤ℤ draw e
+draw-least : (n : ℕ) (e : Entry) → pos 0 ≤ℤ draw_on n e
 unfolding draw
-draw-least e = grind (arith, ints, nat_tests, paid-few, apart-few, on_fee, off_fee)
-
-draws-least : (n : ℕ) (es : List Entry) → pos 0 ≤ℤ total_of (draw_on n) es
-draws-least n [] = omega (arith, ints)
-draws-least n (e ∷ es) =
-    grind (arith, ints, nat_tests, (draw-least e), (eqb (target e) n), (target e), (draws-least n es))
+draw-least n e = grind (arith, ints, nat_tests, on_fee, off_fee)
 
 worth-few : (e : Entry) → IsRanged e → Few (worth e)
 unfolding worth
@@ -135,4 +113,5 @@ worth-few e r = grind (arith, ints, nat_tests, claimant-few, on_general)
 pub left-balance : (es : List Entry) (n : ℕ) (e : Entry) → AreBacked es → entry_at es n ≡ Some e → IsBalance (left_of es n e)
 left-balance es n e s at =
     balance (left_of es n e) 1 (omega arith) (s.left n e at)
-    (let w = worth-few e (all-at IsRanged es n e s.ranged at) in let d = draws-least n es in omega (arith, ints, w, d))
+    (let w = worth-few e (all-at IsRanged es n e s.ranged at) in
+    omega (arith, ints, w, total-least (draw_on n) es (draw-least n)))

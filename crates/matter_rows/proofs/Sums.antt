@@ -1,5 +1,5 @@
 -- One law for all balances: a change of one entry moves a sum by that entry's share.
-use Rattle.matter_rows.proofs.Names.{◌≡◌, ℕ, ◌-◌, ◌*◌, ◌==◌, true, false, cond, List, [], ◌∷◌, ◌++◌, length, refl, ap, arith, ℤ, pos, ◌+ℤ◌, ◌≤ℤ◌, Some, ints, Entry, total_of, entry_at, with_entry}
+use Rattle.matter_rows.proofs.Names.{◌≡◌, ℕ, ◌-◌, ◌==◌, true, false, cond, List, [], ◌∷◌, ◌++◌, refl, ap, arith, ℤ, pos, ◌+ℤ◌, ◌≤ℤ◌, Some, ints, Entry, total_of, entry_at, with_entry}
 
 pub total-append : (f : Entry → ℤ) (es : List Entry) (e : Entry) → total_of f (es ++ e ∷ []) ≡ total_of f es +ℤ f e
 total-append f [] e = omega (arith, ints)
@@ -21,16 +21,6 @@ total-add f g (e ∷ es) = omega (arith, ints, total-add f g es)
 pub total-zero : (es : List Entry) → total_of (λ _. pos 0) es ≡ pos 0
 total-zero [] = refl
 total-zero (e ∷ es) = omega (arith, ints, total-zero es)
-
--- sums of shares that agree
-pub total-same : (f g : Entry → ℤ) (es : List Entry) → ((e : Entry) → f e ≡ g e) → total_of f es ≡ total_of g es
-total-same f g [] h = refl
-total-same f g (e ∷ es) h = omega (arith, ints, total-same f g es h, h e)
-
--- a sum of shares of at most m each
-pub total-most : (f : Entry → ℤ) (m : ℕ) (es : List Entry) → ((e : Entry) → f e ≤ℤ pos m) → total_of f es ≤ℤ pos (length es * m)
-total-most f m [] h = omega (arith, ints)
-total-most f m (e ∷ es) h = omega (arith, ints, total-most f m es h, h e)
 
 pub total-least : (f : Entry → ℤ) (es : List Entry) → ((e : Entry) → pos 0 ≤ℤ f e) → pos 0 ≤ℤ total_of f es
 total-least f [] h = omega (arith, ints)

@@ -75,6 +75,7 @@ fn first_after(seats: &Vec<Seat>, person: &PersonId) -> Option<usize>
 }
 
 /// Inserts a seat in its place by person. If memory runs out, the seats are unchanged.
+#[tactic(auto, using(crate::proofs::Seating::seat_steps))]
 pub fn add_seat(seats: &mut Vec<Seat>, new: Seat) -> Result<(), AllocError>
     ensures ok { OnOk result (AreInOrder seats.old.items → role_in seats.old.items new.person ≡ None
         → seats.new.items ≡ seats_with seats.old.items new) }

@@ -21,6 +21,7 @@ pub(crate) fn is_up_to(first: Day, second: Day) -> bool
 }
 
 // The entry with this number. None if it does not exist.
+#[tactic(auto, using(crate::proofs::Tested::place_steps))]
 pub(crate) fn entry_at(entries: &[Entry], number: EntryNo) -> Option<&Entry>
     ensures { option_copied result ≡ entry_at entries.now number }
 {
@@ -43,6 +44,7 @@ pub(crate) fn has_fee(entries: &[Entry], number: EntryNo) -> bool
 }
 
 // Whether each entry is one of a sound matter with this head.
+#[tactic(auto, using(crate::proofs::Tested::rest_steps))]
 fn are_sound(head: &Head, entries: &[Entry]) -> bool
     ensures { IsTrue result ↔ AllByRecursion (IsSoundEntry head.now entries.now) entries.now }
 {
@@ -55,6 +57,7 @@ fn are_sound(head: &Head, entries: &[Entry]) -> bool
 }
 
 // Whether entries were made in order of day, the first not before `from`.
+#[tactic(auto, using(crate::proofs::Tested::rest_steps))]
 fn are_rising(from: Day, entries: &[Entry]) -> bool
     ensures { IsTrue result ↔ AreRising from (map book_day entries.now) }
 {
@@ -70,6 +73,7 @@ fn are_rising(from: Day, entries: &[Entry]) -> bool
 }
 
 /// Whether the seats are sorted by person, byte by byte, without repeats.
+#[tactic(auto, using(crate::proofs::Tested::order_steps))]
 pub fn are_in_order(seats: &[Seat]) -> bool
     ensures { IsTrue result ↔ AreInOrder seats.now }
 {

@@ -1,5 +1,5 @@
 -- Clients that are served in turn.
-use Rattle.portal_http.proofs.Names.{◌≡◌, ◌+◌, ◌<◌, ◌≤◌, ℕ, suc, List, [], ◌∷◌, ◌++◌, Option, take, inl, inr, length, refl, sym, ap, ◌∙◌, subst, arith, length-append, Appends, Appends-nil, Appends-trans, take-append-add, append-nil, Firm, StreamEnd, AreServedInTurn, IsClientServed, KeepsStanding, ServedAll}
+use Rattle.portal_http.proofs.Names.{◌≡◌, ◌+◌, ◌<◌, ◌≤◌, ℕ, suc, List, [], ◌∷◌, ◌++◌, Option, take, length, refl, sym, ap, ◌∙◌, subst, arith, length-append, Appends, Appends-nil, Appends-trans, take-append-add, append-nil, Firm, StreamEnd, AreServedInTurn, IsClientServed, KeepsStanding, ServedAll, ints, nat_tests}
 use Rattle.std.proofs.lemmas.List.Concat.{flat_map-append}
 use Rattle.portal_http.proofs.Calls.{kept-still, kept-then}
 use Rattle.portal_http.specs.Clients.{Comes, Refused}
@@ -18,26 +18,21 @@ module _ {B W : Type 0} (clean sure stands lasts : B → Type 0) (leaves : B →
   pub client-as : (day : ℕ) (comes may : Comes W → Type 0) (old : B) (end : StreamEnd) (new : B) → ((c : Comes W) → comes c → may c)
       → IsClientServed clean sure stands lasts leaves firm refusals contents day comes old end new
       → IsClientServed clean sure stands lasts leaves firm refusals contents day may old end new
-  client-as day comes may old end new also (inl s) = inl (record { stream = s.stream; writer = s.writer; left = s.left; came = also _ s.came; served = s.served })
-  client-as day comes may old end new also (inr a) = inr (record { came = also _ a.came; ended = a.ended; same = a.same })
+  client-as day comes may old end new also x7 = grind (arith, ints, nat_tests)
 
   -- one client more
   pub in-turn-push : (day : ℕ) (comes : ℕ → Comes W → Type 0) (old mid new : B) (ends : List StreamEnd) (end : StreamEnd)
       → AreServedInTurn clean sure stands lasts leaves firm refusals contents day comes old ends mid
       → IsClientServed clean sure stands lasts leaves firm refusals contents day (comes (length ends)) mid end new
       → AreServedInTurn clean sure stands lasts leaves firm refusals contents day comes old (ends ++ end ∷ []) new
-  in-turn-push day comes old mid new [] end same client =
-      (new, subst (λ (b : B). IsClientServed clean sure stands lasts leaves firm refusals contents day (comes 0) b end new) same client, refl)
+  in-turn-push day comes old mid new [] end same client = grind (arith, ints, nat_tests)
   in-turn-push day comes old mid new (e ∷ es) end (next, first, rest) client =
       (next, first, in-turn-push day (λ k. comes (suc k)) next mid new es end rest client)
 
   -- a client leaves the book standing
   pub client-keeps : (day : ℕ) (comes : Comes W → Type 0) (old : B) (end : StreamEnd) (new : B)
       → IsClientServed clean sure stands lasts leaves firm refusals contents day comes old end new → KeepsStanding clean sure stands lasts old new
-  client-keeps day comes old end new (inl stream) =
-      let kept = stream.served.kept in
-      record { was_clean = kept.was_clean; was_sure = kept.was_sure; still_stands = kept.still_stands; still_lasts = kept.still_lasts; cause = λ sure stands. refl }
-  client-keeps day comes old end new (inr gone) = subst (KeepsStanding clean sure stands lasts old) (sym gone.same) (kept-still old)
+  client-keeps day comes old end new x5 = grind (arith, ints, nat_tests, kept-still)
 
 -- so many clients were served, and each one's end was told; what may come of the accepts to come
 pub record ServingAll {B W : Type 0} (clean sure stands lasts : B → Type 0) (leaves : B → Firm → Type 0) (firm : B → Firm) (refusals : B → ℕ)
@@ -81,9 +76,7 @@ module _ {B W : Type 0} (clean sure stands lasts : B → Type 0) (leaves : B →
     module _ (end : StreamEnd) (new : B) (client : IsClientServed clean sure stands lasts leaves firm refusals contents day (coming 0) book end new) where
       -- the clients with this one
       in-turn-more : AreServedInTurn clean sure stands lasts leaves firm refusals contents day comes old (h.ends ++ end ∷ []) new
-      in-turn-more =
-          in-turn-push clean sure stands lasts leaves firm refusals contents day comes old book new h.ends end h.served
-          (client-as clean sure stands lasts leaves firm refusals contents day (coming 0) (comes (length h.ends)) book end new next client)
+      in-turn-more = grind (arith, ints, nat_tests, in-turn-push, client-as, length, next)
 
       more : length (h.ends ++ end ∷ []) ≡ n + 1
       more = length-push h.ends end ∙ ap (λ k. k + 1) h.many

@@ -29,3 +29,5 @@ unfoldable pub use Rattle.portal_http.specs.Answers.{head_text}
 pub use Rattle.portal_http.specs.Served.{AreBehind, AreFirst, IsCut, IsFrontRun, IsRead, IsTail, IsWritten, MayLeaveServed, Served, Serving, last_text, whole_text}
 pub use Rattle.portal_http.specs.ServedAll.{AreServedInTurn, IsClientServed, KeepsStanding, ServedAll}
 pub use Rattle.portal_http.specs.declared.stream.StreamEnd.{StreamEnd}
+pub use Rattle.std.proofs.lemmas.Bool.Decides.{nat_tests}
+pub use Rattle.std.proofs.lemmas.Int.{ints}

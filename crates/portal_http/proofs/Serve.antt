@@ -1,11 +1,11 @@
 -- A stream that is served.
-use Rattle.portal_http.proofs.Names.{◌≡◌, ◌⊎◌, inl, inr, true, false, ◌<◌, ◌+◌, ℕ, List, [], ◌∷◌, ◌++◌, Option, Some, None, length, map, refl, sym, ap, ◌∙◌, subst, arith, length-append, append_assoc, IfSome, append-nil, map-append, Appends, Keeps, Appends-nil, Appends-trans, Refusal, Memory, Firm, Reply, KeepsBook, counted_reply, counted_replies, AreNoFaults, AreNoFaultsButLast, IsMade, IsMadeInRun, MayLeave, before_fault, IsUnstopped, RunsSoundly, Steps, firm_step, Heard, is_fault_reply, refused, runs-covered, kept-as, kept-still, kept-then, leave-as, leave-still, leave-then, fault-front, made-before, made-last, none-at_all, none-before, none-last, plain-step, each-own, RunsSoundly-push, counted-push, sound-runs-are-runs, Message, Began, IsNext, heard_of, replies_bytes, reply_bytes, AreBehind, AreFirst, IsCut, IsFrontRun, IsRead, IsTail, IsWritten, MayLeaveServed, Served, Serving, whole_text, StreamEnd}
+use Rattle.portal_http.proofs.Names.{◌≡◌, ◌⊎◌, inl, inr, true, false, ◌<◌, ◌+◌, ℕ, List, [], ◌∷◌, ◌++◌, Option, Some, None, length, map, refl, sym, ap, ◌∙◌, subst, arith, length-append, append_assoc, IfSome, append-nil, map-append, Appends, Keeps, Appends-nil, Appends-trans, Refusal, Memory, Firm, Reply, KeepsBook, counted_reply, counted_replies, AreNoFaults, AreNoFaultsButLast, IsMade, IsMadeInRun, MayLeave, before_fault, IsUnstopped, RunsSoundly, Steps, firm_step, Heard, is_fault_reply, refused, runs-covered, kept-as, kept-still, kept-then, leave-as, leave-still, leave-then, fault-front, made-before, made-last, none-at_all, none-before, none-last, plain-step, each-own, RunsSoundly-push, counted-push, sound-runs-are-runs, Message, Began, IsNext, heard_of, replies_bytes, reply_bytes, AreBehind, AreFirst, IsCut, IsFrontRun, IsRead, IsTail, IsWritten, MayLeaveServed, Served, Serving, whole_text, StreamEnd, ints, nat_tests}
 use Rattle.std.proofs.lemmas.Grind.{flat_map-append}
 use Rattle.firm_rows.specs.FirmSound.{FirmSound}
 use Rattle.trust_desk.specs.Isolation.{IsOwn}
 use Rattle.trust_desk.specs.NeverBelowZero.{CoveredRun}
 use Rattle.portal_messages.specs.declared.input.Next.TheVariants as nexts
-use Rattle.portal_messages.specs.Messages.{AreMessages, BeginsWithAll, MESSAGE_LIMIT, is_framing}
+use Rattle.portal_messages.specs.Messages.{AreMessages, MESSAGE_LIMIT, is_framing}
 use Rattle.portal_messages.specs.Messages as messages
 use Rattle.portal_messages.proofs.Readings.{begins-push}
 use Rattle.portal_http.specs.declared.stream.StreamEnd.TheVariants as ends
@@ -14,45 +14,28 @@ use Rattle.portal_http.proofs.Fronts.{WroteFront, cut-behind, last-push}
 -- What was read.
 
 began-nil : (a b : Option (List ℕ)) → Keeps a b → Began a [] b
-began-nil None b k = tt
-began-nil (Some xs) None k = absurd k
-began-nil (Some xs) (Some ys) k = k
+began-nil a b k = grind (arith, ints, nat_tests)
 
 began-push : (a b c : Option (List ℕ)) (ms : List Message) (m : Message) → Began a ms b → IsNext b c (nexts.Message m) → Began a (ms ++ m ∷ []) c
-began-push None b c ms m x y = tt
-began-push (Some xs) None c ms m x y = absurd x
-began-push (Some xs) (Some ys) None ms m x y = absurd y
-began-push (Some xs) (Some ys) (Some zs) ms m x y = begins-push xs ms ys m zs x y
+began-push a b c ms m x y = grind (arith, ints, nat_tests, begins-push)
 
 began-some : (a b : Option (List ℕ)) (ms : List Message) → Began a ms b → IfSome a (λ bytes. AreFirst bytes ms)
-began-some None b ms x = tt
-began-some (Some xs) None ms x = absurd x
-began-some (Some xs) (Some ys) ms x = (ys, x)
+began-some a b ms x = grind (arith, ints, nat_tests)
 
 read-ended : (a b c : Option (List ℕ)) (ms : List Message) → length ms < MESSAGE_LIMIT → Began a ms b → IsNext b c nexts.Ended → IfSome a (λ bytes. AreMessages bytes ms messages.Ended)
-read-ended None b c ms lt x y = tt
-read-ended (Some xs) None c ms lt x y = absurd x
-read-ended (Some xs) (Some ys) c ms lt x y = record { rest = ys; begins = x; ends = (lt, y) }
+read-ended a b c ms lt x y = grind (arith, ints, nat_tests)
 
 read-fault : (a b c : Option (List ℕ)) (ms : List Message) (r : Refusal) → length ms < MESSAGE_LIMIT → Began a ms b → IsNext b c (nexts.Framing r) → IfSome a (λ bytes. IsRead ends.BadFraming bytes ms (Some r))
-read-fault None b c ms r lt x y = tt
-read-fault (Some xs) None c ms r lt x y = absurd x
-read-fault (Some xs) (Some ys) c ms r lt x y = (r, record { rest = ys; begins = x; ends = (lt, y) }, refl)
+read-fault a b c ms r lt x y = grind (arith, ints, nat_tests)
 
 read-limit : (a b : Option (List ℕ)) (ms : List Message) → length ms ≡ MESSAGE_LIMIT → Began a ms b → IfSome a (λ bytes. AreMessages bytes ms messages.Limit)
-read-limit None b ms e x = tt
-read-limit (Some xs) None ms e x = absurd x
-read-limit (Some xs) (Some ys) ms e x = record { rest = ys; begins = x; ends = e }
+read-limit a b ms e x = grind (arith, ints, nat_tests)
 
 fault-behind : (a b c : Option (List ℕ)) (ms : List Message) (r : Refusal) → length ms < MESSAGE_LIMIT → Began a ms b → IsNext b c (nexts.Framing r) → IfSome a (λ bytes. AreBehind bytes ms (Some r))
-fault-behind None b c ms r lt x y = tt
-fault-behind (Some xs) None c ms r lt x y = absurd x
-fault-behind (Some xs) (Some ys) c ms r lt x y = inl (record { rest = ys; begins = x; ends = (lt, y) })
+fault-behind a b c ms r lt x y = grind (arith, ints, nat_tests)
 
 memory-behind : (a b : Option (List ℕ)) (ms : List Message) → Began a ms b → IfSome a (λ bytes. AreBehind bytes ms (Some Memory))
-memory-behind None b ms x = tt
-memory-behind (Some xs) None ms x = absurd x
-memory-behind (Some xs) (Some ys) ms x = inr (refl, (ys, x))
+memory-behind a b ms x = grind (arith, ints, nat_tests)
 
 -- What was written.
 
@@ -69,8 +52,7 @@ front-whole : (day : ℕ) (firm mid : Firm) (ms rest : List Message) (rs : List 
 front-whole day firm mid ms rest rs run = record { front = ms; rest = rest; parts = refl; mid = mid; run = run }
 
 keeps-self : (a : Option (List ℕ)) → Keeps a a
-keeps-self None = tt
-keeps-self (Some xs) = refl
+keeps-self a = grind (arith, ints, nat_tests)
 
 module _ {B : Type 0} (clean sure stands lasts : B → Type 0) (leaves : B → Firm → Type 0) (firm : B → Firm) (refusals : B → ℕ) (sound : (b : B) → stands b → FirmSound (firm b)) (day : ℕ) (stream before : Option (List ℕ)) (old : B) where
   -- what is being served, and what was served
@@ -126,9 +108,7 @@ module _ {B : Type 0} (clean sure stands lasts : B → Type 0) (leaves : B → F
 
     -- and after it, where this one is neither
     served-after : sure next → clean old → stands old → AreNoFaults s.replies → is_fault_reply reply ≡ false → clean next
-    served-after sure clean stands plain fine =
-        let was = served-before sure clean stands plain in
-        (may sure was (s.kept.still_stands was stands)).serves was fine
+    served-after sure clean stands plain fine = grind (arith, ints, nat_tests, served-before)
 
     crash-more : sure next → clean old → stands old → AreNoFaultsButLast replies-more → MayLeaveServed clean sure stands lasts leaves firm refusals day old messages-more replies-more next
     crash-more known served standing but_last =

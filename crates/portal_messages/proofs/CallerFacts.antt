@@ -1,15 +1,12 @@
 -- The values of the fields that name a caller, one field after another.
-use Rattle.portal_messages.proofs.Names.{◌≡◌, ◌≤◌, ◌<◌, ◌+◌, ◌∙◌, ℕ, List, [], ◌∷◌, ◌++◌, true, false, length, refl, sym, ap, append_assoc, append-nil, HeaderSpan, span_bytes, values_of, pairs_from}
-use Rattle.std.proofs.Common.{add-one, drop-cons, get_or}
-use Rattle.std.proofs.lemmas.List.{drop_all}
+use Rattle.portal_messages.proofs.Names.{◌≡◌, ◌≤◌, ◌<◌, ◌+◌, ◌∙◌, ℕ, List, [], ◌∷◌, ◌++◌, true, false, length, sym, append_assoc, append-nil, HeaderSpan, span_bytes, values_of, pairs_from, arith, ints, nat_tests, add-one, drop-cons, get_or, drop_all}
 use Rattle.std.specs.Str.{str_eq_ignore_ascii_case}
 
 module _ (name bytes : List ℕ) (fields : List HeaderSpan) (d : HeaderSpan) (all : List (List ℕ)) where
   -- a field of the name
   pub field-yes : (i : ℕ) (values : List (List ℕ)) (value : List ℕ) → i < length fields → str_eq_ignore_ascii_case name (span_bytes bytes (get_or fields i d).name) ≡ true
       → value ≡ span_bytes bytes (get_or fields i d).value → values ++ values_of name (pairs_from bytes fields i) ≡ all → (values ++ value ∷ []) ++ values_of name (pairs_from bytes fields (i + 1)) ≡ all
-  field-yes i values value lt same is before =
-      rw (add-one i, append_assoc) (rw (drop-cons fields i d lt, same, ← is) at before)
+  field-yes i values value lt same is before = grind (arith, ints, nat_tests, add-one, append_assoc, drop-cons)
 
   -- a field of another name
   pub field-no : (i : ℕ) (values : List (List ℕ)) → i < length fields → str_eq_ignore_ascii_case name (span_bytes bytes (get_or fields i d).name) ≡ false

@@ -1,6 +1,6 @@
 -- What is asked of an entry, once its number was read.
-use Rattle.portal_requests.proofs.Names.{◌≡◌, ◌∙◌, ap, Bool, false, true, inr, refl, ℕ, List, Some, Err, Result, bytes_eq, entry_of, Field, Refusal, BadField, Ask, Caller, Request, Message, path_of, entry_ask, numbered_ask, EntryPlace, Place, entry_part, caller_of, method_of, named_in, of_matter, place_of, request}
-use Rattle.std.proofs.Common.{◌⊎◌, inl, not}
+use Rattle.portal_requests.proofs.Names.{◌≡◌, Bool, false, true, ℕ, List, Some, Err, Result, bytes_eq, entry_of, Field, Refusal, Ask, Caller, Request, Message, path_of, entry_ask, numbered_ask, EntryPlace, Place, entry_part, caller_of, method_of, named_in, of_matter, place_of, request, arith, ints, nat_tests}
+use Rattle.std.proofs.Common.{◌⊎◌, not}
 use Rattle.trust_base.specs.Refusals.{is_fault}
 use Rattle.trust_base.specs.declared.refusal.Refusal.TheVariants.{Memory}
 use Rattle.portal_requests.specs.declared.routes.Place.TheVariants.{Entry}
@@ -11,8 +11,7 @@ pub asked-of : (p place : EntryPlace) (text body : List ℕ) (number : ℕ) (r :
 asked-of p place text body number r there found read = rw (there, found) read
 
 not-false : (b : Bool) → false ≡ not b → b ≡ true
-not-false true e = refl
-not-false false e = cc
+not-false b e = grind (arith, ints, nat_tests)
 
 -- a message of a caller at an entry of a matter
 pub entry-request : (m : Message) (p : Place) (place : EntryPlace) (caller : Caller) (matter : ℕ) (entry body sent takes : List ℕ) → Some p ≡ place_of (path_of m.target)
@@ -21,12 +20,9 @@ pub entry-request : (m : Message) (p : Place) (place : EntryPlace) (caller : Cal
     → request m ≡ of_matter caller (Some matter) (entry_ask place entry body)
 unfolding request
 entry-request m p place caller matter entry body sent takes there is method same equal called named part text =
-    let taken : bytes_eq m.method (method_of p) ≡ true = rw (method, same) at (not-false _ equal) in
-    rw (← there, taken, ← called, is, ← named, ← part, ← text) refl
+    grind (arith, ints, nat_tests, bytes_eq, method_of, not-false)
 
 -- its ask was refused
 pub entry-refused : (caller : Caller) (matter : ℕ) (asked : Result Ask Field) (meant : Result Request Refusal) (why : Refusal) → meant ≡ of_matter caller (Some matter) asked
     → Reads asked (Err why) → (why ≡ Memory) ⊎ ((is_fault why ≡ false) × (meant ≡ Err why))
-entry-refused caller matter asked meant (BadField f) is read = inr (refl, is ∙ ap (of_matter caller (Some matter)) read)
-entry-refused caller matter asked meant Memory is read = inl refl
-entry-refused caller matter asked meant _ is read = absurd read
+entry-refused caller matter asked meant why is read = grind (arith, ints, nat_tests, of_matter)

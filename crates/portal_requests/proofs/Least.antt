@@ -1,6 +1,6 @@
 -- The refusal that is told of a message is the least.
-use Rattle.portal_requests.proofs.Names.{◌≡◌, ◌∙◌, ◌<◌, ℕ, Bool, true, false, cond, List, Option, Some, None, Result, Ok, Err, inr, refl, sym, ap, subst, arith, bytes_eq, day_of, Line, Field, Refusal, BadField, BadMethod, NoCaller, NoRoute, Ask, Caller, Request, Message, path_of, ReportPlace, Place, entry_ask, matter_ask, body_in, caller_of, dismissing, line_in, line_keys, day_part, entry_part, named_in, method_of, as_of, asked_at, called, of_matter, reported, request, routed, place_of}
-use Rattle.std.proofs.Common.{◌⊎◌, IfSome, inl}
+use Rattle.portal_requests.proofs.Names.{◌≡◌, ◌∙◌, ◌<◌, ℕ, true, false, List, Option, Some, None, Result, Ok, Err, refl, sym, ap, subst, arith, bytes_eq, day_of, Line, Field, Refusal, BadField, BadMethod, NoCaller, NoRoute, Ask, Caller, Request, Message, path_of, ReportPlace, Place, entry_ask, matter_ask, body_in, caller_of, dismissing, line_in, line_keys, day_part, entry_part, named_in, method_of, as_of, asked_at, called, of_matter, reported, request, routed, place_of, ints, nat_tests}
+use Rattle.std.proofs.Common.{◌⊎◌, IfSome}
 use Rattle.trust_base.specs.Refusals.{number_of}
 use Rattle.trust_base.specs.declared.refusal.Field.TheVariants as field
 use Rattle.portal_requests.specs.declared.routes.ReportPlace.TheVariants as report
@@ -19,21 +19,16 @@ err-same : (why r : Refusal) → refusing why ≡ refusing r → r ≡ why
 err-same why r e = cc
 
 matter-field : (caller : Caller) (named : Option ℕ) (asked : Result Ask Field) (r : Refusal) → of_matter caller named asked ≡ Err r → IsOfField r
-matter-field caller None asked r e = (field.Matter, err-same (BadField field.Matter) r e)
-matter-field caller (Some m) (Err f) r e = (f, err-same (BadField f) r e)
-matter-field caller (Some m) (Ok a) r e = absurd (cc)
+matter-field caller named asked r e = grind (arith, ints, nat_tests, err-same)
 
 day-field : (caller : Caller) (o : Option ℕ) (r : Refusal) → as_of caller o ≡ Err r → IsOfField r
-day-field caller None r e = (field.Day, err-same (BadField field.Day) r e)
-day-field caller (Some day) r e = absurd (cc)
+day-field caller o r e = grind (arith, ints, nat_tests, err-same)
 
 report-field : (p : ReportPlace) (caller : Caller) (path : List ℕ) (r : Refusal) → reported p caller path ≡ Err r → IsOfField r
-report-field report.Reconciliation caller path r e = day-field caller (day_of (day_part path)) r e
-report-field _ caller path r e = absurd (cc)
+report-field p caller path r e = grind (arith, ints, nat_tests, day-field, day_of, day_part)
 
 line-field : (caller : Caller) (o : Option Line) (r : Refusal) → dismissing caller o ≡ Err r → IsOfField r
-line-field caller None r e = (field.Body, err-same (BadField field.Body) r e)
-line-field caller (Some line) r e = absurd (cc)
+line-field caller o r e = grind (arith, ints, nat_tests, err-same)
 
 of-field : (p : Place) (caller : Caller) (path body : List ℕ) (r : Refusal) → asked_at p caller path body ≡ Err r → IsOfField r
 of-field (place.Matter p) caller path body r e = matter-field caller (named_in path) (matter_ask p body) r e
@@ -50,22 +45,12 @@ module _ (m : Message) where
   Tells o c (Err r) = RefusesAt o c m r × ((s : Refusal) → number_of s < number_of r → RefusesAt o c m s → ⊥)
 
   no-route : (c : Option Caller) → Tells None c (Err NoRoute)
-  no-route c = (refl, none)
-    where
-      none : (s : Refusal) → number_of s < 4 → RefusesAt None c m s → ⊥
-      none NoRoute lt is = absurd (omega arith)
-      none NoCaller lt is = absurd (omega arith)
-      none _ lt is = is
+  no-route c = grind (arith, ints, nat_tests, number_of)
 
   -- what refuses a message that has a place
   refuses : (p : Place) (c : Option Caller) (s : Refusal) → RefusesAt (Some p) c m s → (number_of s ≡ 5) × (bytes_eq m.method (method_of p) ≡ false)
       ⊎ (number_of s ≡ 6) × (c ≡ None) ⊎ (number_of s ≡ 7) × IfSome c (λ caller. asked_at p caller (path_of m.target) m.body ≡ Err s)
-  refuses p c BadMethod is = inl (refl, is)
-  refuses p c NoCaller is = inr (inl (refl, is))
-  refuses p (Some caller) (BadField f) is = inr (inr (refl, is))
-  refuses p None (BadField f) is = absurd is
-  refuses p c NoRoute is = absurd (cc)
-  refuses p c _ is = absurd is
+  refuses p c s is = grind (arith, ints, nat_tests)
 
   other-method : (p : Place) (c : Option Caller) → bytes_eq m.method (method_of p) ≡ false → Tells (Some p) c (Err BadMethod)
   other-method p c other = (other, λ s lt is. grind (arith, refuses p c s is))
@@ -86,16 +71,11 @@ module _ (m : Message) where
       subst (λ (x : Refusal). Tells (Some p) (Some caller) (Err x)) (sym why.1) (bad-field p caller why.0 same (e ∙ ap refusing why.1))
 
   called-tells : (p : Place) (c : Option Caller) → bytes_eq m.method (method_of p) ≡ true → Tells (Some p) c (called p c (path_of m.target) m.body)
-  called-tells p None same = no-caller p same
-  called-tells p (Some caller) same = asked-tells p caller (asked_at p caller (path_of m.target) m.body) same refl
+  called-tells p c same = grind (arith, ints, nat_tests, no-caller, asked-tells, asked_at, path_of)
 
   routed-tells : (o : Option Place) → Tells o (caller_of m.callers) (routed o m)
   routed-tells None = no-route (caller_of m.callers)
-  routed-tells (Some p) = cases (bytes_eq m.method (method_of p)) refl
-    where
-      cases : (b : Bool) → bytes_eq m.method (method_of p) ≡ b → Tells (Some p) (caller_of m.callers) (cond b (called p (caller_of m.callers) (path_of m.target) m.body) (Err BadMethod))
-      cases true same = called-tells p (caller_of m.callers) same
-      cases false other = other-method p (caller_of m.callers) other
+  routed-tells (Some p) = grind (arith, ints, nat_tests, called, called-tells, other-method)
 
   tells-of : (r : Result Request Refusal) → request m ≡ r → Tells (place_of (path_of m.target)) (caller_of m.callers) r
   unfolding request

@@ -1,5 +1,5 @@
 -- Routes whose texts begin with the same bytes are those of paths that begin so.
-use Rattle.portal_requests.proofs.Names.{◌≡◌, ◌≤◌, ℕ, suc, zero, Bool, true, false, cond, List, [], ◌∷◌, Option, Some, None, refl, sym, ap, subst, arith, length, ◌==◌, ◌-◌, ltb, unwrap_or, ⊤, IsText, RowsOf, catch_all_token, comes_before, param_token, first, has_slash, longest_suffix, or_else, own, param_step, same_text, seek, segment, step, with_suffix}
+use Rattle.portal_requests.proofs.Names.{◌≡◌, ◌≤◌, ℕ, suc, zero, Bool, true, false, cond, List, [], ◌∷◌, Option, Some, refl, sym, ap, subst, arith, length, ◌==◌, ◌-◌, ltb, unwrap_or, ⊤, IsText, RowsOf, catch_all_token, comes_before, param_token, first, has_slash, longest_suffix, or_else, own, param_step, same_text, seek, segment, step, with_suffix, ints}
 use Rattle.std.proofs.lemmas.Bool.Decides.{nat_tests}
 use Rattle.matchit.specs.Order.{placed}
 
@@ -7,8 +7,7 @@ some-same : {K : Type 0} (a b : K) → Some a ≡ Some b → a ≡ b
 some-same a b e = ap (λ o. unwrap_or o a) e
 
 either : {K : Type 0} (T : Type 0) (a b : Option K) (key : K) → (a ≡ Some key → T) → (b ≡ Some key → T) → or_else a b ≡ Some key → T
-either T None b key left right e = right e
-either T (Some k) b key left right e = left e
+either x0 a b key left right e = grind (arith, ints, nat_tests)
 
 -- the bytes begin so
 abbrev pub Starts : List ℕ → List ℕ → Type 0
@@ -30,18 +29,12 @@ module _ {K : Type 0} (IsOf : K → Type 0) where
   rows-step : (Is : List ℕ → Type 0) (b : ℕ) (rs : RowsOf K) → AllRows Is rs → AllRows (λ t. Is (b ∷ t)) (step b rs)
   rows-step Is b [] all = tt
   rows-step Is b (([], key) ∷ rest) all = rows-step Is b rest all.1
-  rows-step Is b ((x ∷ t, key) ∷ rest) all = cases (x == b) refl (rows-step Is b rest all.1)
-    where
-      cases : (c : Bool) → (x == b) ≡ c → AllRows (λ t. Is (b ∷ t)) (step b rest) → AllRows (λ t. Is (b ∷ t)) (cond c ((t, key) ∷ step b rest) (step b rest))
-      cases true is more = let same : x ≡ b = grind (arith, nat_tests) in ((λ kind. subst (λ n. Is (n ∷ t)) same (all.0 kind)), more)
-      cases false is more = more
+  rows-step Is b ((x ∷ t, key) ∷ rest) all = grind (arith, ints, nat_tests, step, (rows-step Is b rest all.1))
 
   rows-suffix : (Is : List ℕ → Type 0) (suffix : List ℕ) (rs : RowsOf K) → AllRows Is rs → AllRows Is (with_suffix suffix rs)
   rows-suffix Is suffix [] all = tt
   rows-suffix Is suffix ((t, key) ∷ rest) all =
-      let more = rows-suffix Is suffix rest all.1 in
-      elim (same_text (segment t) suffix) as (λ c. AllRows Is (cond c ((t, key) ∷ with_suffix suffix rest) (with_suffix suffix rest)))
-      [ true ↦ (all.0, more) | false ↦ more ]
+      grind (arith, ints, nat_tests, same_text, segment, with_suffix, (rows-suffix Is suffix rest all.1))
 
   rows-param : (Is : List ℕ → Type 0) (rs : RowsOf K) (path : List ℕ) → AllRows Is rs → AllRows Is (param_step rs path).1
   unfolding param_step
@@ -100,5 +93,4 @@ module _ {K : Type 0} (IsOf : K → Type 0) where
   pub placed-rows : (Is : List ℕ → Type 0) (t : List ℕ) (key : K) (rs : RowsOf K) → (IsOf key → Is t) → AllRows Is rs → AllRows Is (placed (t, key) rs)
   placed-rows Is t key [] is all = (is, tt)
   placed-rows Is t key ((u, k) ∷ rest) is all =
-      elim (comes_before t u) as (λ c. AllRows Is (cond c ((t, key) ∷ (u, k) ∷ rest) ((u, k) ∷ placed (t, key) rest)))
-      [ true ↦ (is, all) | false ↦ (all.0, placed-rows Is t key rest is all.1) ]
+      grind (arith, ints, nat_tests, comes_before, placed, (placed-rows Is t key rest is all.1))

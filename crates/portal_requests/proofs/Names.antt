@@ -10,7 +10,7 @@ pub use Rattle.matchit.specs.declared.error.InsertError.{InsertError}
 pub use Rattle.portal_messages.specs.Fields.{path_of}
 pub use Rattle.portal_messages.specs.declared.message.Message.{Message}
 pub use Rattle.serde_json.specs.View.{members_view, view}
-pub use Rattle.std.proofs.Common.{Bool, Err, List, None, Ok, Option, Result, Some, [], add-one, ap, arith, cond, drop, drop-cons, false, get_or, inr, length, refl, subst, suc, sym, true, zero, ℕ, ◌++◌, ◌<◌, ◌∙◌, ◌∷◌, ◌≡◌, ◌≤◌}
+pub use Rattle.std.proofs.Common.{Bool, Err, List, None, Ok, Option, Result, Some, [], add-one, ap, arith, cond, drop, drop-cons, false, get_or, length, refl, subst, suc, sym, true, zero, ℕ, ◌++◌, ◌<◌, ◌∙◌, ◌∷◌, ◌≡◌, ◌≤◌}
 pub use Rattle.std.proofs.lemmas.Result.{err_from_is_err_and}
 pub use Rattle.std.proofs.lemmas.Str.{IsUtf8-from_is_utf8, is_utf8-from_IsUtf8}
 pub use Rattle.std.specs.Prelude.{IfErr, codes, ltb, nat_le, option_and_then, option_map, take, unwrap_or, ⊤, ◌-◌, ◌==◌}
@@ -39,3 +39,5 @@ unfoldable pub use Rattle.portal_requests.specs.Table.{AreTaken, TABLE, route_ro
 pub use Rattle.portal_requests.specs.declared.routes.EntryPlace.{EntryPlace}
 pub use Rattle.portal_requests.specs.declared.routes.Place.{Place}
 pub use Rattle.portal_requests.specs.declared.routes.ReportPlace.{ReportPlace}
+pub use Rattle.std.proofs.lemmas.Bool.Decides.{nat_tests}
+pub use Rattle.std.proofs.lemmas.Int.{ints}

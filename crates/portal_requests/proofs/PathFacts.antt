@@ -1,5 +1,5 @@
 -- Which matter a message names, by its path.
-use Rattle.portal_requests.proofs.Names.{◌≡◌, ◌∙◌, ℕ, Bool, true, false, cond, List, [], ◌∷◌, Option, Some, None, Result, Ok, Err, refl, sym, ap, subst, arith, codes, nat_le, option_map, take, unwrap_or, ⊤, bytes_eq, is_utf8, IsText, Scan, parse_route, RouteOf, route_from, RowsOf, first, InsertError, Line, day_of, matter_of, Field, BadMethod, Ask, Caller, is_the, names, Message, path_of, ReportPlace, Place, entry_ask, matter_ask, body_in, caller_of, dismissing, dismissing_in, line_in, line_keys, day_part, entry_part, has_matter, named_in, method_of, as_of, asked_at, called, heard_as, heard_of, of_matter, placed, reported, request, routed, with_statement, place_of, TABLE, route_rows, row_in, the_routes, matchit_on_literals}
+use Rattle.portal_requests.proofs.Names.{◌≡◌, ◌∙◌, ℕ, Bool, true, false, cond, List, [], ◌∷◌, Option, Some, None, Result, Ok, Err, refl, sym, ap, subst, arith, codes, nat_le, option_map, take, unwrap_or, ⊤, bytes_eq, IsText, Scan, parse_route, RouteOf, route_from, RowsOf, first, InsertError, Line, day_of, matter_of, Field, BadMethod, Ask, Caller, is_the, names, Message, path_of, ReportPlace, Place, entry_ask, matter_ask, body_in, caller_of, dismissing, dismissing_in, line_in, line_keys, day_part, entry_part, has_matter, named_in, method_of, as_of, asked_at, called, heard_as, heard_of, of_matter, placed, reported, request, routed, with_statement, place_of, TABLE, route_rows, row_in, the_routes, matchit_on_literals, ints, nat_tests}
 use Rattle.std.specs.Prelude.{drop, length}
 use Rattle.portal_requests.specs.declared.routes.ReportPlace.TheVariants as report
 use Rattle.portal_requests.specs.declared.routes.StatementPlace.{StatementPlace}
@@ -37,8 +37,7 @@ AllTexts [] = ⊤
 AllTexts (p ∷ rest) = (is_of_firm p.1 ≡ true → OfFirm (pattern_in (parse_route p.0))) × AllTexts rest
 
 row-more : (r : Result Scan InsertError) (p : Place) (rows : RowsOf (RouteOf Place)) → (is_of_firm p ≡ true → OfFirm (pattern_in r)) → AllRows LeadsToFirm OfFirm rows → AllRows LeadsToFirm OfFirm (row_in r p rows)
-row-more (Ok s) p rows is all = placed-rows LeadsToFirm OfFirm s.pattern (route_from s p) rows is all
-row-more (Err e) p rows is all = all
+row-more r p rows is all = grind (arith, ints, nat_tests, placed-rows, route_from)
 
 rows-more : (table : List (List ℕ × Place)) (rows : RowsOf (RouteOf Place)) → AllTexts table → AllRows LeadsToFirm OfFirm rows → AllRows LeadsToFirm OfFirm (route_rows table rows)
 unfolding route_rows
@@ -47,8 +46,7 @@ rows-more (p ∷ rest) rows texts all = rows-more rest (row_in (parse_route p.0)
 
 table-texts : AllTexts TABLE
 unfolding TABLE matchit_on_literals
-table-texts =
-    ((λ e. absurd (cc)), ((λ e. absurd (cc)), ((λ e. absurd (cc)), ((λ e. absurd (cc)), ((λ e. absurd (cc)), ((λ e. absurd (cc)), ((λ e. absurd (cc)), ((λ e. absurd (cc)), ((λ e. absurd (cc)), ((λ e. absurd (cc)), ((λ e. absurd (cc)), ((λ e. absurd (cc)), ((λ e. absurd (cc)), ((λ e. absurd (cc)), ((λ e. absurd (cc)), ((λ e. absurd (cc)), ((λ e. absurd (cc)), ((λ e. absurd (cc)), ((λ e. absurd (cc)), ((λ e. (refl, (refl, (refl, (refl, (refl, (refl, tt))))))), ((λ e. (refl, (refl, (refl, (refl, (refl, (refl, tt))))))), ((λ e. (refl, (refl, (refl, (refl, (refl, (refl, tt))))))), ((λ e. (refl, (refl, (refl, (refl, (refl, (refl, tt))))))), ((λ e. (refl, (refl, (refl, (refl, (refl, (refl, tt))))))), ((λ e. (refl, (refl, (refl, (refl, (refl, (refl, tt))))))), ((λ e. (refl, (refl, (refl, (refl, (refl, (refl, tt))))))), ((λ e. (refl, (refl, (refl, (refl, (refl, (refl, tt))))))), ((λ e. (refl, (refl, (refl, (refl, (refl, (refl, tt))))))), tt))))))))))))))))))))))))))))
+table-texts = grind (arith, ints, nat_tests)
 
 the-rows : AllRows LeadsToFirm OfFirm the_routes
 unfolding the_routes
@@ -64,40 +62,26 @@ to-firm path (Some r) p is found e = first-starts LeadsToFirm firm_front the_rou
 
 -- so it names no matter
 front-unnamed : (path : List ℕ) → OfFirm path → named_in path ≡ None
-front-unnamed [] is = absurd is
-front-unnamed (a ∷ []) is = absurd is.1
-front-unnamed (a ∷ b ∷ rest) is = subst (λ (n : ℕ). named_in (n ∷ b ∷ rest) ≡ None) (sym is.0) (subst (λ (n : ℕ). named_in (47 ∷ n ∷ rest) ≡ None) (sym is.1.0)
-    (elim (nat_le 15 (length (47 ∷ 102 ∷ rest))) as (λ b. cond b (cond (has_matter (47 ∷ 102 ∷ rest)) (matter_of (take 6 (drop 9 (47 ∷ 102 ∷ rest)))) None) None ≡ None)
-    [ true ↦ refl | false ↦ refl ]))
+front-unnamed path is = grind (arith, ints, nat_tests, named_in, nat_le, length, has_matter, matter_of, take, drop)
 
 firm-unnamed : (path : List ℕ) (p : Place) → is_of_firm p ≡ true → place_of path ≡ Some p → named_in path ≡ None
-firm-unnamed path p is e = cases (is_utf8 path) e
-  where
-    cases : (b : Bool) → cond b (option_map (λ e. e.value) (first the_routes path)) None ≡ Some p → named_in path ≡ None
-    cases true there = front-unnamed path (to-firm path (first the_routes path) p is refl there)
-    cases false there = absurd (cc)
+firm-unnamed path p is e = grind (arith, ints, nat_tests, option_map, first, front-unnamed, to-firm)
 
 -- A request.
 
 -- what is asked of the matter of a path names that
 of-named : (n : ℕ) (caller : Caller) (named : Option ℕ) (asked : Result Ask Field) → names n (heard_as named (of_matter caller named asked)) ≡ is_the n named
-of-named n caller None asked = refl
-of-named n caller (Some m) (Err f) = refl
-of-named n caller (Some m) (Ok a) = refl
+of-named n caller named asked = grind (arith, ints, nat_tests)
 
 -- what is asked of the firm names none
 report-named : (n : ℕ) (p : ReportPlace) (caller : Caller) (path : List ℕ) → names n (heard_as None (reported p caller path)) ≡ false
-report-named n report.Reconciliation caller path =
-    elim (day_of (day_part path)) as (λ o. names n (heard_as None (as_of caller o)) ≡ false) [ None ↦ refl | Some day ↦ refl ]
-report-named n _ caller path = refl
+report-named n p caller path = grind (arith, ints, nat_tests, day_of, day_part, names, heard_as, as_of)
 
 statement-named : (n : ℕ) (p : StatementPlace) (caller : Caller) (o : Option ℕ) (body : List ℕ) → names n (heard_as o (Ok (with_statement p caller body))) ≡ false
-statement-named n statement.Import caller o body = refl
-statement-named n _ caller o body = refl
+statement-named n p caller o body = grind (arith, ints, nat_tests)
 
 dismissal-named : (n : ℕ) (caller : Caller) (o : Option Line) → names n (heard_as None (dismissing caller o)) ≡ false
-dismissal-named n caller None = refl
-dismissal-named n caller (Some line) = refl
+dismissal-named n caller o = grind (arith, ints, nat_tests)
 
 at-named : (n : ℕ) (p : Place) (caller : Caller) (path body : List ℕ) → place_of path ≡ Some p → names n (heard_as (named_in path) (asked_at p caller path body)) ≡ is_the n (named_in path)
 at-named n (place.Matter p) caller path body e = of-named n caller (named_in path) (matter_ask p body)

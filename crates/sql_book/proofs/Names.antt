@@ -22,9 +22,11 @@ pub use Rattle.sqlite.specs.declared.error.Error.{Error}
 pub use Rattle.sqlite_schema.specs.declared.schema.Schema.{Schema}
 pub use Rattle.sqlite_trees.specs.Tree.{Trees}
 pub use Rattle.sqlite_trees.specs.declared.store.Store.{Ghosts}
-pub use Rattle.std.proofs.Common.{is_ok, Err, IsTrue, List, None, Ok, OnErr, OnOk, Result, Some, [], ap, append-nil, ap₂, arith, inl, inr, length, map, of_z, refl, rules, subst, sym, to_z, w64, ℕ, ◌++◌, ◌∙◌, ◌∷◌, ◌≡◌, ◌≢◌, ◌⊎◌}
+pub use Rattle.std.proofs.Common.{is_ok, IsTrue, List, None, OnErr, OnOk, Result, Some, [], ap, append-nil, ap₂, arith, inl, inr, length, map, of_z, refl, rules, subst, sym, to_z, w64, ℕ, ◌++◌, ◌∙◌, ◌∷◌, ◌≡◌, ◌≢◌, ◌⊎◌}
 pub use Rattle.trust_base.specs.declared.refusal.StoreFault.{StoreFault}
 pub use Rattle.trust_store.proofs.Writes.{fit_write, write_always, write_if}
 pub use Rattle.trust_store.specs.Crashes.{LeavesAlone}
 pub use Rattle.sql_book.specs.Books.{HeldBook, IsLasting, IsServing, IsStanding, IsSure, MayLeave, at, firm_of}
 pub use Rattle.sql_book.specs.Then.{StoodSound, firm_then}
+pub use Rattle.std.proofs.lemmas.Bool.Decides.{nat_tests}
+pub use Rattle.std.proofs.lemmas.Int.{ints}

@@ -1,5 +1,5 @@
 -- The trees of a database fix its schema.
-use Rattle.sql_book.proofs.Names.{◌≡◌, subst, Trees, Schema, Database, IsDatabase}
+use Rattle.sql_book.proofs.Names.{◌≡◌, Trees, Schema, Database, IsDatabase, arith, ints, nat_tests}
 use Rattle.sqlite_trees.specs.Objects.{catalog_tree}
 use Rattle.sqlite_catalog.specs.Listing.{IsSound}
 use Rattle.sqlite_catalog.proofs.ReadLemmas.{lists_once}
@@ -10,6 +10,4 @@ one_schema s t db one other = lists_once (db catalog_tree) s t one.lists other.l
 
 -- so databases of the same trees are the same
 pub one_database : (a b : Database) → IsDatabase a → IsDatabase b → a.trees ≡ b.trees → a ≡ b
-one_database a b one other same =
-    let schemas = one_schema a.schema b.schema b.trees (subst (IsSound a.schema) same one) other in
-    λ i. record { schema = schemas i; trees = same i }
+one_database a b one other same = grind (arith, ints, nat_tests, one_schema)

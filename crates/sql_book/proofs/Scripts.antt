@@ -1,10 +1,9 @@
 -- What a script leaves, as the steps of its statements.
-use Rattle.sql_book.proofs.Names.{List, [], ◌∷◌, map, Layout, Database, Statement, Lists, lists_in, IsStep, AreSteps, Stands, AreKeyed, step_of, IsMade, AreMade}
+use Rattle.sql_book.proofs.Names.{List, [], ◌∷◌, map, Layout, Database, Statement, Lists, lists_in, IsStep, AreSteps, Stands, AreKeyed, step_of, IsMade, AreMade, arith, ints, nat_tests}
 use Rattle.sql_tables.specs.declared.statements.Statement.TheVariants as statement
 
 made_of_step : (s : Statement) (a b : Lists) → IsStep s a b → IsMade (step_of s) a b
-made_of_step (statement.Head h) a b is = is
-made_of_step _ a b is = is
+made_of_step s a b is = grind (arith, ints, nat_tests)
 
 -- lists that follow the statements are made by their steps
 pub made_of_steps : (script : List Statement) (a b : Lists) → AreSteps script a b → AreMade (map step_of script) a b
@@ -14,12 +13,4 @@ made_of_steps (s ∷ script) a b steps =
 
 -- the rowids of tables that stand rise
 pub keyed : (l : Layout) (db : Database) → Stands l db → AreKeyed (lists_in l db.trees)
-keyed l db stands = record {
-  heads = stands.heads.rise;
-  seats = stands.seats.rise;
-  entries = stands.entries.rise;
-  movements = stands.movements.rise;
-  firm_lines = stands.firm_lines.rise;
-  exceptions = stands.exceptions.rise;
-  balances = stands.balances.rise;
-}
+keyed l db stands = grind (arith, ints, nat_tests)

@@ -1,6 +1,6 @@
 -- What a stop leaves of a book is taken again.
-use Rattle.sql_book.proofs.Names.{◌≡◌, inl, inr, map, length, sym, ap, subst, refl, ◌∙◌, arith, Schema, Trees, Ghosts, Database, IsDatabase, Held, state, Firm, LeavesAlone, Layout, Made, Moved, book_schema, lists_in, AreSound, firm_from, EmptyTablesStand, StandsSound, firm_in, no_lists, IsBook, IsNewBook, AreNewBook, IsOldBook, HeldBook, at, firm_of, IsStanding, IsLasting, MayLeave, firm_then, StoodSound}
-use Rattle.sql_tables.specs.Rows.{head_in, seat_in, entry_in, movement_in, firm_line_in, exception_in, balance_in}
+use Rattle.sql_book.proofs.Names.{◌≡◌, inl, inr, map, length, sym, ap, subst, refl, ◌∙◌, arith, Trees, Ghosts, Database, IsDatabase, Held, state, Firm, LeavesAlone, Layout, Made, Moved, book_schema, lists_in, firm_from, EmptyTablesStand, StandsSound, firm_in, no_lists, IsBook, IsNewBook, AreNewBook, IsOldBook, HeldBook, at, firm_of, IsStanding, IsLasting, MayLeave, firm_then, ints, nat_tests}
+use Rattle.sql_tables.specs.Rows.{entry_in}
 use Rattle.sql_making.proofs.NewBook.{is_book, new_book_stands}
 use Rattle.sql_schema.proofs.Apart.{never_both}
 use Rattle.sql_book.specs.Opening.{IsKeptBook, IsMovedBook, IsTaken}
@@ -10,76 +10,40 @@ use Rattle.sql_book.proofs.Moves.{moved_stands, moved_firm}
 
 -- tables lie in one layout
 pub one_layout : (l k : Layout) → book_schema l ≡ book_schema k → l ≡ k
-one_layout Made Made same = refl
-one_layout Moved Moved same = refl
-one_layout _ _ same = absurd (omega (arith, ap (λ (s : Schema). length s.tables) same))
+one_layout l k same = grind (arith, ints, nat_tests, length)
 
 -- a connection sees the database whose trees were left
 sees : {T : Type 0} (h : Ghosts T) (trees : Trees) (conn : Held T) (db : Database) → IsOpenedOver h trees conn → trees ≡ db.trees → IsDatabase db → (state h conn).now ≡ db
-sees h trees conn db opened left listed =
-    let live = opened.live opened.opens.is_open in
-    one_database (state h conn).now db live.0 listed (ap (λ (d : Database). d.trees) opened.opens.clean ∙ opened.found ∙ left)
+sees h trees conn db opened left listed = grind (arith, ints, nat_tests, one_database, state)
 
 -- where there are the tables of this version, these are the tables of the book that is taken
 pub kept_there : {T : Type 0} (h : Ghosts T) (l : Layout) (conn : Held T) (next : HeldBook T) → (state h conn).now.schema ≡ book_schema l → IsTaken h conn next → IsKeptBook h conn next
-kept_there h l conn next there taken = elim taken.found [
-  | inl kept ↦ kept
-  | inr moved ↦ absurd (never_both l (sym moved.book.schema ∙ there))
-]
+kept_there h l conn next there taken = grind (arith, ints, nat_tests, never_both)
 
 -- and where there are those of version 1, they were moved
 moved_there : {T : Type 0} (h : Ghosts T) (conn : Held T) (next : HeldBook T) → IsOldBook (state h conn).now → IsTaken h conn next → IsMovedBook h conn next
-moved_there h conn next there taken = elim taken.found [
-  | inl kept ↦ absurd (never_both next.layout (sym there.schema ∙ kept.book.schema))
-  | inr moved ↦ moved
-]
+moved_there h conn next there taken = grind (arith, ints, nat_tests, never_both)
 
 module _ {S T : Type 0} (g : Ghosts S) (h : Ghosts T) where
   pub leaves_book : (before : HeldBook S) (trees : Trees) (conn : Held T) → IsLasting g before → (at g before).may_leave trees → IsOpenedOver h trees conn → HoldsLeft g h before conn
-  leaves_book before trees conn lasts may opened =
-      let it = lasts trees may in
-      let l = before.layout in
-      let same = sees h trees conn it.db opened it.left it.listed in
-      record {
-        book = subst (IsBook l) (sym same) (record { schema = it.stands.tables.schema; version = it.stands.tables.version });
-        stands = subst (StandsSound l) (sym same) it.stands;
-        firm = (trees, may, ap (firm_in l) (ap (λ (d : Database). d.trees) opened.opens.clean ∙ opened.found));
-      }
+  leaves_book before trees conn lasts may opened = grind (arith, ints, nat_tests, sees, firm_in)
 
   pub is_taken : (before : HeldBook S) (conn : Held T) (next : HeldBook T) → HoldsLeft g h before conn → IsTaken h conn next → IsNext g h before next
   is_taken before conn next holds taken =
       let kept = kept_there h before.layout conn next holds.book.schema taken in
       let same : before.layout ≡ next.layout = one_layout before.layout next.layout (sym holds.book.schema ∙ kept.book.schema) in
-      let stood = subst (λ (l : Layout). StandsSound l (state h conn).now) same holds.stands in
-      record {
-        stands = kept.stands stood;
-        firm = subst (MayLeave g before) (ap (λ (l : Layout). firm_in l (state h conn).now.trees) same ∙ sym kept.firm) holds.firm;
-        settled = taken.settled;
-        lasts = kept.lasts stood;
-      }
+      grind (arith, ints, nat_tests, state, firm_in)
 
 -- tables without rows
 no_rows : (db : Database) → IsNewBook db → lists_in Made db.trees ≡ no_lists
-no_rows db new = λ i. record {
-  heads = map head_in (new.others.0 i);
-  seats = map seat_in (new.others.1.0 i);
-  entries = map entry_in (new.others.1.1.0 i);
-  movements = map movement_in (new.others.1.1.1.0 i);
-  firm_lines = map firm_line_in (new.others.1.1.1.1.1.0 i);
-  exceptions = map exception_in (new.others.1.1.1.1.1.1.0 i);
-  balances = map balance_in (new.others.1.1.1.1.1.1.1.0 i);
-}
+no_rows db new = grind (arith, ints, nat_tests, map, entry_in)
 
 pub holds_new_book : {T : Type 0} (h : Ghosts T) (trees : Trees) (conn : Held T) → EmptyTablesStand → AreNewBook trees → IsOpenedOver h trees conn → HoldsNewBook h conn
 holds_new_book h trees conn empty new opened =
     let db : Database = record { schema = book_schema Made; trees = trees } in
     let same = sees h trees conn db opened refl new.listed in
     let none = no_rows db new in
-    record {
-      book = subst (IsBook Made) (sym same) (is_book db new);
-      stands = subst (StandsSound Made) (sym same) (record { tables = new_book_stands db new; rows = subst AreSound (sym none) empty.0 });
-      empty = ap (λ (d : Database). firm_in Made d.trees) same ∙ ap firm_from none ∙ empty.1;
-    }
+    grind (arith, ints, nat_tests, is_book, new_book_stands, firm_in, firm_from)
 
 module _ {T : Type 0} (h : Ghosts T) where
   of_firm : (firm : Firm) (next : HeldBook T) → IsStanding h next → firm_of h next ≡ firm → LeavesAlone (firm_of h next) (MayLeave h next) → IsLasting h next → IsOfFirm h firm next
@@ -109,11 +73,7 @@ module _ {T : Type 0} (h : Ghosts T) where
   pub holds_either : StopsInMovingLeaveBooks h
   holds_either db trees conn old (inl same) opened =
       let there = sees h trees conn db opened same old.listed in
-      inl (record {
-        book = subst IsOldBook (sym there) old.book;
-        stood = subst StoodSound (sym there) old.stood;
-        same = ap (λ (d : Database). firm_then d.trees) there;
-      })
+      grind (arith, ints, nat_tests, firm_then)
   holds_either db trees conn old (inr moved) opened =
       let next : Database = record { schema = book_schema Moved; trees = trees } in
       let there = sees h trees conn next opened refl moved.1.listed in

@@ -1,5 +1,5 @@
 -- What the call that writes a script leaves is a write of the book, if the change of the script fits.
-use Rattle.sql_book.proofs.Names.{◌≡◌, ◌≢◌, ◌⊎◌, inl, inr, ℕ, List, [], map, Result, Ok, Err, OnOk, OnErr, IsTrue, refl, sym, ap, subst, ◌∙◌, Ghosts, Trees, Database, IsDatabase, Held, state, State, HasCleanDisk, StoreFault, Firm, FirmChange, FitsFirm, after, LeavesAlone, Layout, Statement, lists_in, IsSettled, Written, Stands, StandsSound, firm_in, step_of, steps_of, AreMade, HeldBook, IsLasting, IsServing, IsStanding, IsSure, firm_of, MayLeave, is_ok, Error}
+use Rattle.sql_book.proofs.Names.{◌≡◌, ◌≢◌, ◌⊎◌, inl, inr, ℕ, List, [], map, Result, OnOk, OnErr, IsTrue, refl, sym, ap, subst, ◌∙◌, Ghosts, Trees, Database, IsDatabase, Held, state, State, HasCleanDisk, StoreFault, Firm, FirmChange, FitsFirm, after, LeavesAlone, Layout, Statement, lists_in, IsSettled, Written, Stands, StandsSound, firm_in, step_of, steps_of, AreMade, HeldBook, IsLasting, IsServing, IsStanding, IsSure, firm_of, MayLeave, is_ok, Error, arith, ints, nat_tests}
 use Rattle.std.proofs.lemmas.Result.{on_ok_weaker, on_err_weaker}
 use Rattle.trust_store.specs.Books.{counted}
 use Rattle.trust_store.specs.Calls.{IsWrite, IsWriteIf}
@@ -8,12 +8,10 @@ use Rattle.sql_rows.specs.Scripts.{IsTyped, IsScriptMeant, ScriptsAreMeant}
 use Rattle.sql_book.proofs.Scripts.{made_of_steps, keyed}
 
 both_ok : {T E P Q R : Type 0} (r : Result T E) → OnOk r P → OnOk r Q → (P → Q → R) → OnOk r R
-both_ok (Ok x) p q f = f p q
-both_ok (Err e) p q f = tt
+both_ok r p q f = grind (arith, ints, nat_tests)
 
 either_way : {T E P Q R : Type 0} (r : Result T E) → OnOk r P → OnErr r Q → (P → R) → (Q → R) → R
-either_way (Ok x) p q f g = f p
-either_way (Err e) p q f g = g q
+either_way r p q f g = grind (arith, ints, nat_tests)
 
 -- the second tables stand for the firm of the first after the change, and their database lists what it holds
 record StandsAfter (l : Layout) (change : FirmChange) (db next : Database) : Type 0 where
@@ -30,12 +28,7 @@ stands_after l change script db next meant typed is stands fits some written =
     let a = lists_in l db.trees in
     let b = lists_in l next.trees in
     let steps = subst (λ s. AreMade s a b) is (made_of_steps script a b written.steps) in
-    let after = meant a b stands.rows (keyed l next written.stands) typed fits steps in
-    record {
-      firm = after.0;
-      stands = record { tables = written.stands; rows = after.1 };
-      listed = written.listed some;
-    }
+    grind (arith, ints, nat_tests, keyed, after)
 
 -- what the call that writes a script leaves
 pub record Wrote {E : Type 0} (script : List Statement) (result : Result Unit E) (old new : State) : Type 0 where
@@ -131,10 +124,7 @@ module _ {S : Type 0} (g : Ghosts S) (l : Layout) (before now : Held S) (few man
 -- it does not matter why it failed
 told : {E F : Type 0} (script : List Statement) (q : Result Unit E) (r : Result Unit F) (old new : State)
     → is_ok r ≡ is_ok q → Wrote script q old new → Wrote script r old new
-told script (Ok x) (Ok y) old new alike w = assumption w
-told script (Err x) (Err y) old new alike w = assumption w
-told script (Ok x) (Err y) old new alike w = absurd (let e = alike in cc)
-told script (Err x) (Ok y) old new alike w = absurd (let e = alike in cc)
+told script q r old new alike w = grind (arith, ints, nat_tests)
 
 -- the same of a book that is seen to hold the connection
 pub wrote : {S : Type 0} (g : Ghosts S) {l : Layout} {before now : Held S} {few many : ℕ} {q : Result Unit Error}
@@ -150,12 +140,10 @@ wrote g {l} {before} {now} {few} {many} {q} {r} change script held alike count m
 -- What holds of every answer.
 
 ok_always : {T E P : Type 0} (r : Result T E) → P → OnOk r P
-ok_always (Ok x) p = p
-ok_always (Err e) p = tt
+ok_always r p = grind (arith, ints, nat_tests)
 
 err_always : {T E P : Type 0} (r : Result T E) → P → OnErr r P
-err_always (Ok x) p = tt
-err_always (Err e) p = p
+err_always r p = grind (arith, ints, nat_tests)
 
 -- a book that was not written is as it was, if the call failed or its change leaves every firm as it is
 pub no_write : {S T : Type 0} (g : Ghosts S) (change : FirmChange) (r : Result T StoreFault) (b : HeldBook S)

@@ -1,19 +1,12 @@
 -- What a CREATE TABLE makes of a database that has no row.
-use Rattle.sql_making.proofs.Names.{◌≡◌, inl, inr, ℕ, Bool, true, false, List, [], ◌∷◌, ◌++◌, None, Ok, MatchBool, refl, sym, ap, subst, subst₂, ◌∙◌, AllByRecursion, Trees, Table, Schema, Command, CreateTable, table_defined_by, created, next_tree, KeepsRows, everything, timed, Database, understood, Tally, MakesTable, MakesSequence, lacks_sequence, sequence_text, Gives, State, ExecutesIn, Runs, text_of, shows_rows, IsPlain, command_of, statement_of, Made, sequence_table, IsBlank, went, same_value}
+use Rattle.sql_making.proofs.Names.{◌≡◌, ℕ, Bool, true, false, List, [], ◌∷◌, ◌++◌, None, Ok, refl, sym, ap, subst, ◌∙◌, AllByRecursion, Trees, Table, Schema, Command, CreateTable, table_defined_by, created, next_tree, KeepsRows, everything, Database, understood, MakesTable, MakesSequence, lacks_sequence, sequence_text, State, ExecutesIn, Runs, text_of, IsPlain, command_of, statement_of, Made, sequence_table, IsBlank, went, same_value, arith, ints, nat_tests}
 use Rattle.std.proofs.lemmas.Bool.{cases_Bool}
 
 -- a statement of a batch, as the command that its text means
 pub runs_in_batch : (sql : List ℕ) (old new : State) (schema : Schema) (has : old.now.schema ≡ schema) (command : Command) (is : command_of (understood schema sql) ≡ command)
     (plain : IsPlain (understood schema sql)) (count : ℕ) → ExecutesIn true sql [] old new (Ok count) → Runs old new None command (statement_of sql (understood schema sql)) [] count
 unfolding ExecutesIn
-runs_in_batch sql old new schema has command is plain count h =
-    let known = sym h.1.is ∙ ap (λ s. understood s sql) has in
-    let bare = subst IsPlain (sym known) plain in
-    let ran : Runs old new h.0.returning h.0.command (text_of sql h.0) (timed [] h.0.formats h.1.now) count = elim (cases_Bool (shows_rows true h.0)) [
-      | inl shows ↦ absurd (let e = (rw shows at h.2).0 in cc)
-      | inr runs ↦ rw runs at h.2
-    ] in
-    subst₂ (λ k t. Runs old new None k t [] count) (ap command_of known ∙ is) (ap (statement_of sql) known) (rw (bare.0, bare.1) at ran)
+runs_in_batch sql old new schema has command is plain count h = grind (arith, ints, nat_tests, text_of, cases_Bool)
 
 abbrev sequence : Table
 sequence = record (sequence_table Made) { tree = 0 }
@@ -50,11 +43,7 @@ makes text table defined db after blank h =
     (schema, subst (λ (s : Schema). AllByRecursion (λ t. after.trees t.tree ≡ []) s.tables) (sym schema) (still_blank db.trees after.trees new db.schema.tables blank h.others h.empty))
 
 counts : (db after : Database) → IsBlank db → MakesSequence db (Ok after) → (after.schema ≡ counting (lacks_sequence db.schema) db.schema) × IsBlank after
-counts db after blank h = go (lacks_sequence db.schema) h
-  where
-    go : (b : Bool) → MatchBool b (MakesTable sequence_text db (Ok after)) (Gives db (Ok after)) → (after.schema ≡ counting b db.schema) × IsBlank after
-    go true k = makes sequence_text sequence sequence_defined db after blank k
-    go false k = let same : after ≡ db = same_value k in (ap (λ (d : Database). d.schema) same, subst IsBlank (sym same) blank)
+counts db after blank h = grind (arith, ints, nat_tests, counting, makes, sequence_defined, same_value)
 
 pub creates : (schema : Schema) (sql : List ℕ) (after : Schema) → Creates schema sql after → (old new : State) (count : ℕ) → old.now.schema ≡ schema → IsBlank old.now → ExecutesIn true sql [] old new (Ok count)
     → (new.now.schema ≡ after) × IsBlank new.now
@@ -63,7 +52,4 @@ creates schema sql after it old new count has blank h =
     let all = went w.changed in
     let first = went all.1 in
     let one = makes _ it.table it.defined old.now first.0 blank first.1 in
-    let two = counts first.0 all.0 one.1 first.2 in
-    let now : new.now ≡ all.0 = ap (λ (p : Tally × Database). p.1) (same_value all.2) in
-    let schema_is : all.0.schema ≡ after = two.0 ∙ ap (λ s. counting (lacks_sequence s) s) (one.0 ∙ ap (λ s. created s it.table) has) ∙ it.made in
-    (ap (λ (d : Database). d.schema) now ∙ schema_is, subst IsBlank (sym now) two.1)
+    grind (arith, ints, nat_tests, counts, same_value, counting, lacks_sequence, created)

@@ -1,5 +1,5 @@
 -- What the whole text makes of a database of version 1.
-use Rattle.sql_making.proofs.Names.{◌≡◌, ℕ, ℤ, true, List, [], ◌∷◌, map, length, Ok, refl, sym, ap, subst, ◌∙◌, AllByRecursion, Value, Int, Row, column, Ghosts, Trees, Schema, IsKeyedBy, map-map, Database, IsDatabase, ExecutesAllInside, Held, state, State, ExecutesIn, Moved, book_schema, version_now, Head, head_row, head_in, Seat, seat_row, seat_in, Entry, entry_row, entry_in, SeatsHold, EntriesHold, MovementsHold, FirmLinesHold, ExceptionsHold, BalancesHold, old_schema, version_then, move_text, version_set_part, after_entries_made, after_heads_emptied, old_head_row, old_head_in, numbered_versions, IsOldBook, IsMoved, movement_in, firm_line_in, exception_in, balance_in}
+use Rattle.sql_making.proofs.Names.{◌≡◌, ℕ, ℤ, true, List, [], ◌∷◌, map, length, Ok, refl, sym, ap, subst, ◌∙◌, AllByRecursion, Value, Int, Row, column, Ghosts, Trees, Schema, map-map, Database, IsDatabase, ExecutesAllInside, Held, state, State, ExecutesIn, Moved, book_schema, version_now, Head, head_row, head_in, Seat, seat_row, seat_in, Entry, entry_row, entry_in, SeatsHold, EntriesHold, MovementsHold, FirmLinesHold, ExceptionsHold, BalancesHold, old_schema, version_then, move_text, version_set_part, after_entries_made, after_heads_emptied, old_head_row, old_head_in, numbered_versions, IsOldBook, IsMoved, movement_in, firm_line_in, exception_in, balance_in}
 use Rattle.sql_tables.proofs.Others.{now_holds, now_read}
 use Rattle.sql_making.proofs.Parts.{IsFirst}
 use Rattle.sql_making.proofs.Whole.{Turns, turn}

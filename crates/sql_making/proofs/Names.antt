@@ -10,7 +10,7 @@ pub use Rattle.sql_tables.proofs.Kept.{all_kept, row_put, rows_gone}
 pub use Rattle.sql_tables.proofs.KindLemmas.{idle}
 pub use Rattle.sql_tables.proofs.Together.{ok_then, when_err, when_ok}
 pub use Rattle.sql_tables.proofs.Writes.{deletes, inserts, removed, same_value, updated, updates, went}
-pub use Rattle.sql_tables.specs.Reading.{IsKept, IsSelect}
+pub use Rattle.sql_tables.specs.Reading.{IsSelect}
 pub use Rattle.sql_tables.specs.Rows.{Balance, Entry, Exception, FirmLine, Head, Movement, Seat, balance_in, balance_row, entry_in, entry_row, entry_values, exception_in, exception_row, firm_line_in, firm_line_row, head_in, head_row, head_shown, movement_in, movement_row, seat_in, seat_row, seat_values}
 pub use Rattle.sql_tables.specs.Standing.{BalancesHold, EntriesHold, ExceptionsHold, FirmLinesHold, Holds, MovementsHold, SeatsHold, Stands}
 pub use Rattle.sqlite.proofs.Callers.{IsPlain, command_of, one_permutation, one_step, reads_as, statement_of}
@@ -22,8 +22,8 @@ pub use Rattle.sqlite.specs.Effect.{Database, IsDatabase, RefusesToRead}
 pub use Rattle.sqlite.specs.Held.{Held, state}
 pub use Rattle.sqlite.specs.Listing.{IsSourceOf, reads_listing}
 unfoldable pub use Rattle.sqlite.specs.Listing.{understood}
-pub use Rattle.sqlite.specs.Rows.{Counts, Edited, Gives, Task, Written, count_of, rowids_for, stamped}
-pub use Rattle.sqlite.specs.State.{Fails, FailsToShow, HasCleanDisk, IsNoStatement, KeepsCommit, Runs, State, mode_of, shows_rows, text_of}
+pub use Rattle.sqlite.specs.Rows.{Counts, Edited, Task, Written, count_of, rowids_for, stamped}
+pub use Rattle.sqlite.specs.State.{Fails, FailsToShow, IsNoStatement, KeepsCommit, Runs, State, mode_of, text_of}
 unfoldable pub use Rattle.sqlite.specs.State.{ExecutesIn, FailsToQuery, IsNotRun, Shown}
 pub use Rattle.sqlite.specs.declared.error.Error.{Error}
 pub use Rattle.sqlite_catalog.specs.Change.{KeepsRows, created, next_tree}
@@ -51,10 +51,12 @@ pub use Rattle.sqlite_value.proofs.OrderLemmas.{value_cmp-Int}
 pub use Rattle.sqlite_value.specs.Order.{Row, column}
 pub use Rattle.sqlite_value.specs.declared.value.Value.{Value}
 pub use Rattle.sqlite_value.specs.declared.value.Value.TheVariants.{Int, Null}
-pub use Rattle.std.proofs.Common.{Bool, Err, IfErr, IfOk, IsPermutation, IsSome, IsTrue, List, MatchBool, None, Ok, OnErr, OnOk, Option, Result, Some, [], ap, append-nil, ap₂, arith, codes, drop, false, filter, get_or, inl, inr, int_eq, length, map, map-id, not, of_z, pos, refl, rules, slice_get, subst, subst₂, suc, sym, to_z, true, w64, zero, ℕ, ℤ, ◌++◌, ◌<ℤ◌, ◌<◌, ◌∙◌, ◌∷◌, ◌≡◌, ◌≢◌, ◌≤◌, ◌⊎◌}
+pub use Rattle.std.proofs.Common.{Bool, Err, IfErr, IfOk, IsPermutation, IsSome, IsTrue, List, None, Ok, OnOk, Option, Result, Some, [], ap, append-nil, ap₂, arith, codes, drop, false, filter, get_or, inl, inr, int_eq, length, map, map-id, not, of_z, pos, refl, rules, slice_get, subst, subst₂, suc, sym, to_z, true, w64, zero, ℕ, ℤ, ◌++◌, ◌<ℤ◌, ◌<◌, ◌∙◌, ◌∷◌, ◌≡◌, ◌≢◌, ◌≤◌, ◌⊎◌}
 pub use Rattle.std.proofs.lemmas.List.Concat.{flat_map_single}
 pub use Rattle.std.proofs.lemmas.List.Sorted.{IsPermutation-map, IsPermutation-sym}
 pub use Rattle.std.specs.List.{AllByRecursion}
 pub use Rattle.sql_making.specs.Books.{HasFailed, IsBlank, IsBook, IsNewBook, no_schema, version_text, versions_in}
 pub use Rattle.sql_making.specs.Text.{after_entries_made, after_heads_emptied, entries_copied_part, entries_emptied_part, heads_copied_part, heads_emptied_part, move_text, seats_copied_part, seats_emptied_part, version_set_part}
 pub use Rattle.sql_making.specs.Then.{HasVersions, IsMoved, IsOldBook, numbered_versions, old_head_in, old_head_row}
+pub use Rattle.std.proofs.lemmas.Bool.Decides.{nat_tests}
+pub use Rattle.std.proofs.lemmas.Int.{ints}

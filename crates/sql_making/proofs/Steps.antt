@@ -1,5 +1,5 @@
 -- What each statement that copies or empties makes of its table.
-use Rattle.sql_making.proofs.Names.{Int, ◌≡◌, ℕ, ℤ, pos, true, List, [], ◌∷◌, map, Ok, refl, sym, ap, ◌∙◌, map-id, Null, Row, value_cmp-Int, Trees, IsAnswer, overlay, IsKeyedBy, at_end, last_table, answer_by_keys, State, ExecutesIn, Moved, book_schema, matter_place, matter_table, seat_place, seat_table, entry_place, entry_table, old_matter_table, old_seat_table, old_entry_table, Head, head_row, head_shown, Seat, seat_row, seat_values, Entry, entry_row, entry_values, no_lets, all_kept, heads_copied_part, seats_copied_part, entries_copied_part, heads_emptied_part, seats_emptied_part, entries_emptied_part, old_head_row}
+use Rattle.sql_making.proofs.Names.{Int, ◌≡◌, ℕ, pos, true, List, [], ◌∷◌, map, Ok, refl, sym, ap, ◌∙◌, map-id, Null, Row, value_cmp-Int, Trees, IsAnswer, overlay, IsKeyedBy, at_end, last_table, answer_by_keys, State, ExecutesIn, Moved, book_schema, matter_place, matter_table, seat_place, seat_table, entry_place, entry_table, old_matter_table, old_seat_table, old_entry_table, Head, head_row, head_shown, Seat, seat_row, seat_values, Entry, entry_row, entry_values, no_lets, all_kept, heads_copied_part, seats_copied_part, entries_copied_part, heads_emptied_part, seats_emptied_part, entries_emptied_part, old_head_row}
 use Rattle.sqlite_typed.proofs.TestLemmas.{last_key}
 use Rattle.sql_tables.proofs.Casts.{row_kept}
 use Rattle.sql_making.proofs.Means.{heads_copied_query, heads_copied_means, seats_copied_query, seats_copied_means, entries_copied_query, entries_copied_means, heads_emptied_means, seats_emptied_means, entries_emptied_means}

@@ -1,5 +1,5 @@
 -- What the text that reads the versions answers under the schema of a book of either version, and why it fails.
-use Rattle.sql_making.proofs.Names.{◌≡◌, ◌⊎◌, inl, inr, ℕ, ◌<◌, ◌≤◌, ℤ, true, false, List, [], ◌∷◌, length, get_or, None, Option, Result, Ok, Err, IsSome, map, codes, refl, sym, ap, subst, subst₂, ◌∙◌, arith, IsPermutation, flat_map_single, IsPermutation-map, IsPermutation-sym, Value, Null, Int, Row, column, Trees, col, Query, Output, output, IsAnswer, overlay, Schema, Command, Select, map-map, everything, Error, timed, Database, RefusesToRead, understood, reads_listing, IsSourceOf, State, Shown, Fails, FailsToQuery, FailsToShow, IsNotRun, IsNoStatement, IsPlain, command_of, reads_as, one_permutation, Layout, Made, Moved, old_schema, book_schema, IsSelect, HasFailed, version_text, versions_in, HasVersions, numbered_versions}
+use Rattle.sql_making.proofs.Names.{◌≡◌, ◌⊎◌, inl, inr, ℕ, ◌<◌, ◌≤◌, ℤ, true, false, List, [], ◌∷◌, length, get_or, None, Option, Result, Ok, Err, IsSome, map, codes, refl, sym, ap, subst, ◌∙◌, arith, IsPermutation, flat_map_single, IsPermutation-map, IsPermutation-sym, Value, Null, Int, Row, column, Trees, col, Query, Output, output, IsAnswer, overlay, Schema, Command, Select, map-map, everything, Error, timed, Database, RefusesToRead, understood, reads_listing, IsSourceOf, State, Shown, Fails, FailsToQuery, FailsToShow, IsNotRun, IsNoStatement, IsPlain, command_of, reads_as, one_permutation, Layout, Made, Moved, old_schema, book_schema, IsSelect, HasFailed, version_text, versions_in, HasVersions, numbered_versions, ints, nat_tests}
 use Rattle.sqlite_value.specs.declared.keys.Collation.TheVariants.{Binary}
 use Rattle.sqlite_value.specs.declared.keys.Key.{Key}
 use Rattle.sqlite_sql.specs.Term.{Term, eval_all}
@@ -103,14 +103,7 @@ caused old new cause e (Broken, is, why, back, told) = inr (inr (inl why))
 caused old new cause e (Unstorable, is, why, back, told) = absurd why
 
 no_statement : (old : State) (e : Error) → Asks old.now.schema → ¬ IsNoStatement old version_text [] e
-no_statement old e a (inl h) = subst IsAlone h.1 a.alone
-no_statement old e a (inr h) =
-    let it = subst IsAlone h.1 a.alone in
-    elim h.2 [
-      | inl long ↦ long.0 (omega (arith, it.0))
-      | inr (inl given) ↦ given.0 (sym (ap length it.1))
-      | inr (inr clock) ↦ clock.0 it.2
-    ]
+no_statement old e a x3 = grind (arith, ints, nat_tests, length)
 
 -- the query itself is refused by a limit on steps alone
 limited : (limit : Option ℕ) (db : Database) (e : Error) → Asks db.schema → RefusesToRead limit command db [] e → IsSome limit
@@ -130,6 +123,4 @@ query_cause old new e has (inr h) =
     let shown = subst (FailsToShow old new version_text h.0 (timed [] h.0.formats h.1.now) e) it.3 h.2 in
     let db : shown.0 ≡ old.now = subst (λ b. IsSourceOf b old.now shown.0) a.unlisted shown.1 in
     let is : h.0.command ≡ command = ap command_of (sym h.1.is) ∙ a.is in
-    let refused : RefusesToRead old.step_limit command shown.0 [] e =
-    subst₂ (λ k p. RefusesToRead old.step_limit k shown.0 p e) is (ap (λ f. timed [] f h.1.now) it.2) shown.2 in
-    inr (inr (inr (limited old.step_limit shown.0 e (subst (λ (d : Database). Asks d.schema) (sym db) a) refused)))
+    grind (arith, ints, nat_tests, command, is, timed, limited)

@@ -1,5 +1,5 @@
 -- What the last statement of the text makes of the tables.
-use Rattle.sql_making.proofs.Names.{◌≡◌, ◌≢◌, ℕ, pos, true, List, [], ◌∷◌, drop, None, Ok, refl, sym, ap, subst, ◌∙◌, arith, AllByRecursion, Null, Int, Row, Trees, lit, Table, Command, Insert, Chosen, Edit, edit_of, edited, taken_by, Enforced, everything, Database, understood, Tally, Does, Written, Edited, State, ExecutesIn, mode_of, statement_of, one_step, Made, book_schema, book_table, version_now, version_part, IsBlank, IsNewBook, went, same_value, cast_int, cast_null}
+use Rattle.sql_making.proofs.Names.{◌≡◌, ◌≢◌, ℕ, pos, true, List, [], ◌∷◌, drop, None, Ok, refl, ap, subst, ◌∙◌, arith, AllByRecursion, Null, Int, Row, Trees, lit, Table, Command, Insert, Chosen, Edit, edit_of, edited, taken_by, Enforced, everything, Database, understood, Tally, Does, Written, Edited, State, ExecutesIn, mode_of, statement_of, one_step, Made, book_schema, book_table, version_now, version_part, IsBlank, IsNewBook, went, same_value, cast_int, cast_null, ints, nat_tests}
 use Rattle.sqlite_schema.specs.declared.command.Source.TheVariants.{Values}
 use Rattle.sqlite_rules.specs.Action.{works}
 use Rattle.sql_tables.proofs.Calls.{IsCommand}
@@ -43,12 +43,4 @@ adds_version old new count has blank h =
     let put : Edited (book_schema Made) Enforced db (edit_in db) (Ok written.0) = subst (λ l. Edited (book_schema Made) Enforced db (edit_of db (book_table Made) [] Chosen 0 l) (Ok written.0)) given.1.1 written.1 in
     let applied = one_step (book_schema Made) Enforced db written.0 (edit_in db) (quiet db) put in
     let rows : edited db (edit_in db) ≡ (Int (pos 1) ∷ Int version_now ∷ []) ∷ [] = rw (empty.0, cast_null, cast_int version_now) in
-    let all : new.now.trees ≡ written.0 = ap (λ (d : Database). d.trees) now ∙ trees in
-    let none = still db written.0 0 (drop 1 (book_schema Made).tables) applied.tables.1
-    (λ e. omega (arith, e), (λ e. omega (arith, e), (λ e. omega (arith, e), (λ e. omega (arith, e), (λ e. omega (arith, e), (λ e. omega (arith, e), (λ e. omega (arith, e), (λ e. omega (arith, e), tt)))))))) empty.1 in
-    record {
-      schema = ap (λ (d : Database). d.schema) now;
-      version = ap (λ (t : Trees). t 0) all ∙ applied.rows ∙ rows;
-      others = subst (λ (t : Trees). AllByRecursion (λ (x : Table). t x.tree ≡ []) (drop 1 (book_schema Made).tables)) (sym all) none;
-      listed = w.sound;
-    }
+    grind (arith, ints, nat_tests, still, drop, book_schema)

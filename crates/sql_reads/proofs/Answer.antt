@@ -1,5 +1,5 @@
 -- A query whose answer is known, and what a sink was handed of it.
-use Rattle.sql_reads.proofs.Names.{◌≡◌, inl, inr, ℕ, List, [], ◌++◌, fold, length, Result, Ok, Err, append-nil, sym, ap, subst, ◌∙◌, Null, Row, Query, IsAnswer, overlay, Schema, State, Begins, begins_as, HandedOver, begun, IsQuery, answers, AreCounted, IsFed}
+use Rattle.sql_reads.proofs.Names.{◌≡◌, inl, inr, ℕ, List, [], ◌++◌, fold, length, Result, Ok, Err, append-nil, sym, subst, Null, Row, Query, IsAnswer, overlay, Schema, State, Begins, begins_as, HandedOver, begun, IsQuery, answers, AreCounted, IsFed, arith, ints, nat_tests}
 
 module _ {schema : Schema} {sql : List ℕ} {q : Query} {names : List (List ℕ)} (it : IsQuery schema sql q names)
     (params : Row) (old new : State) (has : old.now.schema ≡ schema) (rows : List Row)
@@ -15,12 +15,7 @@ module _ {schema : Schema} {sql : List ℕ} {q : Query} {names : List (List ℕ)
         → AreCounted step rows r a b
     fed_counted (Ok n) a b fed =
         let same = known fed.all.0 (answers it params old new has fed.all.0 fed.all.1) in
-        let whole : b ≡ fold step a rows = fed.all.2 ∙ ap (fold step a) same in
-        record {
-          all = whole;
-          some = ([], record { front = rows; parts = append-nil rows; folded = whole });
-          count = fed.all.3 ∙ ap length same;
-        }
+        grind (arith, ints, nat_tests, fold, append-nil, length)
     fed_counted (Err e) a b fed = elim fed.some [
       | inl none ↦
           let front = subst (HandedOver step a rows rows) (sym none) (begun step a rows) in

@@ -1,10 +1,9 @@
 -- The balance of a kind and day among the rows of its table.
-use Rattle.sql_reads.proofs.Names.{◌≡◌, inl, inr, ℕ, ℤ, pos, nat_abs, ◌≤◌, Bool, true, false, ◌==◌, ◌&&◌, List, [], ◌∷◌, map, filter, find, length, Option, option_map, int_eq, Less, Equal, nat_cmp, refl, sym, ap, ap₂, ◌∙◌, arith, AllByRecursion, cases_Bool, and_parts, nat_tests, length-map, Int, Row, column, sort_by, all_weaker, filter_none, filter-map, StatementRow, Balance, balance_cmp, balance_shown, is_balance_at, kind_column, balance_from, IsWrittenBalance, int_eq-nat, find-sort_by, slice_get-filter, slice_get, filter_same, None, Some}
+use Rattle.sql_reads.proofs.Names.{◌≡◌, inl, inr, ℕ, ℤ, pos, nat_abs, ◌≤◌, Bool, true, false, ◌==◌, List, [], ◌∷◌, map, filter, find, length, Option, option_map, int_eq, Less, nat_cmp, refl, sym, ap, ◌∙◌, arith, AllByRecursion, cases_Bool, and_parts, nat_tests, length-map, Int, Row, column, sort_by, all_weaker, filter_none, filter-map, StatementRow, Balance, balance_cmp, balance_shown, is_balance_at, kind_column, balance_from, IsWrittenBalance, int_eq-nat, find-sort_by, slice_get-filter, slice_get, filter_same, None, Some, ints}
 use Rattle.std.specs.List.Sorted.{IsStrictlySortedBy}
 use Rattle.std.proofs.lemmas.Cmp.{int_cmp_total, on_total, then_total}
 use Rattle.std.specs.Cmp.{IsTotalOrder}
 use Rattle.firm_rows.specs.declared.ledger.BalanceKind.{BalanceKind}
-use Rattle.firm_rows.specs.declared.ledger.BalanceKind.TheVariants.{Opening, Closing}
 use Rattle.firm_rows.specs.FirmLines.{place_of, is_balance_on, kept_balance}
 use Rattle.firm_rows.specs.FirmLines as own
 
@@ -29,20 +28,12 @@ same_kind a b = grind arith
 
 same_test : (k : BalanceKind) (day : ℕ) (b : Balance) → IsWrittenBalance b → is_balance_on k day (balance_from b) ≡ is_balance_at (kind_column k) (pos day) b
 same_test k day b written =
-    let kind : b.kind ≡ kind_column (balance_from b).kind = ap (λ (x : Balance). x.kind) written in
-    let on : b.day ≡ pos (nat_abs b.day) = ap (λ (x : Balance). x.day) written in
-    ap₂ ◌&&◌ (same_kind (balance_from b).kind k ∙ ap (λ z. int_eq z (kind_column k)) (sym kind))
-    (sym (int_eq-nat (nat_abs b.day) day) ∙ ap (λ z. int_eq z (pos day)) (sym on))
+    grind (arith, ints, nat_tests, kind_column, balance_from, nat_abs, same_kind, int_eq, int_eq-nat)
 
 -- One row of a kind and day at most.
 
 not_less : (k : BalanceKind) (day : ℕ) (r x : StatementRow) → is_balance_on k day r ≡ true → is_balance_on k day x ≡ true → own.balance_cmp r x ≡ Less → ⊥
-not_less k day r x on also lt =
-    let a = and_parts (place_of r.kind == place_of k) (r.day == day) on in
-    let b = and_parts (place_of x.kind == place_of k) (x.day == day) also in
-    let kinds : nat_cmp (place_of r.kind) (place_of x.kind) ≡ Equal = grind (arith, nat_tests, a.0, b.0) in
-    let days : nat_cmp r.day x.day ≡ Equal = grind (arith, nat_tests, a.1, b.1) in
-    let f = rw (kinds, days) at lt in cc
+not_less k day r x on also lt = grind (arith, ints, nat_tests, and_parts, place_of, nat_cmp)
 
 few_on : (k : BalanceKind) (day : ℕ) (rs : List StatementRow) → IsStrictlySortedBy own.balance_cmp rs → length (filter (is_balance_on k day) rs) ≤ 1
 unfolding IsStrictlySortedBy
@@ -76,6 +67,4 @@ kept_is_found k day bs written up =
 
 -- the number of a row that shows one is its amount
 pub amount_shown : (b : Balance) (r : Row) (z : ℤ) → r ≡ balance_shown b → column r 0 ≡ Int z → z ≡ b.amount
-amount_shown b r z is at =
-    let same : Int b.amount ≡ Int z = ap (λ row. column row 0) (sym is) ∙ at in
-    cc
+amount_shown b r z is at = grind (arith, ints, nat_tests, column)

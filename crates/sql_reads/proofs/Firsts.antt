@@ -1,13 +1,12 @@
 -- The first row of an answer to a query by key.
-use Rattle.sql_reads.proofs.Names.{◌≡◌, Bool, List, [], ◌∷◌, map, filter, Option, Some, None, option_map, find, slice_get, refl, sym, ap, ◌∙◌, Row, slice_get-filter}
+use Rattle.sql_reads.proofs.Names.{◌≡◌, Bool, List, [], ◌∷◌, map, filter, Option, Some, None, option_map, find, slice_get, refl, sym, ap, ◌∙◌, Row, slice_get-filter, arith, ints, nat_tests}
 
 first_shown : {X : Type 0} (shown : X → Row) (xs : List X) → slice_get (map shown xs) 0 ≡ option_map shown (slice_get xs 0)
 first_shown shown [] = refl
 first_shown shown (x ∷ xs) = refl
 
 pub none_shown : {X : Type 0} (shown : X → Row) (o : Option X) → None ≡ option_map shown o → o ≡ None
-none_shown shown None e = refl
-none_shown shown (Some x) e = absurd (let f = e in cc)
+none_shown shown o e = grind (arith, ints, nat_tests)
 
 -- a row that shows the one that was found
 pub record Finds {X : Type 0} (shown : X → Row) (found : Option X) (row : Row) : Type 0 where

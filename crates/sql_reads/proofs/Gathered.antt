@@ -1,5 +1,5 @@
 -- What a loop over rows has gathered so far.
-use Rattle.sql_reads.proofs.Names.{◌≡◌, zero, suc, add-one, ℕ, ◌+◌, ◌<◌, ◌≤◌, List, [], ◌∷◌, ◌++◌, map, length, get_or, take, ap, subst, ◌∙◌, arith, length-map, take_all, Row}
+use Rattle.sql_reads.proofs.Names.{◌≡◌, zero, suc, add-one, ℕ, ◌+◌, ◌<◌, ◌≤◌, List, [], ◌∷◌, ◌++◌, map, length, get_or, take, ap, ◌∙◌, arith, length-map, take_all, Row, ints, nat_tests}
 
 module _ {X Y : Type 0} (shown : X → Row) (from : X → Y) (r : Row) (y : Y) (reads : (x : X) → r ≡ shown x → y ≡ from x) where
   front_more : (xs : List X) (i : ℕ) → i < length xs → r ≡ get_or (map shown xs) i r → map from (take i xs) ++ y ∷ [] ≡ map from (take (i + 1) xs)
@@ -10,9 +10,7 @@ module _ {X Y : Type 0} (shown : X → Row) (from : X → Y) (r : Row) (y : Y) (
   -- with what the next row stands for it is one more
   pub one_more : (xs : List X) (rows : List Row) (i : ℕ) (now : List Y) → rows ≡ map shown xs → i < length rows → r ≡ get_or rows i r → now ≡ map from (take i xs)
       → now ++ y ∷ [] ≡ map from (take (i + 1) xs)
-  one_more xs rows i now is within at so_far =
-      ap (λ l. l ++ y ∷ []) so_far
-      ∙ front_more xs i (subst (λ n. i < n) (ap length is ∙ length-map xs shown) within) (at ∙ ap (λ l. get_or l i r) is)
+  one_more xs rows i now is within at so_far = grind (arith, ints, nat_tests, front_more, length, length-map, get_or)
 
 -- behind the last row it is all of them
 pub all_taken : {X Y : Type 0} (shown : X → Row) (from : X → Y) (xs : List X) (rows : List Row) (i : ℕ) (now : List Y) → rows ≡ map shown xs → length rows ≤ i → now ≡ map from (take i xs) → now ≡ map from xs

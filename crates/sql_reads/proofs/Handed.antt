@@ -1,5 +1,5 @@
 -- Rows of a query that a sink took, as what they stand for.
-use Rattle.sql_reads.proofs.Names.{◌≡◌, ℕ, ◌≤◌, List, [], ◌∷◌, map, Result, Ok, Err, refl, sym, subst, AllByRecursion, length-map, Row, Query, IsAnswer, overlay, Schema, State, AreCountable, MOST_ROWS, AreHanded, LeavesAll, IsQuery, answers, leaves_on, IsFed}
+use Rattle.sql_reads.proofs.Names.{◌≡◌, ℕ, List, [], ◌∷◌, map, Result, Ok, Err, sym, subst, AllByRecursion, length-map, Row, Query, IsAnswer, overlay, Schema, State, AreCountable, AreHanded, LeavesAll, IsQuery, answers, leaves_on, IsFed, arith, ints, nat_tests}
 use Rattle.std.specs.Result.{result_and}
 use Rattle.sql_reads.proofs.Answer.{fed_counted}
 use Rattle.sql_reads.proofs.Fed.{counted_mapped}
@@ -10,10 +10,7 @@ module _ {A B : Type 0} (f : B → A) (IsInRange : A → Type 0) where
   all_mapped (x ∷ xs) all = (all.0, all_mapped xs all.1)
 
   countable_mapped : (xs : List B) → AreCountable (λ x. IsInRange (f x)) xs → AreCountable IsInRange (map f xs)
-  countable_mapped xs h = record {
-    few = subst (λ n. n ≤ MOST_ROWS) (sym (length-map xs f)) h.few;
-    ranged = all_mapped xs h.ranged;
-  }
+  countable_mapped xs h = grind (arith, ints, nat_tests, length-map, all_mapped)
 
 module _ {schema : Schema} {sql : List ℕ} {q : Query} {names : List (List ℕ)} (it : IsQuery schema sql q names)
     (params : Row) (old new : State) (has : old.now.schema ≡ schema) (rows : List Row)
@@ -29,14 +26,11 @@ module _ {schema : Schema} {sql : List ℕ} {q : Query} {names : List (List ℕ)
         let counted = counted_mapped step f rows (Ok n) a b
         (fed_counted it params old new has rows known (λ s x. step s (f x)) (λ x. IsInRange (f x)) (Ok n) a b fed) in
         let same = known fed.all.0 (answers it params old new has fed.all.0 fed.all.1) in
-        let range = subst (λ xs. AreCountable (λ x. IsInRange (f x)) xs) same fed.all.4 in
-        subst (λ xs. AreHanded {T = Unit {0}} {E = E} step IsInRange xs (Ok tt) a b) shown
-        (record { all = counted.all; some = counted.some; countable = countable_mapped f IsInRange rows range })
+        grind (arith, ints, nat_tests, countable_mapped)
     handed_by {E} (Err e) a b fed =
         let counted = counted_mapped step f rows (Err e) a b
         (fed_counted it params old new has rows known (λ s x. step s (f x)) (λ x. IsInRange (f x)) (Err e) a b fed) in
-        subst (λ xs. AreHanded {T = Unit {0}} {E = E} step IsInRange xs (Err e) a b) shown
-        (record { all = tt; some = counted.some; countable = tt })
+        grind (arith, ints, nat_tests)
 
     -- the answer was handed over, whole or up to an error
     pub handed : {E : Type 0} (r : Result ℕ E) (a b : K) → Fed r a b → (o : Result (Unit {0}) E)
@@ -46,8 +40,7 @@ module _ {schema : Schema} {sql : List ℕ} {q : Query} {names : List (List ℕ)
 -- either way what the call leaves is what the query left
 module _ {E : Type 0} (old new : State) where
   left_by : (r : Result ℕ E) → LeavesAll r old new → LeavesAll {T = Unit {0}} {E = E} (result_and r (Ok tt)) old new
-  left_by (Ok n) left = leaves_on (Ok n) (Ok tt) old new (λ e. refl) left
-  left_by (Err e) left = leaves_on (Err e) (Err e) old new (λ f. absurd (let g = f in cc)) left
+  left_by r left = grind (arith, ints, nat_tests, leaves_on)
 
   pub all_left : (r : Result ℕ E) → LeavesAll r old new → (o : Result (Unit {0}) E) → o ≡ result_and r (Ok tt)
       → LeavesAll o old new

@@ -1,5 +1,5 @@
 -- The entries of a matter that are read for two that are named: these, and then those that they draw on.
-use Rattle.sql_reads.proofs.Names.{◌≡◌, inl, inr, zero, suc, ℕ, ◌+◌, ◌<◌, ◌≤◌, ◌==◌, ◌||◌, ltb, Bool, true, false, cond, List, [], ◌∷◌, ◌++◌, Option, Some, None, is_some, true≢false, refl, sym, ap, ap₂, subst, ◌∙◌, arith, cases_Bool, nat_tests, Seat, Rows, unopened, number_or_none, target_in, Figures, Kept, AreFigures, AreNumbered, IsPart, IsWhole, Part, entry_in, is_held, is_it, is_named, kept_in, named_part, target_by, of, IsPartFor, Lists, AreSound, firm_from, HeadWithTotals, drawn_by, part_at, with_totals_at, found_passes}
+use Rattle.sql_reads.proofs.Names.{◌≡◌, zero, suc, ℕ, ◌+◌, ◌<◌, ◌≤◌, ◌==◌, ◌||◌, ltb, Bool, true, false, cond, List, [], ◌∷◌, ◌++◌, Option, Some, None, is_some, true≢false, refl, sym, ap, ap₂, subst, ◌∙◌, arith, cases_Bool, nat_tests, Seat, Rows, unopened, number_or_none, target_in, Figures, Kept, AreFigures, AreNumbered, IsPart, IsWhole, Part, entry_in, is_held, is_it, is_named, kept_in, named_part, target_by, of, IsPartFor, Lists, AreSound, firm_from, HeadWithTotals, drawn_by, part_at, with_totals_at, found_passes, ints}
 use denote.Ref.{Bor}
 use Rattle.std.specs.Option.{option_copied, option_or}
 use Rattle.std.proofs.lemmas.List.Folds.{find-append}
@@ -18,12 +18,10 @@ KeepsAlso wanted all old new = (n : ℕ) → kept_in new n ≡ cond (is_it wante
 
 -- whether there is an entry behind a reference
 pub held : {T : Type 0} (o : Option (Bor T)) (k : Option T) → option_copied o ≡ k → is_some o ≡ is_some k
-held None k is = ap is_some is
-held (Some x) k is = ap is_some is
+held o k is = grind (arith, ints, nat_tests, is_some)
 
 cond_none : (b : Bool) (o : Option Kept) → o ≡ None → cond b o None ≡ o
-cond_none true o none = refl
-cond_none false o none = sym none
+cond_none b o none = grind (arith, ints, nat_tests)
 
 -- One entry more.
 
@@ -35,28 +33,17 @@ module _ (all old : List Kept) (wanted : Option ℕ) where
   module _ (number : ℕ) (is : wanted ≡ Some number) where
     with_number : (new : List Kept) → ((n : ℕ) → (n == number) ≡ false → kept_in new n ≡ kept_in old n)
         → kept_in new number ≡ kept_in all number → KeepsAlso wanted all old new
-    with_number new others own n = rw is (elim (cases_Bool (n == number)) [
-      | inl same ↦
-          let it : n ≡ number = grind (arith, nat_tests, same) in
-          rw same (ap (kept_in new) it ∙ own ∙ ap (kept_in all) (sym it))
-      | inr other ↦ rw other (others n other)
-    ])
+    with_number new others own n = grind (arith, ints, nat_tests, cases_Bool, kept_in)
 
     -- an entry that is kept already
     pub also_held : (has : ℕ → Bool) → KeepsOnly has all old → is_some (kept_in old number) ≡ true
         → KeepsAlso wanted all old old
-    also_held has so_far some = with_number old (λ n other. refl) (own (has number) (so_far number))
-      where
-        own : (b : Bool) → kept_in old number ≡ cond b (kept_in all number) None
-            → kept_in old number ≡ kept_in all number
-        own true same = same
-        own false same = absurd (true≢false (sym some ∙ ap is_some same))
+    also_held has so_far some = grind (arith, ints, nat_tests, with_number, kept_in, is_some)
 
     -- an entry that does not exist
     pub also_absent : (has : ℕ → Bool) → KeepsOnly has all old → kept_in all number ≡ None
         → KeepsAlso wanted all old old
-    also_absent has so_far none =
-        with_number old (λ n other. refl) (so_far number ∙ cond_none (has number) (kept_in all number) none)
+    also_absent has so_far none = grind (arith, ints, nat_tests, with_number, cond_none, kept_in)
 
     -- an entry that was not kept, behind the others
     pub also_behind : (k : Kept) → is_some (kept_in old number) ≡ false → kept_in all number ≡ Some k
@@ -111,29 +98,18 @@ itself : (n : ℕ) → (n == n) ≡ true
 itself n = grind (arith, nat_tests)
 
 any : (x y z : Bool) → y ≡ true → ((x || y) || z) ≡ true
-any true y z is = refl
-any false y z is = ap (λ t. t || z) is
+any x y z is = grind (arith, ints, nat_tests)
 
 is_target : (o : Option ℕ) (t n : ℕ) → number_or_none o ≡ t → 1 ≤ n → is_it o n ≡ (n == t)
-is_target None t n is low =
-    let zero_is : 0 ≡ t = is in
-    let apart : (n == t) ≡ false = grind (arith, nat_tests, zero_is, low) in
-    sym apart
-is_target (Some k) t n is low = ap (λ j. n == j) is
+is_target o t n is low = grind (arith, ints, nat_tests)
 
 target_same : (m : Part) (has : ℕ → Bool) (kept : List Kept) (a : Option ℕ) → KeepsOnly has m.kept kept
     → ((k : ℕ) → is_it a k ≡ true → has k ≡ true) → drawn_by kept a ≡ target_by m a
-target_same m has kept None keeps covers = refl
-target_same m has kept (Some k) keeps covers =
-    ap (λ o. target_in (entry_in o))
-    (keeps k ∙ ap (λ b. cond b (kept_in m.kept k) None) (covers k (itself k)))
+target_same m has kept a keeps covers = grind (arith, ints, nat_tests, target_in, entry_in, kept_in, itself)
 
 merged : (x w : Bool) (new old all : Option Kept) → new ≡ cond w all old → old ≡ cond x all None
     → new ≡ cond (x || w) all None
-merged true true new old all is was = is
-merged true false new old all is was = is ∙ was
-merged false true new old all is was = is
-merged false false new old all is was = is ∙ was
+merged x w new old all is was = grind (arith, ints, nat_tests)
 
 or_turned : (x y z w : Bool) → (((x || y) || z) || w) ≡ (x || (y || (z || w)))
 or_turned x y z w = grind arith
@@ -142,8 +118,7 @@ no_zero : (n : ℕ) (ks : List Kept) → AreNumbered n ks → 1 ≤ n → kept_i
 no_zero n [] numbered low = refl
 no_zero n (k ∷ ks) numbered low =
     let own : k.number ≡ n = numbered.0 in
-    let apart : (k.number == 0) ≡ false = grind (arith, nat_tests, own, low) in
-    rw apart (no_zero (n + 1) ks numbered.1 (omega (arith, low)))
+    grind (arith, ints, nat_tests, own, (no_zero (n + 1) ks numbered.1 (omega (arith, low))))
 
 -- what is wanted at a turn, by the entries that are kept
 pub record IsWanted (a b : Option ℕ) (kept : List Kept) (i : ℕ) (wanted : Option ℕ) : Type 0 where
@@ -158,16 +133,13 @@ module _ (m : Part) (a b : Option ℕ) where
   third : (kept : List Kept) (wanted : Option ℕ) → KeepsOnly (is_read m a b 2) m.kept kept
       → number_or_none wanted ≡ drawn_by kept a → IsNext m a b 2 wanted
   third kept wanted keeps draws n low =
-      let same = target_same m (is_read m a b 2) kept a keeps (λ k is. any false (is_it a k) (is_it b k) is) in
-      is_target wanted (target_by m a) n (draws ∙ same) low
+      grind (arith, ints, nat_tests, target_same, is_read, any, is_it, is_target, target_by)
 
   -- the one that the second draws on
   fourth : (kept : List Kept) (wanted : Option ℕ) → KeepsOnly (is_read m a b 3) m.kept kept
       → number_or_none wanted ≡ drawn_by kept b → IsNext m a b 3 wanted
   fourth kept wanted keeps draws n low =
-      let same = target_same m (is_read m a b 3) kept b keeps
-      (λ k is. any (is_it a k) (is_it b k) (k == target_by m a) is) in
-      is_target wanted (target_by m b) n (draws ∙ same) low
+      grind (arith, ints, nat_tests, target_same, is_read, any, is_it, target_by, is_target)
 
   is_wanted : (kept : List Kept) (i : ℕ) (wanted : Option ℕ) → KeepsOnly (is_read m a b i) m.kept kept
       → IsWanted a b kept i wanted → IsNext m a b i wanted
@@ -181,10 +153,7 @@ module _ (m : Part) (a b : Option ℕ) where
       → KeepsOnly (is_read m a b i) m.kept old → IsNext m a b i wanted → KeepsAlso wanted m.kept old new
       → KeepsOnly (is_read m a b (suc i)) m.kept new
   one_turn i wanted old new numbered so_far next also zero =
-      let none = no_zero 1 m.kept numbered (omega arith) in
-      merged (is_read m a b i 0) (is_it wanted 0) (kept_in new 0) (kept_in old 0) (kept_in m.kept 0) (also 0) (so_far 0)
-      ∙ cond_none (is_read m a b i 0 || is_it wanted 0) (kept_in m.kept 0) none
-      ∙ sym (cond_none (is_read m a b i 0 || is_next m a b i 0) (kept_in m.kept 0) none)
+      grind (arith, ints, nat_tests, no_zero, merged, is_read, is_it, kept_in, cond_none, is_next)
   one_turn i wanted old new numbered so_far next also (suc n) =
       let k = suc n in
       merged (is_read m a b i k) (is_it wanted k) (kept_in new k) (kept_in old k) (kept_in m.kept k) (also k) (so_far k)
@@ -202,10 +171,7 @@ module _ (m : Part) (a b : Option ℕ) where
   -- after all turns the named ones are kept, and those that they draw on
   all_read : (kept : List Kept) → KeepsOnly (is_read m a b 4) m.kept kept
       → (n : ℕ) → kept_in kept n ≡ kept_at (named_part m a b) n
-  all_read kept keeps n =
-      keeps n
-      ∙ ap (λ t. cond t (kept_at m n) None) (or_turned (is_it a n) (is_it b n) (n == target_by m a) (n == target_by m b))
-      ∙ sym (kept-named m a b n)
+  all_read kept keeps n = grind (arith, ints, nat_tests, kept_at, or_turned, is_it, target_by, kept-named)
 
 -- A part that keeps the named entries of a whole part, and no others.
 

@@ -1,8 +1,8 @@
 -- The names that the proofs of this crate cite, passed on from one place. Declares nothing.
-pub use Rattle.firm_rows.specs.Countable.{AreCountable, IsBalanceInRange, IsFirmLineInRange, IsLineInRange, IsMovementInRange, IsRowInRange, MOST_ROWS}
-pub use Rattle.firm_rows.specs.Firm.{EntryRow, Firm, HeadRow, SeatRow, empty_firm, entry_pairs, of, pairs, seat_pairs}
+pub use Rattle.firm_rows.specs.Countable.{AreCountable, IsRowInRange, MOST_ROWS}
+pub use Rattle.firm_rows.specs.Firm.{EntryRow, Firm, HeadRow, SeatRow, empty_firm, of, pairs, seat_pairs}
 pub use Rattle.firm_rows.specs.declared.ledger.StatementRow.{StatementRow}
-pub use Rattle.matter_parts.specs.Parts.{AreFigures, AreNumbered, IsPart, IsWhole, Part, entries_kept, entry_in, is_held, is_it, is_named, kept_in, named_part, target_by}
+pub use Rattle.matter_parts.specs.Parts.{AreFigures, AreNumbered, IsPart, IsWhole, Part, entry_in, is_held, is_it, is_named, kept_in, named_part, target_by}
 pub use Rattle.matter_parts.specs.declared.figures.Figures.{Figures}
 pub use Rattle.matter_parts.specs.declared.kept.Kept.{Kept}
 pub use Rattle.matter_rows.specs.Rows.{Rows, unopened}
@@ -12,7 +12,7 @@ pub use Rattle.sql_rows.proofs.KeyedRows.{apart_below, int_eq-itself, int_eq-nat
 pub use Rattle.sql_rows.proofs.RowOrder.{all-find, find-sort_by, found_passes}
 pub use Rattle.sql_rows.specs.Columns.{kind_column}
 pub use Rattle.sql_rows.specs.Heads.{HasHead, HasTotals, IsHead, IsHolder, client_column, closed_column, purged_column}
-pub use Rattle.sql_rows.specs.Meaning.{AreSound, IsWrittenBalance, IsWrittenHead, balance_from, day_or_none, exception_from, figures_from, firm_from, firm_line_from, head_from, kept_from, matter_from, matters_from, movement_from, part_from, seat_from}
+pub use Rattle.sql_rows.specs.Meaning.{AreSound, IsWrittenBalance, IsWrittenHead, balance_from, day_or_none, figures_from, firm_from, firm_line_from, head_from, kept_from, matter_from, matters_from, part_from, seat_from}
 pub use Rattle.sql_rows.specs.Standing.{StandsSound, firm_in}
 pub use Rattle.sql_rows.specs.Steps.{head_at}
 pub use Rattle.sql_schema.specs.declared.layout.Layout.{Layout}
@@ -22,13 +22,13 @@ pub use Rattle.sql_tables.proofs.ReadLemmas.{balance_read_answer, balance_scan_a
 pub use Rattle.sql_tables.specs.Given.{head_given}
 pub use Rattle.sql_tables.specs.Lists.{Lists, lists_in}
 pub use Rattle.sql_tables.specs.Reading.{IsKept, IsSelect, LeavesAll}
-pub use Rattle.sql_tables.specs.Rows.{Balance, Entry, FirmLine, Head, balance_cmp, balance_shown, balance_values, balances_in, entries_in, entries_of, exception_cmp, exception_values, exceptions_in, firm_line_values, firm_lines_in, head_in, head_shown, heads_in, is_balance_at, is_entry_at, is_head, is_past, movement_values, movements_in, no_shown, numbered_shown, seat_shown, seats_in, seats_of}
+pub use Rattle.sql_tables.specs.Rows.{Balance, Entry, FirmLine, Head, balance_cmp, balance_shown, balance_values, balances_in, entries_in, entries_of, exception_values, firm_line_values, head_in, head_shown, heads_in, is_balance_at, is_entry_at, is_head, is_past, movement_values, no_shown, numbered_shown, seat_shown, seats_in, seats_of}
 pub use Rattle.sql_tables.specs.Standing.{Stands}
 pub use Rattle.sqlite.proofs.Callers.{begins_as, given_begin, unchanged_then}
 pub use Rattle.sqlite.proofs.StateLemmas.{survives_then, survives_weaker}
 pub use Rattle.sqlite.specs.Effect.{Database}
 pub use Rattle.sqlite.specs.Held.{Held, state}
-pub use Rattle.sqlite.specs.State.{Fails, HasCleanDisk, IsRolledBack, IsUnchanged, ShowsRows, State, Survives}
+pub use Rattle.sqlite.specs.State.{Fails, HasCleanDisk, IsUnchanged, ShowsRows, State, Survives}
 unfoldable pub use Rattle.sqlite.specs.State.{Begins, CommitsShowing, FailsToQuery, Shown}
 pub use Rattle.sqlite.specs.Values.{bound}
 pub use Rattle.sqlite_keyed.proofs.ListLemmas.{all_both, all_unmap, all_weaker, filter-map, filter_all, filter_none, none_from_any, slice_get-filter}
@@ -41,7 +41,7 @@ pub use Rattle.sqlite_sql.specs.Query.{IsAnswer, Query}
 pub use Rattle.sqlite_trees.proofs.ListLemmas.{filter_same}
 pub use Rattle.sqlite_value.specs.Order.{Row, bytes, column}
 pub use Rattle.sqlite_value.specs.declared.value.Value.TheVariants.{Int, Null, Text}
-pub use Rattle.std.proofs.Common.{Bool, Equal, Err, IfOk, IfSome, IsErr, IsOk, IsTrue, Less, List, None, Ok, OnOk, Option, Result, SFits, Some, [], add-one, ap, append-nil, append_assoc, ap₂, arith, cond, false, filter, find, fold, get_or, inl, inr, int_eq, int_lt, is_some, length, length-append, ltb, map, nat_abs, nat_cmp, negsuc, not, of_z, option_copied, option_map, pos, refl, rules, subst, suc, sym, take, to_z, true, true≢false, w64, zero, ℕ, ℤ, ◌&&◌, ◌++◌, ◌+◌, ◌<ℤ◌, ◌<◌, ◌==◌, ◌||◌, ◌∙◌, ◌∷◌, ◌≡◌, ◌≤◌, ◌⊎◌}
+pub use Rattle.std.proofs.Common.{Bool, Err, IfSome, IsErr, IsOk, IsTrue, Less, List, None, Ok, OnOk, Option, Result, SFits, Some, [], add-one, ap, append-nil, append_assoc, ap₂, arith, cond, false, filter, find, fold, get_or, inl, inr, int_eq, int_lt, is_some, length, length-append, ltb, map, nat_abs, nat_cmp, not, of_z, option_copied, option_map, pos, refl, rules, subst, suc, sym, take, to_z, true, true≢false, w64, zero, ℕ, ℤ, ◌++◌, ◌+◌, ◌<ℤ◌, ◌<◌, ◌==◌, ◌||◌, ◌∙◌, ◌∷◌, ◌≡◌, ◌≤◌, ◌⊎◌}
 pub use Rattle.std.proofs.lemmas.Bool.{and_parts, cases_Bool}
 pub use Rattle.std.proofs.lemmas.Bool.Decides.{nat_tests}
 pub use Rattle.std.proofs.lemmas.Int.{ints}
@@ -58,6 +58,6 @@ pub use Rattle.trust_store.specs.Calls.{AreHanded}
 pub use Rattle.trust_store.specs.Kept.{IsKeptWhole, firm_of, joined, kept_pairs, rows_in, rows_kept}
 pub use Rattle.trust_store.specs.Named.{IsPartFor}
 pub use Rattle.sql_reads.specs.Fed.{AreCounted, IsFed}
-pub use Rattle.sql_reads.specs.Parts.{PartsAreWhole, drawn_by, figures_at, figures_found, numbered_at, part_at, part_of, totals_of, with_totals_at, with_totals_from, without_matters}
+pub use Rattle.sql_reads.specs.Parts.{PartsAreWhole, drawn_by, figures_found, numbered_at, part_at, part_of, totals_of, with_totals_at, with_totals_from, without_matters}
 pub use Rattle.sql_reads.specs.Shown.{AreNumbersOf, balance_at, entry_rows, exception_at, firm_line_at, kept_at, movement_at, next_at, numbered_from, rows_at, seat_at, seat_rows}
 pub use Rattle.sql_reads.specs.declared.matter.HeadWithTotals.{HeadWithTotals}

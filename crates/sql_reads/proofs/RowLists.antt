@@ -1,5 +1,5 @@
 -- What lists of rows are once all rows were handed to them.
-use Rattle.sql_reads.proofs.Names.{◌≡◌, List, [], ◌∷◌, ◌++◌, fold, refl, sym, ap, ◌∙◌, append-nil, append_assoc, StatementRow, Firm, empty_firm, firm_of, without_matters}
+use Rattle.sql_reads.proofs.Names.{◌≡◌, List, [], ◌∷◌, ◌++◌, fold, refl, sym, ap, ◌∙◌, append-nil, append_assoc, StatementRow, Firm, empty_firm, firm_of, without_matters, arith, ints, nat_tests}
 use Rattle.trust_base.specs.declared.line.Line.{Line}
 use Rattle.firm_rows.specs.declared.movement.Movement.{Movement}
 use Rattle.firm_rows.specs.declared.ledger.FirmLine.{FirmLine}
@@ -7,8 +7,7 @@ use Rattle.firm_rows.specs.declared.ledger.FirmLine.{FirmLine}
 module _ {F A : Type 0} (step : F → A → F) (with : List A → F) (steps : (ys : List A) (x : A) → step (with ys) x ≡ with (ys ++ x ∷ [])) where
   gathered : (ys xs : List A) → fold step (with ys) xs ≡ with (ys ++ xs)
   gathered ys [] = ap with (sym (append-nil ys))
-  gathered ys (x ∷ xs) =
-      ap (λ f. fold step f xs) (steps ys x) ∙ gathered (ys ++ x ∷ []) xs ∙ ap with (append_assoc ys (x ∷ []) xs)
+  gathered ys (x ∷ xs) = grind (arith, ints, nat_tests, fold, append_assoc, (gathered (ys ++ x ∷ []) xs))
 
   pub gathered_on : (a b : F) (xs : List A) → a ≡ with [] → b ≡ fold step a xs → b ≡ with xs
   gathered_on a b xs start is = is ∙ ap (λ f. fold step f xs) start ∙ gathered [] xs

@@ -1,5 +1,5 @@
 -- What a row shows is what it stands for.
-use Rattle.sql_reads.proofs.Names.{◌≡◌, ℕ, ℤ, pos, nat_abs, Bool, List, [], ◌∷◌, map, filter, find, take, slice_get, Option, Some, None, option_map, inl, inr, refl, sym, ap, subst, ◌∙◌, rules, SFits, to_z, of_z, w64, cases_Bool, Int, Null, Text, Row, column, bytes, State, Shown, Database, Layout, heads_in, is_past, Stands, answers, next_head_asks, next_head_answer, SeatRow, EntryRow, seat_pairs, kept_pairs, HasHead, IsHead, head_from, kept_from, seat_from, kept_at, next_at, numbered_from, seat_at}
+use Rattle.sql_reads.proofs.Names.{◌≡◌, ℕ, ℤ, pos, nat_abs, Bool, List, [], ◌∷◌, map, filter, find, take, slice_get, Some, None, option_map, inl, inr, refl, sym, ap, subst, ◌∙◌, rules, SFits, to_z, of_z, w64, cases_Bool, Int, Null, Text, Row, column, bytes, State, Shown, Database, Layout, heads_in, is_past, Stands, answers, next_head_asks, next_head_answer, SeatRow, EntryRow, seat_pairs, kept_pairs, HasHead, IsHead, head_from, kept_from, seat_from, kept_at, next_at, numbered_from, seat_at, arith, ints, nat_tests}
 use Rattle.sqlite_value.specs.declared.value.Value.{Value}
 use Rattle.matter_rows.specs.declared.head.Head.{Head}
 use Rattle.matter_parts.specs.declared.kept.Kept.{Kept}
@@ -27,10 +27,7 @@ text_read r at t is = sym (ap bytes is)
 pub numbered_back : (r : Row) (m : ℕ) (h : Head) (columns : table.Head) → column r 12 ≡ Int (pos m)
     → columns ≡ table.head_in (Int (pos m) ∷ Null ∷ r) → IsHead h → HasHead h columns → (m, h) ≡ next_at r
 numbered_back r m h columns at given is has =
-    let number : m ≡ nat_abs (number_of (column r 12)) = sym (ap (λ v. nat_abs (number_of v)) at) in
-    let own : h ≡ head_from (table.head_in (column r 12 ∷ Null ∷ r)) =
-    head_back h columns is has ∙ ap head_from given ∙ ap (λ v. head_from (table.head_in (v ∷ Null ∷ r))) (sym at) in
-    λ i. (number i, own i)
+    grind (arith, ints, nat_tests, nat_abs, number_of, column, head_from, head_back)
 
 first_next : (p : table.Head → Bool) (hs : List table.Head)
     → slice_get (take 1 (map table.next_shown (filter p hs))) 0 ≡ option_map table.next_shown (find p hs)
@@ -58,9 +55,7 @@ module _ (l : Layout) (was : Database) (stands : Stands l was) (old new : State)
 
   pub next : (r : Row) → slice_get rows 0 ≡ Some r → (n : ℕ × Head) → n ≡ next_at r
       → Next (is_past after) (heads_in l was.trees) n
-  next r there n read =
-      let one = some_shown table.next_shown _ r (sym there ∙ first_is) in
-      record { head = one.one; found = one.found_one; is = read ∙ ap next_at one.shows }
+  next r there n read = grind (arith, ints, nat_tests, some_shown, first_is, next_at)
 
 -- Rows of a matter.
 

@@ -1,5 +1,5 @@
 -- What a sink was handed so far of a query.
-use Rattle.sql_reads.proofs.Names.{◌≡◌, ◌⊎◌, inl, inr, ℕ, ◌+◌, ◌≤◌, List, [], ◌∷◌, ◌++◌, length, fold, None, Some, Result, Ok, Err, OnOk, IsErr, IsTrue, length-append, sym, ap, subst, ◌∙◌, arith, AllByRecursion, Row, Database, Held, state, State, HasCleanDisk, IsUnchanged, IsRolledBack, Fails, Survives, FailsToQuery, Shown, ShowsRows, Begins, CommitsShowing, survives_then, survives_weaker, unchanged_then, given_begin, MOST_ROWS, IsSelect, IsKept, LeavesAll, kept_unchanged, kept_either, fails_kept, IsFed}
+use Rattle.sql_reads.proofs.Names.{◌≡◌, ◌⊎◌, inl, inr, ℕ, ◌+◌, ◌≤◌, List, [], length, fold, None, Some, Result, Ok, Err, OnOk, IsErr, IsTrue, length-append, sym, subst, ◌∙◌, arith, AllByRecursion, Row, Database, Held, state, State, HasCleanDisk, IsUnchanged, Fails, Survives, FailsToQuery, Shown, ShowsRows, Begins, CommitsShowing, survives_then, survives_weaker, unchanged_then, given_begin, MOST_ROWS, IsSelect, IsKept, LeavesAll, kept_unchanged, kept_either, fails_kept, IsFed, ints, nat_tests}
 use Rattle.std.proofs.lemmas.List.Sums.{fold-append}
 use Rattle.sqlite.specs.Store.{Ghosts}
 use Rattle.sqlite.specs.Clock.{timed}
@@ -46,11 +46,7 @@ left_by : {T E : Type 0} (r : Result T E) (a b : State) → Survives a b (λ _. 
 left_by r a b survives kept serves = record { same = kept; serves = serves; was_clean = λ clean. omega (arith, clean, survives.clean); crash = λ clean. survives.crash clean }
 
 pub left_unchanged : {T E : Type 0} (r : Result T E) (a b : State) → Survives a b (λ _. ⊥) → (HasCleanDisk b → IsUnchanged a b) → LeavesAll r a b
-left_unchanged r a b survives same = left_by r a b survives (λ clean still. kept_unchanged a b (same clean)) (λ clean. on_ok r (same clean).0.is_open)
-  where
-    on_ok : {T E P : Type 0} (r : Result T E) → P → OnOk r P
-    on_ok (Ok x) p = p
-    on_ok (Err e) p = tt
+left_unchanged r a b survives same = grind (arith, ints, nat_tests, left_by, kept_unchanged)
 
 pub left_refused : {T F : Type 0} (sql : List ℕ) (params : Row) (a b : State) (e : Error) (f : F) → IsSelect sql → (IsTrue a.is_open → a.now ≡ a.committed) → Survives a b (CommitsShowing sql params a)
     → (HasCleanDisk b → FailsToQuery sql params a b e) → LeavesAll {T = T} (Err f) a b
@@ -71,22 +67,13 @@ module _ (a b d : State) where
 pub left_later : {T E : Type 0} (r : Result T E) (a b d : State) → Survives a b (λ _. ⊥) → (HasCleanDisk b → IsUnchanged a b)
     → Survives b d (λ _. ⊥) → (HasCleanDisk d → IsUnchanged b d) → LeavesAll r a d
 left_later r a b d first same second still =
-    left_unchanged r a d (both_survive a b d first second)
-    (λ clean. unchanged_then a b d (same (clean_then a b d second clean)) (still clean))
+    grind (arith, ints, nat_tests, left_unchanged, both_survive, unchanged_then, clean_then)
 
 -- a step failed
 pub left_failed : {T F : Type 0} (e : Error) (f : F) (a b d : State) → (IsTrue a.is_open → a.now ≡ a.committed) → Survives a b (λ _. ⊥)
     → (HasCleanDisk b → IsUnchanged a b) → Survives b d (λ _. ⊥) → (HasCleanDisk d → Fails b d ⊥ e ⊎ IsUnchanged b d) → LeavesAll {T = T} (Err f) a d
 left_failed e f a b d settled first same second fails =
-    left_by (Err f) a d (both_survive a b d first second)
-    (λ clean still.
-    let one = same (clean_then a b d second clean) in
-    kept_then a b d (kept_unchanged a b one) (kept_either b d (λ was. one.0.now_is ∙ settled one.0.was_open ∙ sym one.0.committed_is) still (either (fails clean))))
-    (λ clean. tt)
-  where
-    either : Fails b d ⊥ e ⊎ IsUnchanged b d → IsUnchanged b d ⊎ IsRolledBack b d
-    either (inl h) = inr h.3
-    either (inr h) = inl h
+    grind (arith, ints, nat_tests, left_by, both_survive, clean_then, kept_then, kept_unchanged, kept_either)
 
 -- Rows that were given one after the other.
 
@@ -101,28 +88,14 @@ module _ {S : Type 0} (g : Ghosts S) {K : Type 0} (step : K → Row → K) (Fits
     pub counted : length rows ≡ count
 
   pub one_more : (a b : Held S) (count : ℕ) (now next : K) (row : Row) → Gave a count now → Advances g a b (Some row) → IsUnchanged (state g a) (state g b) → next ≡ step now row → Fits row → Gave b (count + 1) next
-  one_more a b count now next row gave on still is fit = record {
-    rows = gave.rows ++ row ∷ [];
-    gives = on sql params gave.rows gave.gives;
-    same = unchanged_then first (state g a) (state g b) gave.same still;
-    folded = is ∙ (ap (λ k. step k row) gave.folded ∙ sym (fold-append step before gave.rows (row ∷ [])));
-    fit = all-append Fits gave.rows (row ∷ []) gave.fit (fit, tt);
-    counted = omega (arith, gave.counted, length-append gave.rows (row ∷ []));
-  }
+  one_more a b count now next row gave on still is fit =
+      grind (arith, ints, nat_tests, unchanged_then, state, fold-append, all-append, length-append)
 
   pub all_fed : {E : Type 0} (a : Held S) (t : Held S) (count : ℕ) (now : K) → IsSelect sql → Gave a count now → count ≤ MOST_ROWS → Advances g a t None → IsFed {E = E} step Fits sql params first (state g t) (Ok count) before now
-  all_fed a t count now is gave few none = record {
-    all = (gave.rows, shown_from sql params first (state g a) (state g t) gave.rows is gave.same (none sql params gave.rows gave.gives), gave.folded, sym gave.counted, record { few = omega (arith, few, gave.counted); ranged = gave.fit });
-    some = tt;
-  }
+  all_fed a t count now is gave few none = grind (arith, ints, nat_tests, shown_from, state)
 
   pub some_fed : {E : Type 0} (a : Held S) (t : State) (count : ℕ) (now last : K) (r : Result ℕ E) → IsErr r → Gave a count now → last ≡ now → IsFed step Fits sql params first t r before last
-  some_fed a t count now last r is gave same =
-      of_err (λ r. IsFed step Fits sql params first t r before last)
-      (λ e. record {
-        all = tt;
-        some = inr (gave.rows, begins_from sql params first (state g a) gave.rows gave.same (given_begin g sql params a gave.rows gave.gives), same ∙ gave.folded);
-      }) r is
+  some_fed a t count now last r is gave same = grind (arith, ints, nat_tests, of_err, begins_from, state, given_begin)
 
 -- a SELECT is at its start
 pub begun_select : {S : Type 0} (g : Ghosts S) (sql : List ℕ) (params : Row) (a b : Held S) → IsSelect sql → HasBegun g sql params a b → HasGiven g sql params b [] × IsUnchanged (state g a) (state g b)

@@ -1,5 +1,5 @@
 -- The matters of a book, one behind another.
-use Rattle.sql_reads.proofs.Names.{◌≡◌, inl, inr, ℕ, ℤ, pos, nat_abs, ◌+◌, ◌≤◌, ◌<ℤ◌, int_lt, Bool, true, false, List, [], ◌∷◌, ◌++◌, map, filter, find, length, fold, Some, None, Result, Ok, IsErr, sym, ap, ◌∙◌, subst, arith, append_assoc, length-append, AllByRecursion, ints, cases_Bool, IsKeyedBy, all_unmap, all_weaker, entries_kept, IsRowInRange, MOST_ROWS, HeadRow, pairs, seat_pairs, entry_pairs, HandedOver, FoldsFront, AreHanded, IsKeptWhole, joined, kept_pairs, rows_kept, joined-ranged, begun, one_more, all_more, some_more, ended, kept-numbered, Lists, is_past, AreSound, IsWrittenHead, head_from, kept_from, matter_from, matters_from, part_from, seat_from, all-find, entry_rows, numbered_from, rows_at, seat_rows, found_passes, filter_none, is_some, any_is_found, none_from_any, filter_all}
+use Rattle.sql_reads.proofs.Names.{◌≡◌, inl, inr, ℕ, ℤ, pos, nat_abs, ◌+◌, ◌≤◌, ◌<ℤ◌, int_lt, Bool, true, false, List, [], ◌∷◌, ◌++◌, map, filter, find, length, fold, Some, None, Result, Ok, IsErr, sym, ap, ◌∙◌, subst, arith, append_assoc, length-append, AllByRecursion, ints, cases_Bool, IsKeyedBy, all_unmap, all_weaker, IsRowInRange, MOST_ROWS, HeadRow, pairs, HandedOver, FoldsFront, AreHanded, IsKeptWhole, joined, rows_kept, joined-ranged, begun, one_more, all_more, some_more, ended, kept-numbered, Lists, is_past, AreSound, IsWrittenHead, kept_from, matter_from, matters_from, part_from, all-find, entry_rows, numbered_from, rows_at, seat_rows, found_passes, filter_none, is_some, any_is_found, none_from_any, filter_all, nat_tests}
 use Rattle.firm_rows.specs.Firm.{Row}
 use Rattle.matter_rows.specs.declared.head.Head.{Head}
 use Rattle.trust_store.specs.declared.plain.KeptMatter.{KeptMatter}
@@ -53,22 +53,13 @@ begin_past from z k low is = grind (arith, ints)
 
 -- every head is behind a number below zero
 pub all_past : (from : ℤ) (hs : List table.Head) → from <ℤ pos 0 → AllByRecursion IsWrittenHead hs → filter (is_past from) hs ≡ hs
-all_past from hs low written =
-    filter_all (is_past from) hs
-    (all_weaker IsWrittenHead (λ h. is_past from h ≡ true) (λ h w. begin_past from h.no (nat_abs h.no) low w.0) hs written)
+all_past from hs low written = grind (arith, ints, nat_tests, filter_all, is_past, all_weaker, begin_past, nat_abs)
 
 -- The rows of one matter.
 
 rows_are : (a : Lists) (h : table.Head) → IsWrittenHead h → IsKeptWhole (matter_from a h)
     → rows_at a (numbered_from h) ≡ pairs (nat_abs h.no) (rows_kept (part_from a h))
-rows_are a h written whole =
-    let m = nat_abs h.no in
-    let own : pos m ≡ h.no = sym written.0 in
-    let entries = map kept_from (table.entries_of h.no a.entries) in
-    let kept : entry_rows a m ≡ entry_pairs m 1 (entries_kept entries) =
-    ap (λ z. kept_pairs m (map kept_from (table.entries_of z a.entries))) own
-    ∙ kept-numbered m 1 entries whole.whole.numbered in
-    λ i. (m, HeadRow (head_from h)) ∷ (seat_pairs m (map seat_from (table.seats_of (own i) a.seats)) ++ kept i)
+rows_are a h written whole = grind (arith, ints, nat_tests, map, kept_from, kept-numbered)
 
 -- All of them.
 
@@ -87,13 +78,7 @@ module _ {K : Type 0} (step : K → ℕ × Row → K) (a : Lists) (sound : AreSo
   all = joined (matters_from a)
 
   pub at_start : (from : ℤ) → from <ℤ pos 0 → (old : K) → IsReached step a from 0 old old
-  at_start from low old =
-      let rest : joined (past a from) ≡ all =
-      ap (λ hs. joined (map (matter_from a) hs)) (all_past from a.heads low sound.meant.written.heads) in
-      record {
-        handed = subst (λ xs. HandedOver step old all xs old) (sym rest) (begun step old all);
-        counted = omega (arith, ap length rest);
-      }
+  at_start from low old = grind (arith, ints, nat_tests, joined, past, all, map, matter_from, all_past, begun, length)
 
   module _ (after : ℤ) (count : ℕ) (old now : K) (so_far : IsReached step a after count old now) where
     -- the sink is at some front of the rows
@@ -118,22 +103,15 @@ module _ {K : Type 0} (step : K → ℕ × Row → K) (a : Lists) (sound : AreSo
       written = all-find IsWrittenHead (is_past after) a.heads it.head sound.meant.written.heads it.found
 
       own_rows : rows_at a (numbered_from it.head) ≡ pairs (nat_abs it.head.no) (rows_kept (part_from a it.head))
-      own_rows =
-          let whole = all_unmap IsKeptWhole (matter_from a) a.heads sound.meant.matters.whole in
-          rows_are a it.head written
-          (all-find (λ x. IsKeptWhole (matter_from a x)) (is_past after) a.heads it.head whole it.found)
+      own_rows = grind (arith, ints, nat_tests, all_unmap, matter_from, rows_are, written, all-find, is_past)
 
       from : joined (past a after) ≡ row ∷ (seats ++ (entries ++ rest))
       from =
-          ap (λ hs. joined (map (matter_from a) hs)) (next_past after a.heads it.head sound.keyed.heads it.found)
-          ∙ ap (λ rows. rows ++ rest) (sym own_rows ∙ ap (rows_at a) (sym it.is))
-          ∙ ap (λ xs. row ∷ xs) (append_assoc seats entries rest)
+          grind (arith, ints, nat_tests, joined, map, next_past, rest, own_rows, rows_at, row, append_assoc, seats, entries)
 
       module _ (t : K) (first : t ≡ step now row) where
         head_done : HandedOver step old all (seats ++ (entries ++ rest)) t
-        head_done =
-            one_more step old now t all row (seats ++ (entries ++ rest))
-            (subst (λ xs. HandedOver step old all xs now) from so_far.handed) first
+        head_done = grind (arith, ints, nat_tests, one_more, all, row, seats, entries, rest, from)
 
         pub seats_stopped : (u : K) → FoldsFront step t seats u → FoldsFront step old all u
         seats_stopped u part =
@@ -185,6 +163,4 @@ module _ {K : Type 0} (step : K → ℕ × Row → K) (a : Lists) (sound : AreSo
   -- at an error some front is enough
   pub refused : {E : Type 0} (r : Result (Unit {0}) E) → IsErr r → (old now : K) → FoldsFront step old all now
       → AreHanded step IsRowInRange all r old now
-  refused r is old now part =
-      of_err (λ r. AreHanded step IsRowInRange all r old now)
-      (λ e. record { all = tt; some = part; countable = tt }) r is
+  refused r is old now part = grind (arith, ints, nat_tests, of_err, all)

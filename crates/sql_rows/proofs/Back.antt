@@ -1,5 +1,5 @@
 -- An entry that is read back from its columns is the entry.
-use Rattle.sql_rows.proofs.Names.{◌≡◌, refl, ap, Payment, PaymentState, Deposit, DepositState, Claim, ClaimState, Against, Entry, parts_of, entry_from, EntriesReadBack}
+use Rattle.sql_rows.proofs.Names.{◌≡◌, refl, ap, Payment, PaymentState, Deposit, DepositState, Claim, ClaimState, Against, Entry, parts_of, entry_from, EntriesReadBack, arith, ints, nat_tests}
 use Rattle.matter_rows.specs.declared.payment.Fund.{Fund}
 use Rattle.matter_rows.specs.declared.payment.Fund.TheVariants as fund
 use Rattle.matter_rows.specs.declared.payment.PaymentState.TheVariants as payment
@@ -16,20 +16,12 @@ deposit_back _ d = refl
 payment_back : (f : Fund) (s : PaymentState) (p : Payment)
     → entry_from (parts_of (entry.Payment (record p { state = s; fund = f })))
     ≡ entry.Payment (record p { state = s; fund = f })
-payment_back fund.General payment.Proposed p = refl
-payment_back fund.General _ p = refl
-payment_back (fund.Fee k) payment.Proposed p = refl
-payment_back (fund.Fee k) _ p = refl
-payment_back (fund.Claim k) payment.Proposed p = refl
-payment_back (fund.Claim k) _ p = refl
+payment_back f s p = grind (arith, ints, nat_tests)
 
 claim_back : (a : Against) (s : ClaimState) (c : Claim)
     → entry_from (parts_of (entry.Claim (record c { state = s; against = a })))
     ≡ entry.Claim (record c { state = s; against = a })
-claim_back (against.General t) claim.Open c = refl
-claim_back (against.General t) _ c = refl
-claim_back (against.Fee k) claim.Open c = refl
-claim_back (against.Fee k) _ c = refl
+claim_back a s c = grind (arith, ints, nat_tests)
 
 -- an entry is read from its columns
 pub entry_back : (e : Entry) → entry_from (parts_of e) ≡ e

@@ -1,6 +1,5 @@
 -- The balances of a firm, as their table keeps them and in their order.
-use Rattle.sql_rows.proofs.Names.{◌≡◌, ℕ, ℤ, pos, nat_abs, eqb, false, ◌&&◌, List, [], ◌∷◌, map, None, find, sym, ap, ap₂, ◌∙◌, arith, int_cmp, is_eq, AllByRecursion, IsTotalOrder, tied_then, nat_cmp, ordering_then, nat_tests, int_cmp_total, on_total, then_total, IsKeyedBy, next_key, sort_by, all_weaker, all-append, all_unmap, IsPermutation-sort_by, BalanceKind, place_of, with_balance, is_balance_on, kept_balance, Balance, balance_cmp, add_balance, kind_column, balance_columns, IsWrittenBalance, balance_from, balance_kind_from, none_from_any, is_some, any_is_found, is_some-map, all-permutation}
-use Rattle.firm_rows.specs.declared.ledger.BalanceKind.TheVariants.{Opening, Closing}
+use Rattle.sql_rows.proofs.Names.{◌≡◌, ℕ, ℤ, pos, nat_abs, eqb, false, List, [], ◌∷◌, map, None, find, sym, ap, ◌∙◌, arith, int_cmp, is_eq, AllByRecursion, IsTotalOrder, tied_then, nat_cmp, ordering_then, nat_tests, int_cmp_total, on_total, then_total, IsKeyedBy, next_key, sort_by, all_weaker, all-append, all_unmap, IsPermutation-sort_by, BalanceKind, place_of, with_balance, is_balance_on, kept_balance, Balance, balance_cmp, add_balance, kind_column, balance_columns, IsWrittenBalance, balance_from, balance_kind_from, none_from_any, is_some, any_is_found, is_some-map, all-permutation, ints}
 use Rattle.firm_rows.specs.declared.ledger.StatementRow.{StatementRow}
 use Rattle.firm_rows.specs.FirmLines as firm
 use Rattle.firm_rows.proofs.Balances.{balance_total}
@@ -24,14 +23,7 @@ dated b is = ap (λ (x : Balance). x.day) is
 
 balances_agree : (a b : Balance) → IsWrittenBalance a → IsWrittenBalance b
     → balance_cmp a b ≡ ordering_then (firm.balance_cmp (balance_from a) (balance_from b)) (int_cmp a.id b.id)
-balances_agree a b is also =
-    let kinds : int_cmp a.kind b.kind
-    ≡ nat_cmp (place_of (balance_kind_from a.kind)) (place_of (balance_kind_from b.kind)) =
-    (λ i. int_cmp (of_kind a is i) (of_kind b also i))
-    ∙ kind_cmp (balance_kind_from a.kind) (balance_kind_from b.kind) in
-    let days = read_cmp a.day b.day (dated a is) (dated b also) in
-    then_assoc (int_cmp a.kind b.kind) (int_cmp a.day b.day) (int_cmp a.id b.id)
-    ∙ (λ i. ordering_then (ordering_then (kinds i) (days i)) (int_cmp a.id b.id))
+balances_agree a b is also = grind (arith, ints, nat_tests, place_of, of_kind, kind_cmp, read_cmp, dated, then_assoc)
 
 abbrev key : Balance → ℤ
 key b = b.id
@@ -47,9 +39,7 @@ equal_test m n = grind (arith, nat_tests)
 
 -- a balance is of another's kind and day where it ties with that
 on_tied : (row x : StatementRow) → is_balance_on row.kind row.day x ≡ is_eq (firm.balance_cmp x row)
-on_tied row x =
-    ap₂ ◌&&◌ (equal_test (place_of x.kind) (place_of row.kind)) (equal_test x.day row.day)
-    ∙ tied_then (nat_cmp (place_of x.kind) (place_of row.kind)) (nat_cmp x.day row.day)
+on_tied row x = grind (arith, ints, nat_tests, equal_test, place_of, tied_then, nat_cmp)
 
 none_on : (row : StatementRow) (rows : List StatementRow) → kept_balance row.kind row.day rows ≡ None
     → AllByRecursion (λ x. is_eq (firm.balance_cmp x row) ≡ false) rows

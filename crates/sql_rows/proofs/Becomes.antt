@@ -1,9 +1,9 @@
 -- What a change of one matter makes of the firm for which the tables stand.
-use Rattle.sql_rows.proofs.Names.{◌≡◌, ℕ, ℤ, pos, List, [], ◌++◌, map, find, Option, Some, None, refl, sym, ap, subst, ◌∙◌, AllByRecursion, IsKeyedBy, all_weaker, Head, Entry, Rows, unopened, Sound, Figures, Kept, Part, IsWhole, AreKept, AreFigures, AreNumbered, entries_kept, no_figures, MatterChange, IsChange, changed, edited, head_after, seats_after, of, after_change, kept_movements, joined_movement, unopened-sound, rows_in, IsKeptAs, AreKeptWhole, put_head, is_head, seats_of, entries_of, Lists, head_columns, AreMeant, HasHeadAt, IsWrittenMovement, firm_from, matters_from, part_from, head_from, figures_from, seat_from, kept_from, movement_from, head_at, rules, ◌∷◌, cond_both, nat_lt, ◌==◌, IsKeptWhole, KeptMatter, sort_by, rows_kept}
+use Rattle.sql_rows.proofs.Names.{◌≡◌, ℕ, ℤ, pos, List, [], ◌++◌, map, find, Option, Some, None, refl, ap, AllByRecursion, IsKeyedBy, all_weaker, Head, Entry, Rows, unopened, Sound, Figures, Kept, Part, IsWhole, AreKept, AreNumbered, entries_kept, no_figures, MatterChange, IsChange, changed, edited, head_after, seats_after, of, after_change, kept_movements, joined_movement, unopened-sound, rows_in, IsKeptAs, AreKeptWhole, put_head, is_head, seats_of, entries_of, Lists, head_columns, AreMeant, HasHeadAt, IsWrittenMovement, firm_from, matters_from, part_from, head_from, figures_from, seat_from, kept_from, movement_from, head_at, ◌∷◌, cond_both, nat_lt, ◌==◌, IsKeptWhole, KeptMatter, sort_by, rows_kept, arith, ints, nat_tests}
 use Rattle.matter_parts.specs.declared.edit.Edit.TheVariants as edit
 use Rattle.trust_store.proofs.KeptMatters.{change_in, kept-whole, written_firm}
 use Rattle.sql_tables.specs.Rows as table
-use Rattle.sql_rows.proofs.HeadOrder.{key, rows_found}
+use Rattle.sql_rows.proofs.HeadOrder.{key}
 use Rattle.sql_rows.proofs.Heads.{heads_put, rows_at, found_number, part_found, HasDays, written_put_head, has_put_head, still_has_head}
 use Rattle.sql_rows.proofs.KeyedRows.{none_of}
 use Rattle.sql_rows.proofs.Placed.{EntriesPlaced, SeatsPlaced}
@@ -26,16 +26,7 @@ part_at m a = record {
 }
 
 nothing_whole : IsWhole (record { head = None; seats = []; figures = no_figures; kept = [] }) unopened
-nothing_whole = record {
-  part = record {
-    head = refl;
-    seats = refl;
-    figures = search rules;
-    kept = λ n k there. absurd (cc);
-  };
-  entries = refl;
-  numbered = tt;
-}
+nothing_whole = grind (arith, ints, nat_tests)
 
 -- it is whole for the matter's rows
 pub whole_at : (a : Lists) (m : ℕ) → IsKeyedBy key a.heads → AreMeant a
@@ -86,16 +77,7 @@ pub whole_after : (new : Part) (rows : Rows) (c : MatterChange) → IsChange row
     → new.head ≡ head_after rows.head c.edit c.last → new.seats ≡ seats_after rows.seats c.edit
     → new.figures ≡ c.moves.figures
     → AreEntries new.kept (edited rows.entries c.edit) → IsWhole new (changed c rows)
-whole_after new rows c may head seats figures are = record {
-  part = record {
-    head = head;
-    seats = seats;
-    figures = subst (λ (f : Figures). AreFigures f (edited rows.entries c.edit)) (sym figures) may.figures;
-    kept = are.own;
-  };
-  entries = are.entries;
-  numbered = are.numbered;
-}
+whole_after new rows c may head seats figures are = grind (arith, ints, nat_tests, edited)
 
 -- The rows of the other tables.
 
@@ -185,8 +167,4 @@ module _ (m : ℕ) (c : MatterChange) (a : Lists) (h : Head) (seats : List table
             (all_weaker (λ (e : table.Entry). HasHeadAt a.heads e.matter)
             (λ (e : table.Entry). HasHeadAt end.heads e.matter) (λ e has. still e.matter has) a.entries meant.entered);
       } in
-      record {
-        firm = ap firm_from same ∙ done.0;
-        meant = subst AreMeant (sym same) rows;
-        exceptions = ap (λ (l : Lists). l.exceptions) same;
-      }
+      grind (arith, ints, nat_tests, firm_from)

@@ -1,5 +1,5 @@
 -- What the steps of a written entry make of the tables.
-use Rattle.sql_rows.proofs.Names.{◌≡◌, ℕ, pos, List, Option, Some, None, refl, sym, ap, subst, ◌∙◌, AllByRecursion, IsKeyedBy, Left, TotalsAfter, Numbered, entry_put, kept_as, other_written, AreNumbered, entry_columns, Lists, IsWrittenEntry, kept_from, AreMade, entry_steps, left_steps}
+use Rattle.sql_rows.proofs.Names.{◌≡◌, ℕ, pos, List, Option, refl, sym, ap, subst, ◌∙◌, AllByRecursion, IsKeyedBy, Left, TotalsAfter, Numbered, entry_put, kept_as, other_written, AreNumbered, entry_columns, Lists, IsWrittenEntry, kept_from, AreMade, entry_steps, left_steps, arith, ints, nat_tests}
 use Rattle.sql_tables.specs.Rows as table
 use Rattle.sql_rows.proofs.Back.{entries_back}
 use Rattle.sql_rows.proofs.EntryFits.{FitsKept}
@@ -19,8 +19,7 @@ pub record IsEntryPut (m : ℕ) (x : Numbered) (v : TotalsAfter) (a b : Lists) :
 
 left_made : (m : ℕ) (o : Option Left) (a b : Lists) → AreMade (left_steps m o) a b
     → b ≡ record a { entries = left_put m o a.entries }
-left_made m None a b made = made
-left_made m (Some o) a b made = made.2 ∙ made.1
+left_made m o a b made = grind (arith, ints, nat_tests)
 
 module _ (m : ℕ) (x : Numbered) (v : TotalsAfter) (a b : Lists) (up : IsKeyedBy entry_key a.entries)
     (written : AllByRecursion IsWrittenEntry a.entries) (fits : FitsKept (kept_of (pos m) a.entries) x v) where
@@ -50,21 +49,9 @@ module _ (m : ℕ) (x : Numbered) (v : TotalsAfter) (a b : Lists) (up : IsKeyedB
 
   own_both : kept_of (pos m) (left_put m v.other once)
       ≡ other_written (entry_put (kept_of (pos m) es) (kept_as x v)) v.other
-  own_both =
-      own_left m v.other once once_placed.written (subst (AreNumbered 1) (sym own_once) fits.after)
-      ∙ ap (λ ks. other_written ks v.other) own_once
+  own_both = grind (arith, ints, nat_tests, own_left, once, once_placed, own_once, other_written)
 
   -- they put it, with what is left of the one that it names
   pub entry_made : AreMade (entry_steps m x v) a b → IsEntryPut m x v a b
   entry_made made =
-      let all : b ≡ record a { entries = left_put m v.other once } =
-      left_made m v.other made.0 b made.2
-      ∙ ap (λ (l : Lists). record l { entries = left_put m v.other l.entries }) made.1 in
-      let is : left_put m v.other once ≡ b.entries = sym (ap (λ (l : Lists). l.entries) all) in
-      record {
-        same = all ∙ ap (λ l. record a { entries = l }) is;
-        own = ap (kept_of (pos m)) (sym is) ∙ own_both;
-        placed = subst (EntriesPlaced m es) is
-            (placed_then (λ (e : table.Entry). e.matter) table.entry_cmp IsWrittenEntry m es once _ once_placed
-            (placed_left_put m v.other once once_placed.written));
-      }
+      grind (arith, ints, nat_tests, once, left_made, own_both, es, placed_then, once_placed, placed_left_put)

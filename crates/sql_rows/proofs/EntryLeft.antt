@@ -1,5 +1,5 @@
 -- The entries of a matter after what is left of one was written.
-use Rattle.sql_rows.proofs.Names.{◌≡◌, inl, inr, ℕ, ℤ, pos, nat_abs, ◌+◌, ◌<◌, Bool, false, cond, eqb, List, [], ◌∷◌, map, filter, Option, Some, None, refl, sym, ap, ◌∙◌, arith, int_eq, AllByRecursion, cases_Bool, cond_both, nat_tests, sort_by, update_where, same_int, int_eq_apart, all_map, all_weaker, first_of_both, sort_by-map, Left, left_written, other_written, AreNumbered, entry_cmp, is_entry_at, is_entry_of, entries_of, with_left, put_left, HasHeadAt, IsWrittenEntry, kept_from}
+use Rattle.sql_rows.proofs.Names.{◌≡◌, inl, inr, ℕ, ℤ, pos, nat_abs, ◌+◌, ◌<◌, Bool, false, cond, eqb, List, [], ◌∷◌, map, filter, Option, Some, None, refl, ap, ◌∙◌, arith, int_eq, AllByRecursion, cases_Bool, cond_both, nat_tests, sort_by, update_where, same_int, int_eq_apart, all_map, all_weaker, first_of_both, sort_by-map, Left, left_written, other_written, AreNumbered, entry_cmp, is_entry_at, is_entry_of, entries_of, with_left, put_left, HasHeadAt, IsWrittenEntry, kept_from, ints}
 use Rattle.sql_tables.specs.Rows.{Entry}
 use Rattle.sql_rows.proofs.EntryOrder.{HasNumber, have_numbers, kept_of, number_is, numbers_of, same_test}
 use Rattle.sql_rows.proofs.Placed.{EntriesPlaced}
@@ -25,25 +25,14 @@ module _ (m n left : ℤ) where
   others_rows : (k : ℤ) (es : List Entry) → (k ≡ m → ⊥)
       → filter (is_entry_of k) (put_left m n left es) ≡ filter (is_entry_of k) es
   others_rows k [] other = refl
-  others_rows k (e ∷ es) other = elim (cases_Bool (is_it e)) [
-    | inl here ↦
-        let of : e.matter ≡ m = same_int e.matter m (first_of_both _ _ here) in
-        let off : int_eq e.matter k ≡ false = int_eq_apart e.matter k (λ s. other (sym s ∙ of)) in
-        rw here (rw off (others_rows k es other))
-    | inr there ↦ rw there (ap (λ l. cond (int_eq e.matter k) (e ∷ l) l) (others_rows k es other))
-  ]
+  others_rows k (e ∷ es) other =
+      grind (arith, ints, nat_tests, cases_Bool, same_int, first_of_both, int_eq_apart, (others_rows k es other))
 
   -- its own are changed by their numbers
   own_rows : (es : List Entry) → filter (is_entry_of m) (put_left m n left es)
       ≡ update_where (has_no n) it (filter (is_entry_of m) es)
   own_rows [] = refl
-  own_rows (e ∷ es) = elim (cases_Bool (int_eq e.matter m)) [
-    | inl a ↦ elim (cases_Bool (int_eq e.no n)) [
-      | inl b ↦ rw (a, b) (rw a (ap (λ l. it e ∷ l) (own_rows es)))
-      | inr b ↦ rw (a, b) (rw a (ap (λ l. e ∷ l) (own_rows es)))
-    ]
-    | inr a ↦ rw a (rw a (own_rows es))
-  ]
+  own_rows (e ∷ es) = grind (arith, ints, nat_tests, cases_Bool, int_eq, it, (own_rows es))
 
 -- Their order.
 
@@ -52,10 +41,7 @@ module _ (n left : ℤ) where
   changed e = cond (has_no n e) (with_left left e) e
 
   same_order : (a b : Entry) → entry_cmp (changed a) (changed b) ≡ entry_cmp a b
-  same_order a b =
-      cond_both (has_no n a) (with_left left a) a (λ x. entry_cmp x (changed b) ≡ entry_cmp a b)
-      (λ _. cond_both (has_no n b) (with_left left b) b (λ y. entry_cmp a y ≡ entry_cmp a b) (λ _. refl) (λ _. refl))
-      (λ _. cond_both (has_no n b) (with_left left b) b (λ y. entry_cmp a y ≡ entry_cmp a b) (λ _. refl) (λ _. refl))
+  same_order a b = grind (arith, ints, nat_tests, cond_both, has_no, with_left, entry_cmp, changed)
 
   sorted_rows : (xs : List Entry) → sort_by entry_cmp (update_where (has_no n) (with_left left) xs)
       ≡ update_where (has_no n) (with_left left) (sort_by entry_cmp xs)
@@ -92,28 +78,18 @@ module _ (n left : ℕ) where
 pub own_left : (m : ℕ) (o : Option Left) (es : List Entry) → AllByRecursion IsWrittenEntry es
     → AreNumbered 1 (kept_of (pos m) es)
     → kept_of (pos m) (left_put m o es) ≡ other_written (kept_of (pos m) es) o
-own_left m None es written numbered = refl
-own_left m (Some o) es written numbered =
-    let n = pos o.number in
-    let left = pos o.left in
-    ap (λ l. map kept_from (sort_by entry_cmp l)) (own_rows (pos m) n left es)
-    ∙ ap (map kept_from) (sorted_rows n left (filter (is_entry_of (pos m)) es))
-    ∙ kept_left o.number o.left 1 (entries_of (pos m) es) (numbers_of (pos m) es (have_numbers es written)) numbered
+own_left m o es written numbered =
+    grind (arith, ints, nat_tests, map, kept_from, own_rows, sorted_rows, filter, kept_left, numbers_of, have_numbers)
 
 others_left : (k : ℤ) (m : ℕ) (o : Option Left) (es : List Entry) → (k ≡ pos m → ⊥)
     → entries_of k (left_put m o es) ≡ entries_of k es
-others_left k m None es other = refl
-others_left k m (Some o) es other = ap (sort_by entry_cmp) (others_rows (pos m) (pos o.number) (pos o.left) k es other)
+others_left k m o es other = grind (arith, ints, nat_tests, sort_by, entry_cmp, others_rows)
 
 -- what holds of each, whatever is left of it, holds of each afterwards
 each_left : (P : Entry → Type 0) (m : ℕ) (o : Option Left) (es : List Entry)
     → ((left : ℕ) (e : Entry) → P e → P (with_left (pos left) e))
     → AllByRecursion P es → AllByRecursion P (left_put m o es)
-each_left P m None es still all = all
-each_left P m (Some o) es still all =
-    all_map P _ es (all_weaker P _ (λ e h.
-    cond_both (is_entry_at (pos m) (pos o.number) e) (with_left (pos o.left) e) e P
-    (λ _. still o.left e h) (λ _. h)) es all)
+each_left x0 m o es still all = grind (arith, ints, nat_tests, all_map, all_weaker, cond_both, is_entry_at, with_left)
 
 -- those of other matters stay, and each is a written one, of a matter with a head
 pub placed_left_put : (m : ℕ) (o : Option Left) (es : List Entry) → AllByRecursion IsWrittenEntry es

@@ -1,5 +1,5 @@
 -- The entries of a matter by number, after one was put in.
-use Rattle.sql_rows.proofs.Names.{◌≡◌, inl, inr, ℕ, ℤ, pos, nat_abs, ◌<ℤ◌, ◌≤ℤ◌, ◌+◌, Bool, true, false, not, cond, eqb, List, [], ◌∷◌, ◌++◌, map, filter, refl, sym, ap, ap₂, subst, ◌∙◌, arith, int_eq, int_cmp, Less, is_eq, IsPermutation, AllByRecursion, IsTotalOrder, ints, cases_Bool, int_cmp_total, on_total, then_total, IsPermutation-refl, IsPermutation-cons, IsPermutation-trans, IsPermutation-append_comm, IsPermutation-append_left, IsPermutation-sym, filter-append, IsAscending, IsKeyedBy, next_key, sort_by, delete_where, Less-from_lt, same_int, IsKeyedBy-insert_by, IsKeyedBy-delete_where, IsPermutation-filter, all_weaker, ascending-filter, ascending_weaker, filter_all, all-filter, IsPermutation-sort_by, Kept, entry_put, AreNumbered, entry_cmp, is_entry, is_entry_of, entries_of, put_entry, kept_from, IsWrittenEntry}
+use Rattle.sql_rows.proofs.Names.{◌≡◌, inl, inr, ℕ, ℤ, pos, nat_abs, ◌<ℤ◌, ◌≤ℤ◌, ◌+◌, Bool, true, false, not, cond, eqb, List, [], ◌∷◌, ◌++◌, map, filter, refl, sym, ap, ap₂, subst, ◌∙◌, arith, int_eq, int_cmp, Less, is_eq, IsPermutation, AllByRecursion, IsTotalOrder, ints, cases_Bool, int_cmp_total, on_total, then_total, IsPermutation-refl, IsPermutation-cons, IsPermutation-trans, IsPermutation-append_comm, IsPermutation-append_left, IsPermutation-sym, filter-append, IsAscending, IsKeyedBy, next_key, sort_by, delete_where, Less-from_lt, same_int, IsKeyedBy-insert_by, IsKeyedBy-delete_where, IsPermutation-filter, all_weaker, ascending-filter, ascending_weaker, filter_all, all-filter, IsPermutation-sort_by, Kept, entry_put, AreNumbered, entry_cmp, is_entry, is_entry_of, entries_of, put_entry, kept_from, IsWrittenEntry, nat_tests}
 use Rattle.sql_tables.specs.Rows.{Entry}
 use Rattle.sql_tables.proofs.Casts.{below_next, goes_last}
 use Rattle.sql_rows.proofs.KeyedRows.{filter-delete_both, int_eq-itself, int_eq-nat}
@@ -66,9 +66,7 @@ numbers_from : (i : ℕ) (ys : List Entry) → AllByRecursion HasNumber ys → A
     → AllByRecursion (IsFrom i) ys
 numbers_from i [] have h = tt
 numbers_from i (y ∷ ys) have h =
-    let is = number_is y i have.0 h.0 in
-    let more = numbers_from (i + 1) ys have.1 h.1 in
-    (omega (arith, ints, is), all_weaker (IsFrom (i + 1)) (IsFrom i) (λ e k. omega (arith, ints, k)) ys more)
+    grind (arith, ints, nat_tests, number_is, all_weaker, (numbers_from (i + 1) ys have.1 h.1))
 
 -- rows of entries that are numbered on from a number rise
 pub numbers_rise : (i : ℕ) (ys : List Entry) → AllByRecursion HasNumber ys → AreNumbered i (map kept_from ys)
@@ -77,8 +75,7 @@ numbers_rise i [] have h = tt
 numbers_rise i (y ∷ ys) have h =
     let is = number_is y i have.0 h.0 in
     let more = numbers_from (i + 1) ys have.1 h.1 in
-    let above = all_weaker (IsFrom (i + 1)) (IsAbove y) (λ e k. omega (arith, ints, k, is)) ys more in
-    (above, numbers_rise (i + 1) ys have.1 h.1)
+    grind (arith, ints, nat_tests, all_weaker, (numbers_rise (i + 1) ys have.1 h.1))
 
 by_number : (a b : Entry) → a.no <ℤ b.no → entry_cmp a b ≡ Less
 by_number a b lt = rw (Less-from_lt a.no b.no lt) refl
@@ -114,10 +111,8 @@ same_elements new i (y ∷ ys) own have h =
 have-with_row : (new : Entry) (ys : List Entry) → HasNumber new → AllByRecursion HasNumber ys
     → AllByRecursion HasNumber (with_row new ys)
 have-with_row new [] h all = (h, tt)
-have-with_row new (y ∷ ys) h all = elim (cases_Bool (eqb (nat_abs y.no) (nat_abs new.no))) [
-  | inl e ↦ rw e (h, all.1)
-  | inr e ↦ rw e (all.0, have-with_row new ys h all.1)
-]
+have-with_row new (y ∷ ys) h all =
+    grind (arith, ints, nat_tests, cases_Bool, eqb, nat_abs, (have-with_row new ys h all.1))
 
 -- What is put in.
 
@@ -151,8 +146,7 @@ abbrev IsUntied : Entry → Entry → Type 0
 IsUntied a b = is_eq (entry_cmp a b) ≡ false
 
 untied : (a b : Entry) → a.id <ℤ b.id → IsUntied a b
-untied a b lt =
-    untied_last (int_cmp a.no b.no) (int_cmp a.id b.id) (ap is_eq (Less-from_lt a.id b.id lt))
+untied a b lt = grind (arith, ints, nat_tests, untied_last, int_cmp, is_eq)
 
 -- the entries of its matter by number have the row in its place
 own_put : (e : Entry) (es : List Entry) → HasNumber e → IsKeyedBy entry_key es → AllByRecursion HasNumber es
@@ -183,9 +177,4 @@ pub kept_put : (m : ℤ) (e : Entry) (es : List Entry) → e.matter ≡ m → Ha
     → AreNumbered 1 (entry_put (kept_of m es) (kept_from e))
     → kept_of m (put_entry e es) ≡ entry_put (kept_of m es) (kept_from e)
 kept_put m e es of own up have were are =
-    let were_own = subst (λ k. AreNumbered 1 (kept_of k es)) (sym of) were in
-    let are_own = subst (λ k. AreNumbered 1 (entry_put (kept_of k es) (kept_from e))) (sym of) are in
-    ap (λ k. kept_of k (put_entry e es)) (sym of)
-    ∙ ap (map kept_from) (own_put e es own up have were_own are_own)
-    ∙ kept-with_row (new_row e es) (entries_of e.matter es)
-    ∙ ap (λ k. entry_put (kept_of k es) (kept_from e)) of
+    grind (arith, ints, nat_tests, kept_from, map, own_put, kept-with_row, new_row)

@@ -1,5 +1,5 @@
 -- The exceptions of a firm, as their table keeps them and in their order.
-use Rattle.sql_rows.proofs.Names.{◌≡◌, ℤ, pos, nat_abs, Bool, true, false, not, ◌&&◌, cond, List, [], ◌∷◌, ◌++◌, map, refl, sym, ap, ◌∙◌, int_cmp, Ordering, Equal, is_eq, IsPermutation, Contains, AllByRecursion, list_any, IsTotalOrder, tied_then, ordering_then, cond_both, int_cmp_total, nat_list_cmp_total, on_total, then_total, list_any-IsPermutation, IsPermutation-sym, IsKeyedBy, next_key, sort_by, delete_where, all_weaker, all_both, all-append, none_from_any, IsPermutation-sort_by, Line, with_line, without_line, text_cmp, Exception, exception_cmp, is_exception, note_exception, exception_columns, IsWrittenException, exception_from, arith}
+use Rattle.sql_rows.proofs.Names.{◌≡◌, ℤ, pos, nat_abs, Bool, true, false, not, ◌&&◌, cond, List, [], ◌∷◌, ◌++◌, map, refl, sym, ap, ◌∙◌, int_cmp, Ordering, Equal, is_eq, IsPermutation, Contains, AllByRecursion, list_any, IsTotalOrder, tied_then, ordering_then, cond_both, int_cmp_total, nat_list_cmp_total, on_total, then_total, list_any-IsPermutation, IsPermutation-sym, IsKeyedBy, next_key, sort_by, delete_where, all_weaker, all_both, all-append, none_from_any, IsPermutation-sort_by, Line, with_line, without_line, text_cmp, Exception, exception_cmp, is_exception, note_exception, exception_columns, IsWrittenException, exception_from, arith, ints, nat_tests}
 use Rattle.std.specs.List.Sorted.{IsStrictlySortedBy}
 use Rattle.std.proofs.lemmas.Map.Views.{Contains-from_any}
 use Rattle.trust_base.specs.LineOrder.{line_cmp, is_same_line}
@@ -41,21 +41,12 @@ behind_day a b =
 
 exceptions_agree : (a b : Exception) → IsWrittenException a → IsWrittenException b
     → exception_cmp a b ≡ ordering_then (line_cmp (exception_from a) (exception_from b)) (int_cmp a.id b.id)
-exceptions_agree a b is also =
-    let days = read_cmp a.day b.day (dated a is) (dated b also) in
-    five_then (int_cmp a.day b.day) (text_cmp a.reference b.reference) (text_cmp a.bank_ref b.bank_ref)
-    (int_cmp a.amount b.amount) (text_cmp a.text b.text) (int_cmp a.id b.id)
-    ∙ ap (λ o. ordering_then (ordering_then o (behind_day (exception_from a) (exception_from b))) (int_cmp a.id b.id))
-    days
+exceptions_agree a b is also = grind (arith, ints, nat_tests, read_cmp, dated, five_then)
 
 -- the row is one of the line
 is_of_line : (line : Line) (e : Exception) → IsWrittenException e
     → is_exception (exception_columns line) e ≡ is_same_line (exception_from e) line
-is_of_line line e is =
-    let days = read_cmp e.day (pos line.date) (dated e is) refl in
-    five_tied (int_cmp e.day (pos line.date)) (text_cmp e.reference line.reference) (text_cmp e.bank_ref line.bank_ref)
-    (int_cmp e.amount line.amount) (text_cmp e.text line.text)
-    ∙ ap (λ o. is_eq (ordering_then o (behind_day (exception_from e) line))) days
+is_of_line line e is = grind (arith, ints, nat_tests, read_cmp, dated, five_tied, is_eq)
 
 are_of_line : (line : Line) (es : List Exception) → AllByRecursion IsWrittenException es
     → AllByRecursion (λ e. is_exception (exception_columns line) e ≡ is_same_line (exception_from e) line) es
@@ -118,7 +109,4 @@ exceptions_with line es up all sorted = go (list_any (is_exception (exception_co
 -- and each row is what would be written
 pub noted_written : (line : Line) (es : List Exception) → AllByRecursion IsWrittenException es
     → AllByRecursion IsWrittenException (note_exception (exception_columns line) es)
-noted_written line es all =
-    cond_both (list_any (is_exception (exception_columns line)) es) es (es ++ noted line es ∷ [])
-    (AllByRecursion IsWrittenException) (λ _. all)
-    (λ _. all-append IsWrittenException es (noted line es ∷ []) all (refl, tt))
+noted_written line es all = grind (arith, ints, nat_tests, cond_both, all-append)

@@ -1,5 +1,5 @@
 -- The head of a matter after a change of it, which the steps of the change put in first.
-use Rattle.sql_rows.proofs.Names.{◌≡◌, ℕ, pos, find, Option, Some, None, option_map, refl, sym, ap, subst, ◌∙◌, AllByRecursion, IsSome, false≢true, IsKeyedBy, Head, Purged, Rows, closed_on, Edit, MatterChange, IsChange, IsPlace, head_after, rows_in, Lists, HasHead, head_columns, totals_columns, AreMeant, IsWrittenHead, head_from, matters_from, IsTypedEdit, AreMade, head_at, head_steps, totals_steps, edit_steps, matter_steps, changed_by, Sound}
+use Rattle.sql_rows.proofs.Names.{◌≡◌, ℕ, pos, find, Option, Some, None, option_map, refl, sym, ap, subst, ◌∙◌, AllByRecursion, IsSome, false≢true, IsKeyedBy, Head, Purged, Rows, closed_on, Edit, MatterChange, IsChange, IsPlace, head_after, rows_in, Lists, HasHead, head_columns, totals_columns, AreMeant, IsWrittenHead, head_from, matters_from, IsTypedEdit, AreMade, head_at, head_steps, totals_steps, edit_steps, matter_steps, changed_by, Sound, arith, ints, nat_tests}
 use Rattle.matter_parts.specs.declared.edit.Edit.TheVariants as edit
 use Rattle.sql_tables.specs.declared.columns.TotalsColumns.{TotalsColumns}
 use Rattle.sql_tables.specs.Rows as table
@@ -33,13 +33,7 @@ module _ (m : ℕ) (c : MatterChange) (a mid : Lists) (up : IsKeyedBy key a.head
   -- a row of the matter with what its head has is all columns of the head, once the last day and the totals are set
   columns_set : (y : table.Head) (k : Head) → y.no ≡ pos m → HasHead k y
       → table.with_totals totals y ≡ head_columns m (record k { last = c.last }) c.moves.figures
-  columns_set y k own has = λ i. record (table.with_totals totals y) {
-    no = own i;
-    client = sym has.0 i;
-    opened = sym has.1 i;
-    closed = sym has.2 i;
-    purged = sym has.4 i;
-  }
+  columns_set y k own has = grind (arith, ints, nat_tests, totals)
 
   -- so it is as if that head were put in, whatever `g` changes in the row and `f` in its head
   row_set : (e : Edit) (g : table.Head → table.Head) (f : Head → Head) → ((y : table.Head) → (g y).no ≡ y.no)
@@ -67,24 +61,13 @@ module _ (m : ℕ) (c : MatterChange) (a mid : Lists) (up : IsKeyedBy key a.head
   both_set : (k : Lists) (f : table.Head → table.Head) → ((y : table.Head) → (f y).no ≡ y.no)
       → k ≡ record a { heads = table.change_head (pos m) f a.heads } → AreMade (totals_steps m c) k mid
       → mid ≡ record a { heads = table.change_head (pos m) (λ y. table.with_totals totals (f y)) a.heads }
-  both_set k f same first made =
-      made.2 ∙ made.1
-      ∙ ap (λ (l : Lists). record l { heads = table.change_head (pos m) (table.with_totals totals) l.heads }) first
-      ∙ ap (λ hs. record a { heads = hs }) (changed_twice (pos m) f same (table.with_totals totals) a.heads)
+  both_set k f same first made = grind (arith, ints, nat_tests, totals, changed_twice)
 
   -- the steps of each change that is something put its head in
   head_put : (rows : Rows) (e : Edit) → head_at m a ≡ rows.head → (e ≡ edit.Nothing → ⊥) → IsTypedEdit e
       → IsPlace rows e → Sound (changed_by e c.last rows) → AreMade (head_steps m c e) a mid → IsHeadPut m c e a mid
   head_put rows edit.Nothing own some typed place sound made = absurd (some refl)
-  head_put rows (edit.Open o) own some typed place sound made = record {
-    h = o.head;
-    is = refl;
-    days = record {
-      holder = seated_held o.head.holder o.head.closed o.head.last o.seat rows.entries sound.bare;
-      closed = typed;
-    };
-    put = made.2 ∙ made.1;
-  }
+  head_put rows (edit.Open o) own some typed place sound made = grind (arith, ints, nat_tests, seated_held)
   head_put rows (edit.Close day) own some typed place sound made =
       row_set _ (table.with_closing (pos day)) (λ h. record h { closed = Some day }) (λ y. refl)
       (λ x has. (has.0, has.1, refl, has.3, has.4)) (λ h. refl)
@@ -116,9 +99,4 @@ head_first m c a b up meant here some typed made =
     let parts = made-append (head_steps m c c.edit) (edit_steps m c c.edit) a b made in
     let put = head_put m c a parts.0 up meant.written.heads (rows_in m (matters_from a)) c.edit
     (head_found a m up meant.written.heads) some typed here.place here.sound parts.1 in
-    record {
-      h = put.h;
-      is = put.is;
-      days = put.days;
-      rest = subst (λ (l : Lists). AreMade (edit_steps m c c.edit) l b) put.put parts.2;
-    }
+    grind (arith, ints, nat_tests, put, edit_steps)

@@ -33,9 +33,7 @@ module _ (p q : Head → Part) (new : Head) (m : ℕ) (own : new.no ≡ pos m)
   above_same : (hs : List Head) → AllByRecursion (λ (h : Head). new.no <ℤ h.no) hs
       → map (made_by p) hs ≡ map (made_by q) hs
   above_same [] up = refl
-  above_same (h ∷ hs) up =
-      ap₂ ◌∷◌ (ap (λ part. record { number = nat_abs h.no; matter = part })
-      (same h (λ e. let lt = up.0 in omega (arith, ints, lt, e, own)))) (above_same hs up.1)
+  above_same (h ∷ hs) up = grind (arith, ints, nat_tests, nat_abs, (above_same hs up.1))
 
   number_own : nat_abs new.no ≡ m
   number_own = ap nat_abs own

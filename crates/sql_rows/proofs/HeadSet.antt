@@ -1,5 +1,5 @@
 -- A head that is changed where it stands, and one that is put in, are the same heads.
-use Rattle.sql_rows.proofs.Names.{◌≡◌, inl, inr, ℤ, ◌<ℤ◌, true, cond, List, [], ◌∷◌, find, Some, refl, sym, ap, ap₂, subst, ◌∙◌, int_eq, AllByRecursion, cases_Bool, IsKeyedBy, Less-from_lt, same_int, map-map, map_same, is_head, put_head, change_head}
+use Rattle.sql_rows.proofs.Names.{◌≡◌, inl, inr, ℤ, ◌<ℤ◌, true, List, [], ◌∷◌, find, Some, refl, sym, ap, ap₂, subst, ◌∙◌, int_eq, AllByRecursion, cases_Bool, IsKeyedBy, Less-from_lt, same_int, map-map, map_same, is_head, put_head, change_head, arith, ints, nat_tests}
 use Rattle.sql_tables.specs.Rows.{Head}
 use Rattle.sql_rows.proofs.HeadOrder.{key, goes_first, none_gone}
 use Rattle.sql_rows.proofs.KeyedRows.{apart_above, apart_below, int_eq-itself}
@@ -35,12 +35,4 @@ module _ (n : ℤ) (f : Head → Head) (same : (h : Head) → (f h).no ≡ h.no)
   -- one change behind another is both
   pub changed_twice : (g : Head → Head) (hs : List Head)
       → change_head n g (change_head n f hs) ≡ change_head n (λ h. g (f h)) hs
-  changed_twice g hs = map-map _ _ hs ∙ map_same _ _ each hs
-    where
-      each : (h : Head)
-          → cond (is_head n (cond (is_head n h) (f h) h)) (g (cond (is_head n h) (f h) h)) (cond (is_head n h) (f h) h)
-          ≡ cond (is_head n h) (g (f h)) h
-      each h = elim (cases_Bool (int_eq h.no n)) [
-        | inl own ↦ let still : int_eq (f h).no n ≡ true = ap (λ k. int_eq k n) (same h) ∙ own in rw own (rw still refl)
-        | inr off ↦ rw off (rw off refl)
-      ]
+  changed_twice g hs = grind (arith, ints, nat_tests, map-map, map_same, is_head, cases_Bool, int_eq)

@@ -1,5 +1,5 @@
 -- What is found of a matter's head, what is written of one, and the matters after one was put in.
-use Rattle.sql_rows.proofs.Names.{◌≡◌, inl, inr, ℕ, ℤ, pos, ◌≤◌, true, false, List, [], ◌∷◌, map, find, Option, Some, None, option_map, refl, sym, ap, subst, ◌∙◌, arith, int_eq, ◌==◌, IfSome, AllByRecursion, cases_Bool, nat_tests, IsKeyedBy, delete_where, all-insert_by, has_key-insert_by, has_key-delete_where, same_int, all-filter, Head, Client, Purged, Seat, Entry, Rows, IsBare, Figures, IsWhole, rows_in, matters_with, IsKeptWhole, AreKeptWhole, put_head, is_head, Lists, HasHead, client_column, closed_column, head_columns, purged_column, part_from, matter_from, matters_from, head_from, holder_from, day_or_none, IsWrittenHead, HasHeadAt, head_at, all_unmap, all_weaker, cond_both}
+use Rattle.sql_rows.proofs.Names.{◌≡◌, inl, inr, ℕ, ℤ, pos, ◌≤◌, true, false, List, [], ◌∷◌, map, find, Option, Some, None, option_map, sym, ap, subst, ◌∙◌, arith, int_eq, ◌==◌, IfSome, AllByRecursion, cases_Bool, nat_tests, IsKeyedBy, delete_where, all-insert_by, has_key-insert_by, has_key-delete_where, same_int, all-filter, Head, Client, Purged, Seat, Entry, Rows, IsBare, Figures, IsWhole, rows_in, matters_with, IsKeptWhole, AreKeptWhole, put_head, is_head, Lists, client_column, closed_column, head_columns, purged_column, part_from, matter_from, matters_from, head_from, holder_from, day_or_none, IsWrittenHead, HasHeadAt, head_at, all_unmap, all_weaker, cond_both, ints}
 use Rattle.std.specs.Prelude.{nat_abs}
 use Rattle.matter_rows.specs.declared.head.Holder.{Holder}
 use Rattle.matter_parts.specs.declared.edit.Edit.TheVariants as edit
@@ -31,12 +31,8 @@ rows_at a m up written = rows_in-made (part_from a) a.heads m up (are_numbered a
 -- and so is its head
 pub head_found : (a : Lists) (m : ℕ) → IsKeyedBy key a.heads → AllByRecursion IsWrittenHead a.heads
     → head_at m a ≡ (rows_in m (matters_from a)).head
-head_found a m up written = shown (find (is_head (pos m)) a.heads)
-    ∙ sym (ap (λ (rows : Rows). rows.head) (rows_at a m up written))
-  where
-    shown : (o : Option table.Head) → option_map head_from o ≡ (rows_found (part_from a) o).head
-    shown None = refl
-    shown (Some h) = refl
+head_found a m up written =
+    grind (arith, ints, nat_tests, find, is_head, rows_at, option_map, head_from, rows_found, part_from)
 
 -- a head that is found has the number
 pub found_number : (a : Lists) (m : ℕ) (h : table.Head) → find (is_head (pos m)) a.heads ≡ Some h → h.no ≡ pos m
@@ -72,35 +68,22 @@ some_day : (n : ℕ) → (n == 0) ≡ false → 1 ≤ n
 some_day n e = grind (arith, nat_tests)
 
 day_back : (o : Option ℕ) → IsDated o → day_or_none (nat_abs (closed_column o)) ≡ o
-day_back None one = refl
-day_back (Some day) one = rw (not_zero day one) refl
+day_back o one = grind (arith, ints, nat_tests, not_zero)
 
 holder_back : (h : table.Head) (o : Holder) → IsHeld o → h.client ≡ client_column o → h.purged ≡ purged_column o
     → holder_from h ≡ o
-holder_back h (Client name) one c p = rw (c, p) refl
-holder_back h (Purged day) one c p = rw (c, p) (rw (not_zero day one) refl)
+holder_back h o one c p = grind (arith, ints, nat_tests, not_zero)
 
 -- the columns of a head give it back
 pub head_back : (m : ℕ) (h : Head) (f : Figures) → HasDays h → head_from (head_columns m h f) ≡ h
-head_back m h f days = λ i. record {
-  holder = holder_back (head_columns m h f) h.holder days.holder refl refl i;
-  opened = h.opened;
-  closed = day_back h.closed days.closed i;
-  last = h.last;
-}
+head_back m h f days = grind (arith, ints, nat_tests, holder_back, head_columns, day_back)
 
 head_written : (m : ℕ) (h : Head) (f : Figures) → HasDays h → IsWrittenHead (head_columns m h f)
-head_written m h f days = (
-  refl,
-  subst (λ (x : Head). HasHead x (head_columns m h f)) (sym (head_back m h f days))
-      (refl, refl, refl, refl, refl),
-)
+head_written m h f days = grind (arith, ints, nat_tests, head_columns, head_back)
 
 -- a head that was read has such days
 holder_read : (h : table.Head) → IsHeld (holder_from h)
-holder_read h =
-    cond_both (nat_abs h.purged == 0) (Client h.client) (Purged (nat_abs h.purged)) IsHeld (λ _. tt)
-    (λ e. some_day (nat_abs h.purged) e)
+holder_read h = grind (arith, ints, nat_tests, cond_both, nat_abs, some_day)
 
 closed_read : (n : ℕ) → IsDated (day_or_none n)
 closed_read n = cond_both (n == 0) None (Some n) IsDated (λ _. tt) (λ e. some_day n e)
@@ -111,8 +94,7 @@ days_read h = record { holder = holder_read h; closed = closed_read (nat_abs h.c
 -- a matter with a seat was not purged
 pub seated_held : (o : Holder) (closed : Option ℕ) (last : ℕ) (s : Seat) (es : List Entry)
     → IsBare o closed last (s ∷ []) es → IsHeld o
-seated_held (Client name) closed last s es bare = tt
-seated_held (Purged day) closed last s es bare = absurd (let none = bare.1.1.0 in cc)
+seated_held o closed last s es bare = grind (arith, ints, nat_tests)
 
 -- The heads after one was put in.
 

@@ -1,5 +1,5 @@
 -- Rows of a table by their numbers: which are there, and which are left where some are taken out.
-use Rattle.sql_rows.proofs.Names.{◌≡◌, inl, inr, ℕ, ℤ, pos, ◌<ℤ◌, ◌<◌, ◌≤◌, Bool, true, false, not, ◌&&◌, List, [], ◌∷◌, filter, find, None, is_some, refl, sym, ap, ◌∙◌, subst, arith, int_eq, int_cmp, Ordering, Less, Greater, true≢false, ◌==◌, AllByRecursion, ints, cases_Bool, nat_tests, has_key, insert_by, delete_where, same_int, int_eq_apart, filter-filter, HasHeadAt, all_weaker, filter_none}
+use Rattle.sql_rows.proofs.Names.{◌≡◌, ℕ, ℤ, pos, ◌<ℤ◌, ◌<◌, ◌≤◌, Bool, true, false, not, ◌&&◌, List, [], ◌∷◌, filter, find, None, is_some, refl, sym, ap, ◌∙◌, subst, arith, int_eq, int_cmp, Greater, true≢false, ◌==◌, AllByRecursion, ints, cases_Bool, nat_tests, has_key, insert_by, delete_where, same_int, int_eq_apart, filter-filter, HasHeadAt, all_weaker, filter_none}
 use Rattle.sql_tables.specs.Rows as table
 
 -- Numbers.
@@ -39,12 +39,7 @@ Greater-from_lt a b lt = grind (arith, ints)
 pub has_key-put : {X : Type 0} (key : X → ℤ) (xs : List X) (new : X)
     → has_key key (insert_by key xs new) (key new) ≡ true
 has_key-put key [] new = rw (int_eq-itself (key new)) refl
-has_key-put key (x ∷ xs) new = cases (int_cmp (key x) (key new)) refl (has_key-put key xs new)
-  where
-    cases : (o : Ordering) → int_cmp (key x) (key new) ≡ o → has_key key (insert_by key xs new) (key new) ≡ true
-        → has_key key (insert_by key (x ∷ xs) new) (key new) ≡ true
-    cases Less is more = rw is (elim (cases_Bool (int_eq (key x) (key new))) [ inl e ↦ rw e refl | inr e ↦ rw e more ])
-    cases _ is more = rw is (rw (int_eq-itself (key new)) refl)
+has_key-put key (x ∷ xs) new = grind (arith, ints, nat_tests, cases_Bool, int_eq-itself, (has_key-put key xs new))
 
 -- where no head has the number, no row names it
 pub none_of : {X : Type 0} (number : X → ℤ) (heads : List table.Head) (k : ℤ) (xs : List X)
@@ -61,22 +56,13 @@ none_of number heads k xs none all =
 -- of those that pass a test none is left
 pub filter-delete_where : {X : Type 0} (p : X → Bool) (xs : List X) → filter p (delete_where p xs) ≡ []
 filter-delete_where p [] = refl
-filter-delete_where p (x ∷ xs) = elim (cases_Bool (p x)) [
-  | inl b ↦ rw b (filter-delete_where p xs)
-  | inr b ↦ rw b (rw b (filter-delete_where p xs))
-]
+filter-delete_where p (x ∷ xs) = grind (arith, ints, nat_tests, cases_Bool, (filter-delete_where p xs))
 
 -- of those that pass the first of two tests, what is left does not pass the second
 pub filter-delete_both : {X : Type 0} (p q : X → Bool) (xs : List X)
     → filter p (delete_where (λ x. p x && q x) xs) ≡ filter (λ x. not (q x)) (filter p xs)
 filter-delete_both p q [] = refl
-filter-delete_both p q (x ∷ xs) = elim (cases_Bool (p x)) [
-  | inl a ↦ elim (cases_Bool (q x)) [
-    | inl b ↦ rw (a, b) (filter-delete_both p q xs)
-    | inr b ↦ rw (a, b) (rw a (ap (λ l. x ∷ l) (filter-delete_both p q xs)))
-  ]
-  | inr a ↦ rw a (rw a (filter-delete_both p q xs))
-]
+filter-delete_both p q (x ∷ xs) = grind (arith, ints, nat_tests, cases_Bool, (filter-delete_both p q xs))
 
 off_matter : (k m z : ℤ) → (k ≡ m → ⊥) → int_eq z k ≡ true → int_eq z m ≡ false
 off_matter k m z other h = int_eq_apart z m (λ e. other (sym (same_int z k h) ∙ e))
@@ -85,9 +71,7 @@ off_matter k m z other h = int_eq_apart z m (λ e. other (sym (same_int z k h) �
 pub others_stay : {X : Type 0} (number : X → ℤ) (gone : X → Bool) (m k : ℤ) (xs : List X) → (k ≡ m → ⊥)
     → ((x : X) → int_eq (number x) m ≡ false → gone x ≡ false)
     → filter (λ x. int_eq (number x) k) (delete_where gone xs) ≡ filter (λ x. int_eq (number x) k) xs
-others_stay number gone m k xs other stays =
-    filter-filter (λ x. int_eq (number x) k) (λ x. not (gone x))
-    (λ x h. ap not (stays x (off_matter k m (number x) other h))) xs
+others_stay number gone m k xs other stays = grind (arith, ints, nat_tests, filter-filter, int_eq, not, off_matter)
 
 -- a test of the matter first fails for another
 pub off_first : (a b : Bool) → a ≡ false → (a && b) ≡ false

@@ -1,5 +1,5 @@
 -- The scripts of the changes that concern the firm's own tables alone are meant.
-use Rattle.sql_rows.proofs.Names.{◌≡◌, ℤ, List, [], ◌∷◌, ◌++◌, Option, Some, None, refl, sym, ap, ◌∙◌, subst, AllByRecursion, map-append, IsKeyedBy, all-filter, all-append, Line, BalanceKind, own_movement, after_match, with_firm_line, with_statement, as_firm_line, balance_row, FirmChange, Repeated, Unmatched, OfFirm, OfBalance, matched_by, after, FitsFirm, FirmSound, StaysSound, Lists, movement_columns, firm_line_columns, exception_columns, balance_columns, AreKeyed, AreMeant, AreSound, IsWrittenMovement, IsWrittenFirmLine, IsWrittenException, IsWrittenBalance, firm_from, movement_from, firm_line_from, AreMade, line_steps, IsMeant, LineScriptsAreMeant}
+use Rattle.sql_rows.proofs.Names.{◌≡◌, ℤ, List, [], ◌∷◌, ◌++◌, Option, Some, None, refl, sym, ap, ◌∙◌, subst, AllByRecursion, map-append, IsKeyedBy, all-filter, all-append, Line, BalanceKind, own_movement, after_match, with_statement, as_firm_line, balance_row, FirmChange, Repeated, Unmatched, OfFirm, OfBalance, matched_by, after, FitsFirm, StaysSound, Lists, movement_columns, firm_line_columns, exception_columns, balance_columns, AreKeyed, AreMeant, AreSound, IsWrittenMovement, IsWrittenFirmLine, IsWrittenException, IsWrittenBalance, firm_from, AreMade, line_steps, IsMeant, LineScriptsAreMeant, arith, ints, nat_tests}
 use Rattle.sql_tables.specs.Rows as table
 use Rattle.sql_rows.proofs.Balances.{balances_with, added_written}
 use Rattle.sql_rows.proofs.Exceptions.{key, exceptions_without, exceptions_with, noted_written}
@@ -13,20 +13,7 @@ own_meant : (a : Lists) (ms : List table.Movement) (ls : List table.FirmLine) (e
     (bs : List table.Balance) → AreMeant a → AllByRecursion IsWrittenMovement ms → AllByRecursion IsWrittenFirmLine ls
     → AllByRecursion IsWrittenException es → AllByRecursion IsWrittenBalance bs
     → AreMeant (owning a ms ls es bs)
-own_meant a ms ls es bs meant moved own noted told = record {
-  written = record {
-    heads = meant.written.heads;
-    seats = meant.written.seats;
-    entries = meant.written.entries;
-    movements = moved;
-    firm_lines = own;
-    exceptions = noted;
-    balances = told;
-  };
-  matters = meant.matters;
-  seated = meant.seated;
-  entered = meant.entered;
-}
+own_meant a ms ls es bs meant moved own noted told = grind (arith, ints, nat_tests)
 
 noting : (a : Lists) (es : List table.Exception) → AreMeant a → AllByRecursion IsWrittenException es
     → AreMeant (record a { exceptions = es })
@@ -37,9 +24,7 @@ noting a es meant noted =
 -- tables that are meant stand for a sound firm after a change that fits
 pub meant_after : StaysSound → (change : FirmChange) (a b : Lists) → AreSound a → AreKeyed b
     → FitsFirm (firm_from a) change → firm_from b ≡ after change (firm_from a) → AreMeant b → IsMeant change a b
-meant_after stays change a b sound keyed fits is meant =
-    let firm = subst FirmSound (sym is) (stays change (firm_from a) sound.sound fits) in
-    (is, record { keyed = keyed; meant = meant; sound = firm })
+meant_after stays change a b sound keyed fits is meant = grind (arith, ints, nat_tests, firm_from)
 
 -- the line that made a change is no exception from then on
 pub line_gone : (line : Option Line) (a b : Lists) → AreMade (line_steps line) a b → IsKeyedBy key a.exceptions
@@ -82,11 +67,7 @@ module _ (a b : Lists) (sound : AreSound a) where
       let lines = all-append IsWrittenFirmLine a.firm_lines (l ∷ []) old.written.firm_lines (refl, tt) in
       let meant = own_meant a _ _ a.exceptions a.balances old moves lines old.written.exceptions old.written.balances in
       let done = line_gone (Some line) mid b made sound.keyed.exceptions meant in
-      let moved = map-append movement_from a.movements (m ∷ []) in
-      let own = map-append firm_line_from a.firm_lines (l ∷ []) in
-      let same : firm_from mid ≡ with_firm_line (as_firm_line line) (firm_from a) =
-      λ i. record (firm_from a) { movements = moved i; firm_lines = own i } in
-      (done.0 ∙ ap (after_match line) same, done.1)
+      grind (arith, ints, nat_tests, map-append)
 
   of_balance : (kind : BalanceKind) (line : Line) → FitsFirm (firm_from a) (OfBalance kind line)
       → AreMade (line_steps (Some line))
@@ -100,8 +81,7 @@ module _ (a b : Lists) (sound : AreSound a) where
       let meant = own_meant a _ _ a.exceptions _ old written.movements written.firm_lines written.exceptions told in
       let done = line_gone (Some line) mid b made sound.keyed.exceptions meant in
       let with = balances_with row a.balances sound.keyed.balances written.balances fits in
-      let same : firm_from mid ≡ with_statement row (firm_from a) = λ i. record (firm_from a) { balances = with i } in
-      (done.0 ∙ ap (after_match line) same, done.1)
+      grind (arith, ints, nat_tests, firm_from, with_statement, after_match)
 
 -- the script of each of these changes is meant, where each change that fits leaves a sound firm
 pub line_scripts : StaysSound → LineScriptsAreMeant

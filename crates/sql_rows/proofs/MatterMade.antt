@@ -1,5 +1,5 @@
 -- What the steps of each change of a matter make: the rows stand for the firm after it.
-use Rattle.sql_rows.proofs.Names.{◌≡◌, ◌⊎◌, inl, inr, ℕ, ◌≤◌, refl, sym, ap, subst, ◌∙◌, Edit, Numbered, MatterChange, IsChange, of, after_change, after_edit, Lists, AreKeyed, AreMeant, firm_from, IsTypedEdit, AreMade, matter_steps}
+use Rattle.sql_rows.proofs.Names.{◌≡◌, ◌⊎◌, inl, inr, ℕ, ◌≤◌, refl, sym, subst, Edit, Numbered, MatterChange, IsChange, of, after_change, after_edit, Lists, AreKeyed, AreMeant, firm_from, IsTypedEdit, AreMade, matter_steps, arith, ints, nat_tests}
 use Rattle.matter_parts.specs.declared.edit.Edit.TheVariants as edit
 use Rattle.sql_rows.proofs.Becomes.{IsMatterMade}
 use Rattle.sql_rows.proofs.EntryFits.{IsEntryChange}
@@ -9,14 +9,7 @@ use Rattle.sql_rows.proofs.WithoutEntry.{WritesNoEntry, without_entry_made}
 -- a change that is nothing makes nothing
 nothing_made : (m : ℕ) (c : MatterChange) (a b : Lists) → c.edit ≡ edit.Nothing → AreMeant a
     → AreMade (matter_steps m c c.edit) a b → IsMatterMade m c a b
-nothing_made m c a b none meant made =
-    let same : b ≡ a = subst (λ e. AreMade (matter_steps m c e) a b) none made in
-    let stays : after_change m c (firm_from a) ≡ firm_from a = ap (λ e. after_edit m e c.last (firm_from a)) none in
-    record {
-      firm = ap firm_from same ∙ sym stays;
-      meant = subst AreMeant (sym same) meant;
-      exceptions = ap (λ (l : Lists). l.exceptions) same;
-    }
+nothing_made m c a b none meant made = grind (arith, ints, nat_tests, matter_steps, after_change, firm_from, after_edit)
 
 -- an edit is nothing, writes an entry, or writes none
 edit_kinds : (c : MatterChange) (e : Edit) → c.edit ≡ e

@@ -1,5 +1,5 @@
 -- The firm's movements, after one was added and after those of a matter are gone.
-use Rattle.sql_rows.proofs.Names.{◌≡◌, ℕ, ℤ, pos, ◌≤◌, false, List, [], ◌∷◌, ◌++◌, map, Option, Some, None, refl, sym, ap, ◌∙◌, arith, append-nil, int_eq, ◌==◌, AllByRecursion, map-append, nat_tests, delete_where, all-append, EntryMovement, Movement, is_of_matter, moved_without, joined_movement, is_movement_of, Lists, movement_columns, matter_column, entry_column, movement_from, owner_from, IsWrittenMovement, AreMade, movement_steps, all_weaker, not}
+use Rattle.sql_rows.proofs.Names.{◌≡◌, ℕ, ℤ, pos, ◌≤◌, List, [], ◌∷◌, ◌++◌, map, Option, Some, None, sym, ap, ◌∙◌, arith, append-nil, int_eq, ◌==◌, AllByRecursion, map-append, nat_tests, delete_where, all-append, EntryMovement, Movement, is_of_matter, moved_without, joined_movement, is_movement_of, Lists, movement_columns, matter_column, entry_column, movement_from, IsWrittenMovement, AreMade, movement_steps, all_weaker, ints}
 use Rattle.std.specs.Prelude.{nat_abs, cond}
 use Rattle.firm_rows.specs.declared.movement.Owner.{Owner}
 use Rattle.firm_rows.specs.declared.movement.Owner.TheVariants as owner
@@ -15,8 +15,7 @@ IsOwnerNumbered owner.Firm = Unit {0}
 owner_back : (o : Owner) → IsOwnerNumbered o
     → cond (nat_abs (matter_column o) == 0) owner.Firm
     (owner.Matter (nat_abs (matter_column o)) (nat_abs (entry_column o))) ≡ o
-owner_back (owner.Matter m n) one = rw (not_zero m one) refl
-owner_back owner.Firm one = refl
+owner_back o one = grind (arith, ints, nat_tests, not_zero)
 
 -- the columns of a movement give it back, whatever its number
 movement_back : (v : Movement) (seq : ℤ) → IsOwnerNumbered v.owner
@@ -58,13 +57,9 @@ movement_made m (Some v) a b one made =
 
 -- a row is of the matter where its movement is
 same_matter : (m : ℕ) (o : Owner) (z : ℤ) → 1 ≤ m → z ≡ matter_column o → int_eq z (pos m) ≡ is_of_matter m o
-same_matter m (owner.Matter k n) z one is = rw is (int_eq-nat k m)
-same_matter m owner.Firm z one is = rw is (int_eq-nat 0 m ∙ (let e : (0 == m) ≡ false = grind (arith, nat_tests) in e))
+same_matter m o z one is = grind (arith, ints, nat_tests, int_eq-nat)
 
 -- those that are left stand for the movements without those of the matter
 pub movements_gone : (m : ℕ) (ms : List table.Movement) → 1 ≤ m → AllByRecursion IsWrittenMovement ms
     → map movement_from (delete_where (is_movement_of (pos m)) ms) ≡ moved_without m (map movement_from ms)
-movements_gone m ms one all =
-    read-filter_agrees movement_from _ _ ms
-    (all_weaker IsWrittenMovement _ (λ x is. ap not
-    (same_matter m (owner_from x) x.matter one (ap (λ (y : table.Movement). y.matter) is))) ms all)
+movements_gone m ms one all = grind (arith, ints, nat_tests, read-filter_agrees, all_weaker, same_matter)

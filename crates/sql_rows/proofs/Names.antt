@@ -1,14 +1,14 @@
 -- The names that the proofs of this crate cite, passed on from one place. Declares nothing.
 pub use Rattle.firm_rows.proofs.Kept.{empty-sound, unopened-sound}
-pub use Rattle.firm_rows.specs.Firm.{after_change, after_edit, after_match, is_of_matter, joined_movement, kept_movements, moved_without, of, own_movement, with_firm_line, with_line, with_statement, without_line}
+pub use Rattle.firm_rows.specs.Firm.{after_change, after_edit, after_match, is_of_matter, joined_movement, kept_movements, moved_without, of, own_movement, with_line, with_statement, without_line}
 pub use Rattle.firm_rows.specs.FirmChange.{FirmChange, FitsFirm, OfBalance, OfFirm, OfMatter, Repeated, Unmatched, after, matched_by}
 pub use Rattle.firm_rows.specs.FirmLines.{as_firm_line, balance_row, is_balance_on, kept_balance, place_of, with_balance}
-pub use Rattle.firm_rows.specs.FirmSound.{FirmSound, StaysSound}
+pub use Rattle.firm_rows.specs.FirmSound.{StaysSound}
 pub use Rattle.firm_rows.specs.declared.ledger.BalanceKind.{BalanceKind}
 pub use Rattle.firm_rows.specs.declared.movement.Movement.{Movement}
 pub use Rattle.matter_parts.specs.Applied.{IsWritten, entry_put, kept_as, left_written, other_written}
-pub use Rattle.matter_parts.specs.Changes.{IsChange, IsExchange, IsPlace, MatterChange, changed, changed_by, edited, head_after, movement_of, seats_after}
-pub use Rattle.matter_parts.specs.Parts.{AreFigures, AreKept, AreNumbered, IsWhole, Part, entries_kept, kept_in, no_figures}
+pub use Rattle.matter_parts.specs.Changes.{IsChange, IsPlace, MatterChange, changed, changed_by, edited, head_after, movement_of, seats_after}
+pub use Rattle.matter_parts.specs.Parts.{AreKept, AreNumbered, IsWhole, Part, entries_kept, kept_in, no_figures}
 pub use Rattle.matter_parts.specs.declared.change.Left.{Left}
 pub use Rattle.matter_parts.specs.declared.change.TotalsAfter.{TotalsAfter}
 pub use Rattle.matter_parts.specs.declared.edit.Edit.{Edit}
@@ -40,7 +40,7 @@ pub use Rattle.sqlite_keyed.specs.Keyed.{IsKeyedBy, has_key, insert_by, next_key
 pub use Rattle.sqlite_keyed.specs.Lists.{delete_where, insert_sorted, sort_by, update_where}
 pub use Rattle.sqlite_trees.proofs.ListLemmas.{all-permutation, ascending-get_or, filter_same}
 pub use Rattle.sqlite_trees.specs.Tree.{IsAscending}
-pub use Rattle.std.proofs.Common.{Bool, Contains, Equal, Err, Greater, IfErr, IsPermutation, IsSorted, Less, List, None, Ok, Option, Ordering, Result, Some, [], ap, append-nil, ap₂, arith, cond, eqb, false, filter, find, get_or, inl, inr, int_cmp, int_eq, is_eq, is_gt, is_lt, is_some, length, map, nat_abs, not, option_map, pos, refl, rules, subst, sym, true, true≢false, ℕ, ℤ, ◌&&◌, ◌++◌, ◌+◌, ◌<ℤ◌, ◌<◌, ◌||◌, ◌∙◌, ◌∷◌, ◌≡◌, ◌≤ℤ◌, ◌≤◌, ◌⊎◌}
+pub use Rattle.std.proofs.Common.{Bool, Contains, Equal, Greater, IfErr, IsPermutation, IsSorted, Less, List, None, Option, Ordering, Result, Some, [], ap, append-nil, ap₂, arith, cond, eqb, false, filter, find, get_or, inl, inr, int_cmp, int_eq, is_eq, is_gt, is_lt, is_some, length, map, nat_abs, not, option_map, pos, refl, rules, subst, sym, true, true≢false, ℕ, ℤ, ◌&&◌, ◌++◌, ◌+◌, ◌<ℤ◌, ◌<◌, ◌||◌, ◌∙◌, ◌∷◌, ◌≡◌, ◌≤ℤ◌, ◌≤◌, ◌⊎◌}
 pub use Rattle.std.proofs.lemmas.Bool.{cases_Bool, cond_both, false≢true}
 pub use Rattle.std.proofs.lemmas.Bool.Decides.{nat_tests}
 pub use Rattle.std.proofs.lemmas.Cmp.{int_cmp_total, nat_list_cmp_total, on_total, then_total}
@@ -58,7 +58,7 @@ pub use Rattle.trust_store.specs.declared.plain.KeptMatter.{KeptMatter}
 pub use Rattle.sql_rows.specs.Columns.{balance_columns, entry_column, exception_columns, firm_line_columns, kind_column, matter_column, movement_columns, role_column, seat_columns}
 pub use Rattle.sql_rows.specs.Entries.{HasEntry, entry_columns, parts_of}
 pub use Rattle.sql_rows.specs.Heads.{HasHead, client_column, closed_column, head_columns, purged_column, totals_columns}
-pub use Rattle.sql_rows.specs.Meaning.{AreKeyed, AreMeant, AreSound, AreWritten, HasHeadAt, IsWrittenBalance, IsWrittenEntry, IsWrittenException, IsWrittenFirmLine, IsWrittenHead, IsWrittenMovement, IsWrittenSeat, balance_from, balance_kind_from, day_or_none, entry_from, exception_from, figures_from, firm_from, firm_line_from, head_from, holder_from, kept_from, matter_from, matters_from, movement_from, owner_from, part_from, role_from, seat_from}
+pub use Rattle.sql_rows.specs.Meaning.{AreKeyed, AreMeant, AreSound, AreWritten, HasHeadAt, IsWrittenBalance, IsWrittenEntry, IsWrittenException, IsWrittenFirmLine, IsWrittenHead, IsWrittenMovement, IsWrittenSeat, balance_from, balance_kind_from, day_or_none, entry_from, exception_from, figures_from, firm_from, head_from, holder_from, kept_from, matter_from, matters_from, movement_from, part_from, role_from, seat_from}
 pub use Rattle.sql_rows.specs.Scripts.{IsMeant, IsScriptMeant, IsTypedEdit, LineScriptsAreMeant, ScriptsAreMeant}
 pub use Rattle.sql_rows.specs.Standing.{EmptyTablesStand, EntriesReadBack}
 pub use Rattle.sql_rows.specs.Steps.{AreMade, Step, edit_steps, entry_steps, head_at, head_steps, left_steps, line_steps, matter_steps, movement_steps, totals_steps}

@@ -1,6 +1,6 @@
 -- The seats or the entries of all matters after a change of one matter: those of other matters stay, and each is what would
 -- be written, of a matter with a head.
-use Rattle.sql_rows.proofs.Names.{◌≡◌, ℕ, ℤ, pos, Bool, false, List, [], ◌∷◌, ◌++◌, filter, refl, sym, ap, subst, ◌∙◌, append-nil, int_eq, Ordering, AllByRecursion, filter-append, sort_by, delete_where, int_eq_apart, all-append, all-filter, seat_cmp, entry_cmp, HasHeadAt, IsWrittenSeat, IsWrittenEntry}
+use Rattle.sql_rows.proofs.Names.{◌≡◌, ℕ, ℤ, pos, Bool, false, List, [], ◌∷◌, ◌++◌, filter, refl, ap, append-nil, int_eq, Ordering, AllByRecursion, filter-append, sort_by, delete_where, int_eq_apart, all-append, all-filter, seat_cmp, entry_cmp, HasHeadAt, IsWrittenSeat, IsWrittenEntry, arith, ints, nat_tests}
 use Rattle.sql_tables.specs.Rows.{Head, Seat, Entry}
 use Rattle.sql_rows.proofs.KeyedRows.{others_stay}
 
@@ -19,11 +19,7 @@ module _ {X : Type 0} (number : X → ℤ) (cmp : X → X → Ordering) (IsWritt
 
   -- one change behind another
   pub placed_then : (m : ℕ) (xs ys zs : List X) → IsPlaced m xs ys → IsPlaced m ys zs → IsPlaced m xs zs
-  placed_then m xs ys zs a b = record {
-    others = λ k other. b.others k other ∙ a.others k other;
-    written = b.written;
-    headed = λ heads here all. b.headed heads here (a.headed heads here all);
-  }
+  placed_then m xs ys zs a b = grind (arith, ints, nat_tests)
 
   module _ (m : ℕ) (xs : List X) (written : AllByRecursion IsWritten xs) where
     pub placed_same : IsPlaced m xs xs
@@ -40,17 +36,8 @@ module _ {X : Type 0} (number : X → ℤ) (cmp : X → X → Ordering) (IsWritt
 
     -- a row of the matter is put behind the others
     pub placed_added : (new : X) → number new ≡ pos m → IsWritten new → IsPlaced m xs (xs ++ new ∷ [])
-    placed_added new own is = record {
-      others = λ k other.
-          let off : int_eq (number new) k ≡ false = int_eq_apart (number new) k (λ e. other (sym e ∙ own)) in
-          ap (sort_by cmp)
-          (filter-append (λ x. int_eq (number x) k) xs (new ∷ [])
-          ∙ ap (λ l. filter (λ x. int_eq (number x) k) xs ++ l) (rw off refl)
-          ∙ append-nil (filter (λ x. int_eq (number x) k) xs));
-      written = all-append IsWritten xs (new ∷ []) written (is, tt);
-      headed = λ heads here all.
-          all-append (λ x. HasHeadAt heads (number x)) xs (new ∷ []) all (subst (HasHeadAt heads) (sym own) here, tt);
-    }
+    placed_added new own is =
+        grind (arith, ints, nat_tests, int_eq_apart, filter-append, filter, append-nil, all-append, written)
 
 abbrev pub SeatsPlaced : ℕ → List Seat → List Seat → Type 0
 SeatsPlaced = IsPlaced (λ (s : Seat). s.matter) seat_cmp IsWrittenSeat

@@ -1,5 +1,5 @@
 -- Rows in an order: what is found of them, how they are sorted, and what they stand for.
-use Rattle.sql_rows.proofs.Names.{◌≡◌, ◌≤◌, ◌+◌, ℤ, ◌<ℤ◌, Bool, true, false, not, ◌||◌, cond, List, [], ◌∷◌, ◌++◌, map, filter, find, length, Some, refl, sym, ap, ap₂, ◌∙◌, subst, arith, pos, nat_abs, true≢false, int_cmp, Ordering, Less, Equal, Greater, is_lt, is_gt, is_eq, IsPermutation, IsSorted, AllByRecursion, list_any, IsTotalOrder, nat_cmp, ordering_then, ordering_reverse, ints, nat_tests, map-append, recursion_from_All, filter_passes, IsPermutation-sym, IsPermutation-cons, IsPermutation-trans, IsPermutation-middle, IsPermutation-filter_both, IsAscending, IsKeyedBy, insert_sorted, sort_by, IsPermutation-filter, all_weaker, all_both, ascending-append, ascending-filter, filter-map, Less-from_lt, HasNoTies, IsPermutation-sort_by, sorted_is-sort_by, all-filter, rules, cond_both, length_permutation, slice_get-filter, all-permutation, ascending-get_or, sorted_unique, IsPermutation-push_more, slice_get, get_or, all-slice_get, filter_same}
+use Rattle.sql_rows.proofs.Names.{◌≡◌, ◌≤◌, ◌+◌, ℤ, Bool, true, false, not, ◌||◌, List, [], ◌∷◌, ◌++◌, map, filter, find, length, Some, refl, sym, ap, ap₂, ◌∙◌, subst, arith, pos, nat_abs, int_cmp, Ordering, Less, is_lt, is_gt, is_eq, IsPermutation, IsSorted, AllByRecursion, list_any, IsTotalOrder, nat_cmp, ordering_then, ordering_reverse, ints, nat_tests, map-append, recursion_from_All, filter_passes, IsPermutation-sym, IsPermutation-cons, IsPermutation-trans, IsPermutation-middle, IsPermutation-filter_both, IsAscending, IsKeyedBy, insert_sorted, sort_by, IsPermutation-filter, all_weaker, all_both, ascending-append, ascending-filter, filter-map, HasNoTies, IsPermutation-sort_by, sorted_is-sort_by, all-filter, rules, cond_both, length_permutation, slice_get-filter, all-permutation, ascending-get_or, sorted_unique, IsPermutation-push_more, slice_get, get_or, all-slice_get, filter_same}
 
 -- Answers of an order.
 
@@ -56,9 +56,7 @@ module _ {X : Type 0} (cmp : X → X → Ordering) (total : IsTotalOrder cmp) wh
   Rises = IsAscending (λ a b. cmp a b ≡ Less)
 
   sorted_from_rises : (xs : List X) → Rises xs → IsSorted cmp xs
-  sorted_from_rises xs up k d p q =
-      let below = ascending-get_or _ xs k (k + 1) d up (omega arith) q in
-      ap is_lt (total.antisymm (get_or xs (k + 1) d) (get_or xs k d) ∙ ap ordering_reverse below)
+  sorted_from_rises xs up k d p q = grind (arith, ints, nat_tests, ascending-get_or, is_lt, get_or, ordering_reverse)
 
   -- the one order of the rows in which they rise
   pub sorts_to : (xs ys : List X) → HasNoTies cmp total xs → IsPermutation xs ys → Rises ys → sort_by cmp xs ≡ ys
@@ -80,13 +78,8 @@ module _ {X : Type 0} (cmp : X → X → Ordering) (total : IsTotalOrder cmp) wh
   rises-insert_sorted : (new : X) (xs : List X) → AllByRecursion (λ y. is_eq (cmp new y) ≡ false) xs → Rises xs
       → Rises (insert_sorted cmp new xs)
   rises-insert_sorted new [] apart up = (tt, tt)
-  rises-insert_sorted new (x ∷ xs) apart up = go (cmp new x) refl (rises-insert_sorted new xs apart.1 up.1)
-    where
-      go : (o : Ordering) → cmp new x ≡ o → Rises (insert_sorted cmp new xs)
-          → Rises (cond (is_gt o) (x ∷ insert_sorted cmp new xs) (new ∷ x ∷ xs))
-      go Less e more = ((e, all_weaker _ (λ y. cmp new y ≡ Less) (λ y. total.trans new x y e) xs up.0), up)
-      go Equal e more = absurd (true≢false (sym (ap is_eq e) ∙ apart.0))
-      go Greater e more = (all-insert_sorted _ new xs (total.antisymm x new ∙ ap ordering_reverse e) up.0, more)
+  rises-insert_sorted new (x ∷ xs) apart up =
+      grind (arith, ints, nat_tests, all_weaker, is_eq, all-insert_sorted, (rises-insert_sorted new xs apart.1 up.1))
 
   -- where no two tie, the rows rise once they are sorted
   rises-sort_by : (xs : List X) → HasNoTies cmp total xs → Rises (sort_by cmp xs)
@@ -172,13 +165,8 @@ module _ {X Y : Type 0} (key : X → ℤ) (cmp : X → X → Ordering) (total : 
   -- no two rows tie
   untied_by_key : (xs : List X) → IsKeyedBy key xs → AllByRecursion IsWritten xs → HasNoTies cmp total xs
   untied_by_key [] up all = tt
-  untied_by_key (x ∷ xs) up all = (
-    all_both (λ y. key x <ℤ key y) IsWritten (λ y. is_eq (cmp x y) ≡ false)
-        (λ y lt is. ap is_eq (agrees x y all.0 is)
-        ∙ untied_last (R (read x) (read y)) (int_cmp (key x) (key y)) (ap is_eq (Less-from_lt (key x) (key y) lt)))
-        xs up.0 all.1,
-    untied_by_key xs up.1 all.1,
-  )
+  untied_by_key (x ∷ xs) up all =
+      grind (arith, ints, nat_tests, all_both, is_eq, untied_last, int_cmp, (untied_by_key xs up.1 all.1))
 
   -- the rows that pass a test stand for what passes it, also once they are sorted
   pub read-filter : (p : X → Bool) (q : Y → Bool) (xs : List X) → IsKeyedBy key xs → AllByRecursion IsWritten xs
@@ -194,8 +182,7 @@ module _ {X Y : Type 0} (key : X → ℤ) (cmp : X → X → Ordering) (total : 
       × (is_lt (cmp b a) ≡ is_lt (R (read b) (read a)))
 
   untied_read : (a b : X) → IsWritten a → IsWritten b → is_eq (R (read a) (read b)) ≡ false → IsPlacedAs a b
-  untied_read a b is also apart =
-      rw (total.antisymm b a, ranks.antisymm (read b) (read a), agrees a b is also) (untied_first _ _ apart)
+  untied_read a b is also apart = grind (arith, ints, nat_tests, untied_first)
 
   -- with a row behind the others, which stands for what none of them does, they stand for that and what they did
   pub read-push : (xs : List X) (new : X) → IsKeyedBy key xs → AllByRecursion IsWritten xs → IsWritten new

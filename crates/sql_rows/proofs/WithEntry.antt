@@ -1,5 +1,5 @@
 -- What the steps of a change of a matter make that writes an entry, a new one or one in the place of another.
-use Rattle.sql_rows.proofs.Names.{◌≡◌, inl, inr, ℕ, pos, ◌≤◌, List, ◌++◌, map, Option, Some, refl, sym, ap, subst, ◌∙◌, Head, seen_on, Numbered, Part, IsWhole, IsWritten, entry_put, kept_as, other_written, MatterChange, IsChange, changed, head_after, Movement, of, kept_movements, joined_movement, rows_in, seats_of, Lists, head_columns, AreKeyed, AreMeant, IsWrittenSeat, firm_from, matters_from, part_from, head_from, seat_from, movement_from, IsTypedEdit, AreMade, head_at, edit_steps, entry_steps, movement_steps, matter_steps}
+use Rattle.sql_rows.proofs.Names.{◌≡◌, ℕ, pos, ◌≤◌, List, ◌++◌, map, Option, Some, refl, sym, ap, subst, ◌∙◌, Head, seen_on, Numbered, Part, IsWhole, IsWritten, entry_put, kept_as, other_written, MatterChange, IsChange, changed, head_after, Movement, of, kept_movements, joined_movement, rows_in, seats_of, Lists, head_columns, AreKeyed, AreMeant, IsWrittenSeat, firm_from, matters_from, part_from, head_from, seat_from, movement_from, IsTypedEdit, AreMade, head_at, edit_steps, entry_steps, movement_steps, matter_steps, arith, ints, nat_tests}
 use Rattle.matter_parts.specs.declared.edit.Edit.TheVariants as edit
 use Rattle.matter_parts.proofs.Applied.{IsAfter, after-append, after-exchange}
 use Rattle.sql_tables.specs.Rows as table
@@ -16,32 +16,26 @@ use Rattle.sql_rows.proofs.Steps.{made-append}
 -- What the change says, be the entry a new one or not.
 
 write_some : (c : MatterChange) (x : Numbered) → IsEntryChange c x → c.edit ≡ edit.Nothing → ⊥
-write_some c x (inl is) none = absurd (let e = sym is ∙ none in cc)
-write_some c x (inr is) none = absurd (let e = sym is ∙ none in cc)
+write_some c x x2 none = grind (arith, ints, nat_tests)
 
 write_typed : (c : MatterChange) (x : Numbered) → IsEntryChange c x → IsTypedEdit c.edit
-write_typed c x (inl is) = subst IsTypedEdit (sym is) tt
-write_typed c x (inr is) = subst IsTypedEdit (sym is) tt
+write_typed c x x2 = grind (arith, ints, nat_tests)
 
 write_seen : (c : MatterChange) (x : Numbered) (o : Option Head) → IsEntryChange c x
     → head_after o c.edit c.last ≡ seen_on o c.last
-write_seen c x o (inl is) = ap (λ e. head_after o e c.last) is
-write_seen c x o (inr is) = ap (λ e. head_after o e c.last) is
+write_seen c x o x3 = grind (arith, ints, nat_tests, head_after)
 
 write_steps : (m : ℕ) (c : MatterChange) (x : Numbered) → IsEntryChange c x
     → edit_steps m c c.edit ≡ entry_steps m x c.moves ++ movement_steps m c.movement
-write_steps m c x (inl is) = ap (edit_steps m c) is
-write_steps m c x (inr is) = ap (edit_steps m c) is
+write_steps m c x x3 = grind (arith, ints, nat_tests, edit_steps)
 
 write_keeps : (m : ℕ) (c : MatterChange) (x : Numbered) (shown moves : List Movement) → IsEntryChange c x
     → shown ≡ moves → shown ≡ kept_movements m c.edit moves
-write_keeps m c x shown moves (inl is) same = same ∙ sym (ap (λ e. kept_movements m e moves) is)
-write_keeps m c x shown moves (inr is) same = same ∙ sym (ap (λ e. kept_movements m e moves) is)
+write_keeps m c x shown moves x5 same = grind (arith, ints, nat_tests, kept_movements)
 
 write_after : (old new : Part) (c : MatterChange) (x : Numbered) → IsEntryChange c x
     → IsWritten old x c.moves c.last new → IsAfter old c new
-write_after old new c x (inl is) put = after-append old new c x c.moves c.last is refl refl put
-write_after old new c x (inr is) put = after-exchange old new c x c.moves c.last is refl refl put
+write_after old new c x x4 put = grind (arith, ints, nat_tests, after-append, after-exchange)
 
 -- What it writes.
 
@@ -57,12 +51,7 @@ part_written : (m : ℕ) (c : MatterChange) (x : Numbered) (a b : Lists) (h : He
     → kept_of (pos m) b.entries
     ≡ other_written (entry_put (kept_of (pos m) a.entries) (kept_as x c.moves)) c.moves.other
     → IsWritten (part_at m a) x c.moves c.last (part_from b (head_columns m h c.moves.figures))
-part_written m c x a b h head same kept = record {
-  head = head;
-  seats = ap (λ ss. map seat_from (seats_of (pos m) ss)) same;
-  figures = refl;
-  kept = kept;
-}
+part_written m c x a b h head same kept = grind (arith, ints, nat_tests, map, seat_from, seats_of)
 
 -- entries and movements, one after the other
 both_put : (a mid b : Lists) (es : List table.Entry) (ms : List table.Movement) → mid ≡ record a { entries = es }

@@ -1,5 +1,5 @@
 -- What the steps of a change of a matter make that writes no entry: one of the head and the seats, or a purge.
-use Rattle.sql_rows.proofs.Names.{◌≡◌, ℕ, pos, ◌≤◌, List, [], ◌++◌, map, Option, Some, None, refl, sym, ap, subst, ◌∙◌, append-nil, AllByRecursion, IsKeyedBy, delete_where, Head, Seat, Entry, EntryMovement, Rows, role_in, seats_with, seats_without, Sound, IsHeaded, Edit, IsWhole, MatterChange, IsChange, IsPlace, changed, edited, head_after, seats_after, movement_of, of, kept_movements, joined_movement, moved_without, rows_in, seats_of, entries_of, is_seat, is_seat_of, is_entry_of, is_movement_of, add_seat, Lists, seat_columns, head_columns, AreKeyed, AreMeant, AreWritten, IsWrittenSeat, IsWrittenEntry, IsWrittenMovement, firm_from, matters_from, part_from, head_from, seat_from, kept_from, movement_from, IsTypedEdit, AreMade, edit_steps, matter_steps, all-filter}
+use Rattle.sql_rows.proofs.Names.{◌≡◌, ℕ, pos, ◌≤◌, List, [], ◌++◌, map, Option, Some, None, refl, sym, ap, subst, ◌∙◌, append-nil, AllByRecursion, IsKeyedBy, delete_where, Head, Seat, Entry, EntryMovement, Rows, role_in, seats_with, seats_without, Sound, IsHeaded, Edit, IsWhole, MatterChange, IsChange, IsPlace, changed, edited, head_after, seats_after, movement_of, of, kept_movements, joined_movement, moved_without, rows_in, seats_of, entries_of, is_seat, is_seat_of, is_entry_of, is_movement_of, add_seat, Lists, seat_columns, head_columns, AreKeyed, AreMeant, AreWritten, IsWrittenSeat, IsWrittenEntry, IsWrittenMovement, firm_from, matters_from, part_from, head_from, seat_from, kept_from, movement_from, IsTypedEdit, AreMade, edit_steps, matter_steps, all-filter, arith, ints, nat_tests}
 use Rattle.matter_parts.specs.declared.edit.Edit.TheVariants as edit
 use Rattle.sql_tables.specs.Rows as table
 use Rattle.sql_rows.proofs.Becomes.{AreEntries, ArePlaced, part_at, whole_at, sound_in, change_at, whole_entries, whole_after, no_entries, with_matter, IsMatterMade, matter_done}
@@ -45,25 +45,13 @@ with_rest m e l = record l {
 -- the steps behind the head make these
 rest_made : (m : ℕ) (c : MatterChange) (e : Edit) (l b : Lists) → WritesNoEntry e → AreMade (edit_steps m c e) l b
     → b ≡ with_rest m e l
-rest_made m c (edit.Open o) l b w made = made.2 ∙ made.1
-rest_made m c (edit.Seat s) l b w made = made.2 ∙ made.1
-rest_made m c (edit.Unseat p) l b w made = made.2 ∙ made.1
-rest_made m c (edit.Close day) l b w made = made
-rest_made m c (edit.Clear day) l b w made =
-    made.2.2.2 ∙ made.2.2.1
-    ∙ ap (λ (k : Lists). record k { movements = delete_where (is_movement_of (pos m)) k.movements }) made.2.1
-    ∙ ap (λ (k : Lists). record k {
-      entries = delete_where (is_entry_of (pos m)) k.entries;
-      movements = delete_where (is_movement_of (pos m)) k.movements;
-    }) made.1
-rest_made m c _ l b w made = absurd w
+rest_made m c e l b w made = grind (arith, ints, nat_tests, delete_where, is_movement_of, is_entry_of)
 
 -- What the rows stand for.
 
 -- a matter that was not opened has no seat
 unopened_seats : (h : Option Head) (ss : List Seat) (es : List Entry) → h ≡ None → IsHeaded h ss es → ss ≡ []
-unopened_seats None ss es none headed = headed.0
-unopened_seats (Some h) ss es none headed = absurd (cc)
+unopened_seats h ss es none headed = grind (arith, ints, nat_tests)
 
 seats_shown : (m : ℕ) (e : Edit) (ss : List table.Seat) (rows : Rows) → WritesNoEntry e → IsKeyedBy seats.key ss
     → map seat_from (seats_of (pos m) ss) ≡ rows.seats → Sound rows → IsPlace rows e
@@ -85,26 +73,16 @@ seats_shown m _ ss rows w up same sound place = absurd w
 entries_shown : (m : ℕ) (e : Edit) (es : List table.Entry) (rows : Rows) → WritesNoEntry e
     → AreEntries (map kept_from (entries_of (pos m) es)) rows.entries
     → AreEntries (map kept_from (entries_of (pos m) (entries_by m e es))) (edited rows.entries e)
-entries_shown m (edit.Clear day) es rows w are =
-    subst (λ ks. AreEntries ks []) (sym (kept_gone (pos m) es)) no_entries
-entries_shown m (edit.Append x) es rows w are = absurd w
-entries_shown m (edit.Exchange x) es rows w are = absurd w
-entries_shown m _ es rows w are = are
+entries_shown m e es rows w are = grind (arith, ints, nat_tests, kept_gone, no_entries)
 
 none_moved : (m : ℕ) (x : Option EntryMovement) (ms : List table.Movement) → x ≡ None
     → map movement_from ms ≡ map movement_from ms ++ joined_movement m x
-none_moved m x ms none =
-    sym (ap (λ o. map movement_from ms ++ joined_movement m o) none ∙ append-nil (map movement_from ms))
+none_moved m x ms none = grind (arith, ints, nat_tests, map, movement_from, joined_movement, append-nil)
 
 movements_shown : (m : ℕ) (e : Edit) (x : Option EntryMovement) (rows : Rows) (ms : List table.Movement)
     → WritesNoEntry e → 1 ≤ m → AllByRecursion IsWrittenMovement ms → x ≡ movement_of rows.entries e
     → map movement_from (movements_by m e ms) ≡ kept_movements m e (map movement_from ms ++ joined_movement m x)
-movements_shown m edit.Nothing x rows ms w one all none = absurd w
-movements_shown m (edit.Clear day) x rows ms w one all none =
-    movements_gone m ms one all ∙ ap (moved_without m) (none_moved m x ms none)
-movements_shown m (edit.Append y) x rows ms w one all none = absurd w
-movements_shown m (edit.Exchange y) x rows ms w one all none = absurd w
-movements_shown m _ x rows ms w one all none = none_moved m x ms none
+movements_shown m e x rows ms w one all none = grind (arith, ints, nat_tests, movements_gone, moved_without, none_moved)
 
 -- Where the rows are.
 
@@ -123,16 +101,11 @@ entries_placed m _ es written = placed_same (λ (x : table.Entry). x.matter) tab
 
 movements_written : (m : ℕ) (e : Edit) (ms : List table.Movement) → AllByRecursion IsWrittenMovement ms
     → AllByRecursion IsWrittenMovement (movements_by m e ms)
-movements_written m (edit.Clear day) ms written = all-filter IsWrittenMovement _ ms written
-movements_written m _ ms written = written
+movements_written m e ms written = grind (arith, ints, nat_tests, all-filter)
 
 placed_by : (m : ℕ) (e : Edit) (a : Lists) → AreWritten a
     → ArePlaced m a (seats_by m e a.seats) (entries_by m e a.entries) (movements_by m e a.movements)
-placed_by m e a written = record {
-  seats_placed = seats_placed m e a.seats written.seats;
-  entries_placed = entries_placed m e a.entries written.entries;
-  movements_written = movements_written m e a.movements written.movements;
-}
+placed_by m e a written = grind (arith, ints, nat_tests, seats_placed, entries_placed, movements_written)
 
 -- The change.
 

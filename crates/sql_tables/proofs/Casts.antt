@@ -1,5 +1,5 @@
 -- Values that a statement gives are stored as they are, and rowids go up.
-use Rattle.sql_tables.proofs.Names.{◌≡◌, ℤ, pos, ◌+ℤ◌, ◌<ℤ◌, Bool, true, false, cond, ◌&&◌, List, [], ◌∷◌, ◌++◌, map, fold, refl, ap, ap₂, subst, ◌∙◌, AllByRecursion, Null, Int, Text, Row, rowid, Table, cast, cast_all, cast_row, id_in, IsKeyedBy, next_key, insert_by, above_all, Less-from_lt, IsKeyedBy-insert_by}
+use Rattle.sql_tables.proofs.Names.{◌≡◌, ℤ, pos, ◌+ℤ◌, ◌<ℤ◌, Bool, true, false, cond, ◌&&◌, List, [], ◌∷◌, ◌++◌, map, fold, refl, ap, ap₂, subst, ◌∙◌, AllByRecursion, Null, Int, Text, Row, rowid, Table, cast, cast_all, cast_row, id_in, IsKeyedBy, next_key, insert_by, above_all, Less-from_lt, IsKeyedBy-insert_by, arith, ints, nat_tests}
 use Rattle.sqlite_value.specs.declared.value.Value.{Value}
 use Rattle.sqlite_sql.specs.Ops.{unary}
 use Rattle.sqlite_schema.specs.declared.schema.Kind.{Kind}
@@ -8,8 +8,7 @@ use Rattle.sqlite_schema.specs.declared.schema.Column.{Column}
 use Rattle.sqlite_keyed.proofs.RuleLemmas.{first_of_both, second_of_both}
 
 either : (b : Bool) (x : Value) → cond b x x ≡ x
-either true x = refl
-either false x = refl
+either b x = grind (arith, ints, nat_tests)
 
 pub cast_int : (n : ℤ) → cast kind.Integer (Int n) ≡ Int n
 unfolding unary
@@ -33,10 +32,7 @@ are_fit (c ∷ cs) [] = false
 are_fit (c ∷ cs) (v ∷ vs) = is_fit c.kind v && are_fit cs vs
 
 cast_fit : (k : Kind) (v : Value) → is_fit k v ≡ true → cast k v ≡ v
-cast_fit kind.Integer Null h = cast_null
-cast_fit kind.Integer (Int n) h = cast_int n
-cast_fit kind.Text (Text t) h = refl
-cast_fit _ _ h = absurd cc
+cast_fit k v h = grind (arith, ints, nat_tests, cast_null, cast_int)
 
 pub cast_kept : (cs : List Column) (vs : Row) → are_fit cs vs ≡ true → cast_all cs vs ≡ vs
 cast_kept [] vs h = refl

@@ -1,5 +1,5 @@
 -- INSERT of one row into a table with AUTOINCREMENT.
-use Rattle.sql_tables.proofs.Names.{◌≡◌, ◌≢◌, ℕ, ℤ, ◌/◌, Bool, true, false, cond, List, [], ◌∷◌, length, Option, Some, None, Ok, refl, sym, ap, subst, subst₂, ◌∙◌, is_lt, MatchBool, AllByRecursion, Row, Trees, put_row, Term, Schema, Table, Enforced, Values, Above, cast_row, works, Edit, edit_of, with_rowid, taken_by, Applies, value_rows, Written, Task, Inserts, Edited, Gives, Counts, CountsIn, count_of, rowids_for, sequence, stamped, one_step, Has, all_has}
+use Rattle.sql_tables.proofs.Names.{◌≡◌, ◌≢◌, ℕ, ℤ, ◌/◌, Bool, true, false, cond, List, [], ◌∷◌, length, Option, Some, None, Ok, refl, sym, subst, subst₂, ◌∙◌, is_lt, MatchBool, AllByRecursion, Row, Trees, put_row, Term, Schema, Table, Enforced, Values, Above, cast_row, works, Edit, edit_of, with_rowid, taken_by, Applies, value_rows, Written, Task, Inserts, Edited, Gives, Counts, CountsIn, count_of, rowids_for, sequence, stamped, one_step, Has, all_has, arith, ints, nat_tests}
 use Rattle.std.proofs.Common.{int_cmp}
 use Rattle.sql_tables.proofs.Writes.{went, same_value}
 
@@ -57,10 +57,4 @@ module _ (limit : Option ℕ) (schema : Schema) (table counters : Table) (params
       subst₂ (λ r l. Edited schema Enforced db (edit_of db table [] r 0 l) (Ok mid.0)) (above top) rows mid.1 in
       let went_in = edits db mid.0 table [] (with_rowid (Above top) (db table.tree) (cast_row table source)) put in
       let after = counts mid.0 last.0 counter.0 _ last.1 in
-      let trees : w.trees ≡ last.0 = ap (λ (x : Written). x.trees) (same_value last.2) in (
-        top,
-        subst (λ t. Inserted db t (with_rowid (Above top) (db table.tree) (cast_row table source))) (sym trees) (record {
-          rows = λ apart. all_has (λ t. t.tree ≢ counters.tree → last.0 t.tree ≡ mid.0 t.tree) schema.tables table after is apart ∙ went_in.rows;
-          others = joined db mid.0 last.0 schema.tables after went_in.tables;
-        }),
-      )
+      grind (arith, ints, nat_tests, same_value, with_rowid, cast_row, all_has, joined)

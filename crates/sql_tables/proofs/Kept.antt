@@ -1,5 +1,5 @@
 -- The rows that a write takes out and puts in, as a list of records in the order of their rowids.
-use Rattle.sql_tables.proofs.Names.{all_from, unfiltered, ◌≡◌, inl, inr, ℤ, ◌<ℤ◌, Bool, true, false, not, cond, ◌&&◌, ◌||◌, List, [], ◌∷◌, map, filter, fold, drop, None, refl, sym, ap, ap₂, subst, ◌∙◌, arith, int_eq, Less, true≢false, ordering_reverse, AllByRecursion, list_any, ints, Int, Row, value_cmp, value_cmp_total, value_cmp-Int, rowid, put_row, IsAscending, IsTable, Table, Has, ids_of, AreConflicts, conflicts, Given, id_in, without_all, put_all, numbered, are_fresh, IsKeyedBy, insert_by, without_key, update_where, delete_where, same_int, Less-from_lt, IsKeyedBy-update_where, IsKeyedBy-delete_where, all_has, some_has, some_from, has_kept, has_filtered, has_contained, contains_had, map-map, map_same, ascending-map, ascending_weaker, IsPermutation, list_any-IsPermutation, Contains-permutation, IsPermutation-map, IsPermutation-sym}
+use Rattle.sql_tables.proofs.Names.{all_from, unfiltered, ◌≡◌, inl, inr, ℤ, Bool, true, false, not, cond, ◌&&◌, List, [], ◌∷◌, map, filter, fold, drop, None, refl, sym, ap, ap₂, subst, ◌∙◌, arith, int_eq, Less, true≢false, ordering_reverse, AllByRecursion, list_any, ints, Int, Row, value_cmp, value_cmp_total, value_cmp-Int, rowid, put_row, IsAscending, IsTable, Table, Has, ids_of, AreConflicts, conflicts, Given, id_in, without_all, put_all, numbered, are_fresh, IsKeyedBy, insert_by, without_key, update_where, delete_where, same_int, IsKeyedBy-update_where, IsKeyedBy-delete_where, all_has, some_has, some_from, has_kept, has_filtered, has_contained, contains_had, map-map, map_same, ascending-map, ascending_weaker, IsPermutation, list_any-IsPermutation, Contains-permutation, IsPermutation-map, IsPermutation-sym, nat_tests}
 use Rattle.std.proofs.lemmas.Bool.{cases_Bool, false_from_ne_true}
 use Rattle.sqlite_trees.proofs.TreeLemmas.{IsTable-put_row}
 use Rattle.sqlite_schema.specs.declared.schema.Index.{Index}
@@ -9,10 +9,7 @@ use Rattle.sqlite_typed.proofs.RowLemmas.{puts-map, deletes-map}
 
 both : {X : Type 0} (p q r : X → Bool) → ((x : X) → r x ≡ (q x && p x)) → (xs : List X) → filter p (filter q xs) ≡ filter r xs
 both p q r is [] = refl
-both p q r is (x ∷ xs) = elim (cases_Bool (q x)) [
-  | inl e ↦ let same : r x ≡ p x = is x ∙ rw e refl in rw (e, same) (ap (λ l. cond (p x) (x ∷ l) l) (both p q r is xs))
-  | inr e ↦ let same : r x ≡ false = is x ∙ rw e refl in rw (e, same) (both p q r is xs)
-]
+both p q r is (x ∷ xs) = grind (arith, ints, nat_tests, cases_Bool, (both p q r is xs))
 
 pub all_kept : {X : Type 0} (xs : List X) → filter (λ _. true) xs ≡ xs
 all_kept xs = unfiltered xs refl
@@ -30,9 +27,7 @@ module _ {X : Type 0} (R : X → X → Type 0) (never : (a b : X) → R a b → 
   later x y ys low same h = let own = subst (R y) same (all_has (R y) ys x low h) in never y y own own
 
   first_of : (x y : X) (xs ys : List X) → AllByRecursion (R x) xs → AllByRecursion (R y) ys → Has (y ∷ ys) x → Has (x ∷ xs) y → x ≡ y
-  first_of x y xs ys p q (inl same) k = same
-  first_of x y xs ys p q (inr h) (inl same) = sym same
-  first_of x y xs ys p q (inr h) (inr k) = absurd (never x y (all_has (R x) xs y p k) (all_has (R y) ys x q h))
+  first_of x y xs ys p q x6 k = grind (arith, ints, nat_tests, all_has)
 
   one_order : (xs ys : List X) → IsAscending R xs → IsAscending R ys → ((z : X) → Has xs z → Has ys z) → ((z : X) → Has ys z → Has xs z) → xs ≡ ys
   one_order [] [] p q to from = refl
@@ -40,9 +35,7 @@ module _ {X : Type 0} (R : X → X → Type 0) (never : (a b : X) → R a b → 
   one_order (x ∷ xs) [] p q to from = absurd (to x (inl refl))
   one_order (x ∷ xs) (y ∷ ys) p q to from =
       let same = first_of x y xs ys p.0 q.0 (to x (inl refl)) (from y (inl refl)) in
-      ap₂ ◌∷◌ same (one_order xs ys p.1 q.1
-      (λ z h. elim (to z (inr h)) [ inl e ↦ absurd (later z x xs p.0 (e ∙ sym same) h) | inr k ↦ k ])
-      (λ z h. elim (from z (inr h)) [ inl e ↦ absurd (later z y ys q.0 (e ∙ same) h) | inr k ↦ k ]))
+      grind (arith, ints, nat_tests, later, (one_order xs ys p.1 q.1 (λ z h. elim (to z (inr h)) [ inl e ↦ absurd (later z x xs p.0 (e ∙ sym same) h) | inr k ↦ k ]) (λ z h. elim (from z (inr h)) [ inl e ↦ absurd (later z y ys q.0 (e ∙ same) h) | inr k ↦ k ])))
 
 never : (a b : Row) → value_cmp (rowid a) (rowid b) ≡ Less → value_cmp (rowid b) (rowid a) ≡ Less → ⊥
 never a b p q = let back = sym p ∙ value_cmp_total.antisymm (rowid a) (rowid b) ∙ ap ordering_reverse q in cc
@@ -52,17 +45,13 @@ all_put [] rows up = up
 all_put (n ∷ news) rows up = all_put news (put_row n rows) (IsTable-put_row n rows up)
 
 unmet : (b : Bool) → not b ≡ true → b ≡ false
-unmet false h = refl
-unmet true h = absurd (let e = h in cc)
+unmet b h = grind (arith, ints, nat_tests)
 
 module _ {X : Type 0} (key : X → ℤ) where
   -- the elements with the ids are taken out
   removes_if : (ids : List ℤ) (xs : List X) → fold (without_key key) xs ids ≡ filter (λ x. not (list_any (λ i. int_eq (key x) i) ids)) xs
   removes_if [] xs = sym (all_kept xs)
-  removes_if (id ∷ ids) xs =
-      removes_if ids (without_key key xs id)
-      ∙ both (λ x. not (list_any (λ i. int_eq (key x) i) ids)) (λ x. not (int_eq (key x) id)) _
-      (λ x. elim (int_eq (key x) id) as (λ b. not (b || list_any (λ i. int_eq (key x) i) ids) ≡ (not b && not (list_any (λ i. int_eq (key x) i) ids))) [ true ↦ refl | false ↦ refl ]) xs
+  removes_if (id ∷ ids) xs = grind (arith, ints, nat_tests, both, (removes_if ids (without_key key xs id)))
 
   one_key : (xs : List X) (x y : X) → IsKeyedBy key xs → Has xs x → Has xs y → key x ≡ key y → x ≡ y
   one_key [] x y up h k e = absurd h
@@ -84,14 +73,7 @@ module _ {X : Type 0} (key : X → ℤ) where
         some_from (λ i. int_eq (key x) i) (ids_of found) (key x) id (self (key x))
 
     met : (x : X) → Has xs x → is_found x ≡ true → p x ≡ true
-    met x h met_it =
-        let i = some_has (λ i. int_eq (key x) i) (ids_of found) met_it in
-        let f = has_mapped (λ (r : Row). id_in (rowid r)) found i.0 i.1 in
-        let r = are.sound f.0 f.1 in
-        let y = has_mapped to_row xs r.0 r.1 in
-        let same_id : key x ≡ key y.0 = same_int _ _ i.2 ∙ f.2 ∙ ap (λ (l : Row). id_in (rowid l)) r.3 ∙ ap (λ (l : Row). id_in (rowid l)) y.2 ∙ ap id_in (keyed y.0) in
-        let same : x ≡ y.0 = one_key xs x y.0 up h y.1 same_id in
-        sym (all_has _ xs x tests h) ∙ ap (λ z. conflicts None indexes table new (to_row z)) same ∙ ap (conflicts None indexes table new) (sym y.2) ∙ r.2
+    met x h met_it = grind (arith, ints, nat_tests, some_has, has_mapped, id_in, same_int, one_key, all_has, conflicts)
 
     pub conflicts_gone : without_all (map to_row xs) (ids_of found) ≡ map to_row (delete_where p xs)
     conflicts_gone =
@@ -151,18 +133,14 @@ module _ {X : Type 0} (key : X → ℤ) where
     changed x = cond (p x) (f x) x
 
     is_table : (ys : List X) → IsKeyedBy key ys → IsTable (map to_row ys)
-    is_table ys rise =
-        ascending-map (λ a b. value_cmp (rowid a) (rowid b) ≡ Less) to_row ys
-        (ascending_weaker (λ a b. key a <ℤ key b) (λ a b. value_cmp (rowid (to_row a)) (rowid (to_row b)) ≡ Less)
-        (λ a b low. ap₂ value_cmp (keyed a) (keyed b) ∙ value_cmp-Int (key a) (key b) ∙ Less-from_lt (key a) (key b) low) ys rise)
+    is_table ys rise = grind (arith, ints, nat_tests, ascending-map, value_cmp, rowid, ascending_weaker, value_cmp-Int)
 
     -- each new row is of an element that passes, and the other way round
     is_new : (r : Row) → Has news r → (x : X) × Has (filter p xs) x × (r ≡ to_row (f x))
     is_new r h =
         let s = has_mapped (λ (s : Row). cast (drop 1 s)) rows r h in
         let there = has_contained _ s.0 (Contains-permutation rows (map show (filter p xs)) s.0 (IsPermutation-sym _ _ are) (contains_had rows s.0 s.1)) in
-        let x = has_mapped show (filter p xs) s.0 there in
-        (x.0, x.1, s.2 ∙ ap (λ (s : Row). cast (drop 1 s)) x.2 ∙ again x.0)
+        grind (arith, ints, nat_tests, has_mapped, show, filter, drop)
 
     has_new : (x : X) → Has (filter p xs) x → Has news (to_row (f x))
     has_new x h =
@@ -205,12 +183,9 @@ module _ {X : Type 0} (key : X → ℤ) where
 -- A row that conflicts with none of the rows is found by no test, and one that is found conflicts.
 module _ {X : Type 0} (to_row : X → Row) (indexes : List Index) (table : Table) (new : Row) (p : X → Bool) (xs : List X) (tests : AllByRecursion (λ x. conflicts None indexes table new (to_row x) ≡ p x) xs) where
   pub none_found : AreConflicts None indexes table (map to_row xs) new [] → list_any p xs ≡ false
-  none_found are = false_from_ne_true _ (λ some.
-      let i = some_has p xs some in
-      absurd (are.complete (to_row i.0) (mapped_has to_row xs i.0 i.1) (all_has _ xs i.0 tests i.1 ∙ i.2)))
+  none_found are = grind (arith, ints, nat_tests, false_from_ne_true, some_has, mapped_has, all_has)
 
   pub some_found : (x : Row) (more : List Row) → AreConflicts None indexes table (map to_row xs) new (x ∷ more) → list_any p xs ≡ true
   some_found x more are =
       let r = are.sound x (inl refl) in
-      let y = has_mapped to_row xs r.0 r.1 in
-      some_from p xs y.0 y.1 (sym (all_has _ xs y.0 tests y.1) ∙ ap (conflicts None indexes table new) (sym y.2) ∙ r.2)
+      grind (arith, ints, nat_tests, has_mapped, some_from, all_has, conflicts)

@@ -1,11 +1,10 @@
 -- What a statement of each kind makes of the list that its table holds.
-use Rattle.sql_tables.proofs.Names.{all_of, all_weaker, refl, flat_map, filter_map, ◌==◌, parent_key, Work, work_by, deed_of, pairs, Holds, call_of, IsKeyedBy-delete_where, IsKeyedBy-update_where, IsKeyedBy-insert_by, ◌≡◌, ◌≢◌, ℕ, ℤ, pos, ◌<ℤ◌, ◌/◌, Bool, true, false, cond, List, [], ◌∷◌, ◌++◌, map, filter, length, drop, slice_get, None, Ok, Some, sym, ap, ap₂, subst, subst₂, ◌∙◌, arith, AllByRecursion, list_all, list_any, IsPermutation, ints, IsPermutation-map, Null, Int, Row, Trees, rowid, put_row, Term, col, eval_all, holds, IsAnswer, Output, output, overlay, Table, Program, Enforced, Ignore, Replace, Values, Insert, InsertOr, Update, Delete, Chosen, Above, Given, works, ids_of, cast_row, at_least, are_fresh, edit_of, next_rowid, numbered, put_all, with_rowid, without_all, AreConflicts, conflicts, Has, is_present, passes_checks, IsKeyedBy, insert_by, next_key, update_where, delete_where, map-map, map_same, at_end, last_table, matches_are, Database, IsDatabase, value_rows, sequence, stamped, mended, State, Executes, runs_as, Layout, book_schema, sequence_table, sequence_tree, changing, picked, Changed, Counted}
+use Rattle.sql_tables.proofs.Names.{all_of, all_weaker, refl, flat_map, filter_map, parent_key, Work, work_by, deed_of, pairs, Holds, call_of, IsKeyedBy-delete_where, IsKeyedBy-update_where, IsKeyedBy-insert_by, ◌≡◌, ◌≢◌, ℕ, ℤ, pos, ◌<ℤ◌, ◌/◌, Bool, true, false, cond, List, [], ◌∷◌, ◌++◌, map, filter, length, drop, slice_get, None, Ok, Some, sym, ap, ap₂, subst, subst₂, ◌∙◌, arith, AllByRecursion, list_all, list_any, IsPermutation, ints, IsPermutation-map, Null, Int, Row, Trees, rowid, put_row, Term, col, eval_all, holds, IsAnswer, Output, output, overlay, Table, Program, Enforced, Ignore, Replace, Values, Insert, InsertOr, Update, Delete, Chosen, Above, Given, works, ids_of, cast_row, at_least, are_fresh, edit_of, next_rowid, numbered, put_all, with_rowid, without_all, AreConflicts, conflicts, Has, is_present, passes_checks, IsKeyedBy, insert_by, next_key, update_where, delete_where, map-map, map_same, at_end, last_table, matches_are, Database, IsDatabase, value_rows, sequence, stamped, mended, State, Executes, runs_as, Layout, book_schema, sequence_table, sequence_tree, changing, picked, Changed, Counted}
 use Rattle.std.proofs.lemmas.Bool.Decides.{nat_tests}
 use Rattle.sqlite_schema.specs.declared.schema.Reference.{Reference}
 use Rattle.sql_tables.specs.declared.statements.Statement.{Statement}
 use Rattle.sql_tables.proofs.Writes.{inserts, inserts_or, updates, updated, deletes, removed, replaced, inserted, ignored, Ignored}
 use Rattle.sql_tables.proofs.CountedUp as up
-use Rattle.sql_schema.specs.declared.layout.Layout.TheVariants.{Made, Moved}
 use Rattle.sql_tables.proofs.Calls.{no_lets, IsCommand}
 use Rattle.sql_tables.proofs.Kept.{conflicts_gone, none_found, some_found, row_put, rows_changed, rows_gone}
 use Rattle.sql_tables.proofs.Casts.{are_fit, row_kept, next_is, below_next, goes_last, rise_last}
@@ -17,8 +16,7 @@ works_if l tree olds news b =
     flat_map (λ (child : Table). filter_map (λ (ref : Reference). work_by 0 tree (pairs olds news) child ref (deed_of Enforced b (cond b ref.on_delete ref.on_update)) (parent_key (book_schema l).tables ref)) child.references) (book_schema l).tables
 
 pub idle : (l : Layout) (tree : ℕ) (olds news : List Row) → works (book_schema l) Enforced 0 tree olds news ≡ []
-idle Made tree olds news = elim (length news == 0) as (λ b. works_if Made tree olds news b ≡ []) [ true ↦ refl | false ↦ refl ]
-idle Moved tree olds news = elim (length news == 0) as (λ b. works_if Moved tree olds news b ≡ []) [ true ↦ refl | false ↦ refl ]
+idle l tree olds news = grind (arith, ints, nat_tests, length, works_if)
 
 still_low : (top a b : ℤ) → a <ℤ b → a <ℤ at_least (Above top) b
 still_low top a b h = grind (arith, ints, nat_tests)
@@ -68,16 +66,7 @@ module _ {l : Layout} {s : Statement} {old new : State} (r : Ran l s old new) (a
   put : (now : List X) (trees : Trees) → IsDatabase new.now → new.now ≡ record { schema = book_schema l; trees = trees }
       → trees table.tree ≡ map to_row now → AllByRecursion (λ t. t.tree ≢ table.tree → trees t.tree ≡ old.now.trees t.tree) (book_schema l).tables
       → IsKeyedBy key now → Put l table.tree to_row key now old.now new.now
-  put now trees sound is rows others rise = record {
-    changed = record {
-      schema = ap (λ (d : Database). d.schema) is;
-      rows = ap (λ (d : Database). d.trees table.tree) is ∙ rows;
-      others = all_weaker (λ t. t.tree ≢ table.tree → trees t.tree ≡ old.now.trees t.tree) (λ t. t.tree ≢ table.tree → t.tree ≢ sequence_tree l → new.now.trees t.tree ≡ old.now.trees t.tree)
-          (λ t same other apart. ap (λ (d : Database). d.trees t.tree) is ∙ same other) (book_schema l).tables others;
-      listed = sound;
-    };
-    rise = rise;
-  }
+  put now trees sound is rows others rise = grind (arith, ints, nat_tests, all_weaker, sequence_tree, book_schema)
 
   pub deleted : (tests : List Term) → IsCommand (book_schema l) text (Delete at (record { lets = []; body = picked table.tree tests }))
       → (p : X → Bool) → ((x : X) → list_all (holds (params ∷ to_row x ∷ [])) tests ≡ p x)

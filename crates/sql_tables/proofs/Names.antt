@@ -8,7 +8,7 @@ pub use Rattle.sqlite.specs.Held.{Held, state}
 pub use Rattle.sqlite.specs.Listing.{if_select, is_select, reads_listing}
 unfoldable pub use Rattle.sqlite.specs.Listing.{listing_schema, understood}
 pub use Rattle.sqlite.specs.Rows.{Clears, Counts, CountsIn, Deletes, Edited, Gives, Inserts, InsertsOr, Judged, Puts, Task, Tries, TriesEach, Updates, Written, count_of, mended, nothing, rowids_for, sequence, stamped}
-pub use Rattle.sqlite.specs.State.{Executes, ExecutesInside, FailsToShow, HasCleanDisk, IsRolledBack, IsUnchanged, ShowsRows, State, Survives, Writes, mode_of}
+pub use Rattle.sqlite.specs.State.{Executes, ExecutesInside, HasCleanDisk, IsRolledBack, IsUnchanged, State, Survives, Writes, mode_of}
 unfoldable pub use Rattle.sqlite.specs.State.{CommitsShowing, FailsToQuery, IsNotRun, Shown}
 pub use Rattle.sqlite.specs.declared.error.Error.{Error}
 pub use Rattle.sqlite_keyed.proofs.KeyedLemmas.{IsKeyedBy-delete_where, IsKeyedBy-insert_by, IsKeyedBy-update_where, Less-from_lt, above_all, same_int}
@@ -44,7 +44,7 @@ pub use Rattle.sqlite_value.proofs.OrderLemmas.{value_cmp-Int, value_cmp-Text, v
 pub use Rattle.sqlite_value.specs.Order.{Row}
 unfoldable pub use Rattle.sqlite_value.specs.Order.{value_cmp}
 pub use Rattle.sqlite_value.specs.declared.value.Value.TheVariants.{Int, Null, Text}
-pub use Rattle.std.proofs.Common.{Bool, Err, IfErr, IfOk, IsOk, IsTrue, Less, List, MatchBool, None, Ok, OnErr, OnOk, Option, Result, Some, [], ap, ap₂, arith, cond, drop, false, filter, fold, get_or, if◌then◌else◌, inl, inr, int_eq, is_lt, length, map, map-id, not, pos, refl, rules, slice_get, subst, subst₂, sym, take, true, true≢false, unwrap_or, ℕ, ℤ, ◌&&◌, ◌++◌, ◌+ℤ◌, ◌+◌, ◌/◌, ◌<ℤ◌, ◌<◌, ◌==◌, ◌||◌, ◌∙◌, ◌∷◌, ◌≡◌, ◌≢◌, ◌⊎◌}
+pub use Rattle.std.proofs.Common.{Bool, Err, IfErr, IfOk, IsOk, IsTrue, Less, List, MatchBool, None, Ok, OnErr, OnOk, Option, Result, Some, [], ap, ap₂, arith, cond, drop, false, filter, fold, get_or, if◌then◌else◌, inl, inr, int_eq, is_lt, length, map, map-id, not, pos, refl, rules, slice_get, subst, subst₂, sym, take, true, true≢false, unwrap_or, ℕ, ℤ, ◌&&◌, ◌++◌, ◌+ℤ◌, ◌+◌, ◌/◌, ◌<ℤ◌, ◌<◌, ◌∙◌, ◌∷◌, ◌≡◌, ◌≢◌, ◌⊎◌}
 pub use Rattle.std.proofs.lemmas.Int.{ints}
 pub use Rattle.std.proofs.lemmas.List.Sorted.{Contains-permutation, IsPermutation-map, IsPermutation-sym, list_any-IsPermutation}
 pub use Rattle.std.specs.List.{AllByRecursion, filter_map, flat_map, list_all, list_any}
@@ -57,3 +57,4 @@ pub use Rattle.sql_tables.specs.Rows.{Balance, Entry, Exception, FirmLine, Head,
 pub use Rattle.sql_tables.specs.Script.{Call, Does, RanInside, call_of, calls_of}
 pub use Rattle.sql_tables.specs.Standing.{Changed, Counted, Holds, Stands}
 pub use Rattle.sql_tables.specs.Texts.{balance_read_query, balance_scan_query, entries_read_query, entry_read_query, exception_scan_query, firm_scan_query, head_read_query, head_scan_query, journal_scan_query, next_head_query, seats_read_query}
+pub use Rattle.std.proofs.lemmas.Bool.Decides.{nat_tests}

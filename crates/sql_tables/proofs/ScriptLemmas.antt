@@ -1,5 +1,5 @@
 -- What a list of statements makes of tables that stand.
-use Rattle.sql_tables.proofs.Names.{◌≡◌, ℕ, ◌+◌, ◌<◌, List, [], ◌∷◌, ◌++◌, length, take, get_or, Result, Ok, IsTrue, refl, sym, ap, subst, ◌∙◌, arith, Row, Database, IsDatabase, Error, State, HasCleanDisk, Survives, Executes, ExecutesInside, Held, state, survives_then, Layout, Stands, Call, call_of, calls_of, RanInside, IsPerformed, HasRun}
+use Rattle.sql_tables.proofs.Names.{◌≡◌, ℕ, ◌+◌, ◌<◌, List, [], ◌∷◌, ◌++◌, length, take, get_or, Result, Ok, IsTrue, refl, sym, ap, subst, ◌∙◌, arith, Row, Database, IsDatabase, Error, State, HasCleanDisk, Survives, Executes, ExecutesInside, Held, state, survives_then, Layout, Stands, Call, call_of, calls_of, RanInside, IsPerformed, HasRun, ints, nat_tests}
 use Rattle.std.proofs.lemmas.List.{map-append, take_more}
 use Rattle.sqlite_trees.specs.declared.store.Store.{Ghosts}
 use Rattle.sql_tables.specs.declared.statements.Statement.{Statement}
@@ -23,13 +23,7 @@ ran_more g script i d old mid new count within ran h =
 -- a statement that ran with its text and its values was performed
 pub performed : (s t : Statement) (params : Row) (result : Result ℕ Error) (old new : State) → t ≡ s → params ≡ (call_of s).params → (HasCleanDisk new → IsTrue old.in_transaction → ExecutesInside 0 (call_of s).text params old new result)
     → Survives old new (λ _. ⊥) → IsPerformed (call_of t).text (call_of t).params result old new
-performed s t params result old new is same ran survives =
-    subst (λ t. IsPerformed (call_of t).text (call_of t).params result old new) (sym is)
-    (record {
-      ok = λ clean inside. subst (λ p. ExecutesInside 0 (call_of s).text p old new result) same (ran clean inside);
-      keeps = λ clean inside. kept (call_of s).text params old new result (ran clean inside);
-      crash = survives;
-    })
+performed s t params result old new is same ran survives = grind (arith, ints, nat_tests, call_of, kept)
 
 -- a statement more
 pub run_more : {S : Type 0} (g : Ghosts S) (script : List Statement) (i : ℕ) (d : Statement) (old mid new : Held S) (count : ℕ) → i < length script → HasRun g (take i script) old mid
@@ -53,18 +47,8 @@ listed_after [] w listed = subst IsDatabase (sym w.does) listed
 listed_after (s ∷ script) w listed = w.listed (λ e. cc)
 
 pub ran_written : {S : Type 0} (g : Ghosts S) (l : Layout) (script : List Statement) (old new : Held S) → Stands l (state g old).now → RanInside g (calls_of script) old new → Written l script (state g old).now (state g new).now
-ran_written g l [] old new stands same = record {
-  does = ap (λ h. (state g h).now) same;
-  steps = ap (λ h. lists_in l (state g h).now.trees) same;
-  stands = subst (λ h. Stands l (state g h).now) (sym same) stands;
-  listed = λ some. absurd (some refl);
-}
+ran_written g l [] old new stands same = grind (arith, ints, nat_tests, state, lists_in)
 ran_written g l (s ∷ script) old new stands ran =
     let one = did l (state g old) (state g ran.0) stands s (record { schema = stands.schema; count = ran.1; done = ran.2 }) in
     let more = ran_written g l script ran.0 new one.1 ran.3 in
-    record {
-      does = ((state g ran.0).now, one.0, more.does);
-      steps = (lists_in l (state g ran.0).now.trees, one.2, more.steps);
-      stands = more.stands;
-      listed = λ _. listed_after script more one.3;
-    }
+    grind (arith, ints, nat_tests, state, lists_in, listed_after)

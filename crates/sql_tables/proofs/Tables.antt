@@ -1,5 +1,5 @@
 -- What each statement makes of the lists that the tables hold.
-use Rattle.sql_tables.proofs.Names.{all_of, all_weaker, ◌≡◌, ℤ, ◌<ℤ◌, false, ◌∷◌, slice_get, None, Some, inl, inr, refl, ap, ◌∙◌, arith, int_eq, ints, Null, Eq, cast_row, with_rowid, Chosen, conflicts, Has, next_key, at_ints, at_texts, then_term, last_term, sequence, State, Layout, Stands, book_schema, matter_tree, matter_place, matter_table, seat_place, seat_table, entry_place, entry_table, journal_place, journal_table, firm_line_place, firm_line_table, exception_place, exception_table, balance_place, balance_table, sequence_table, Head, head_row, heads_in, is_head, with_totals, with_closing, with_purge, is_seat_of, is_seat, Entry, entry_values, entry_row, entries_in, is_entry_of, is_entry_at, is_entry, with_left, is_movement_of, Exception, exception_row, exceptions_in, is_exception, IsDatabase, Database, Does, Int, balance_values, exception_values, firm_line_values, head_shown, movement_values, seat_values}
+use Rattle.sql_tables.proofs.Names.{all_of, all_weaker, ◌≡◌, ℤ, ◌<ℤ◌, false, ◌∷◌, slice_get, None, Some, inl, inr, refl, ap, arith, int_eq, ints, Null, Eq, cast_row, with_rowid, Chosen, conflicts, Has, next_key, at_ints, at_texts, then_term, last_term, sequence, State, Layout, Stands, book_schema, matter_tree, matter_place, matter_table, seat_place, seat_table, entry_place, entry_table, journal_place, journal_table, firm_line_place, firm_line_table, exception_place, exception_table, balance_place, balance_table, sequence_table, Head, head_row, heads_in, is_head, with_totals, with_closing, with_purge, is_seat_of, is_seat, Entry, entry_values, entry_row, entries_in, is_entry_of, is_entry_at, is_entry, with_left, is_movement_of, Exception, exception_row, exceptions_in, is_exception, IsDatabase, Database, Does, Int, balance_values, exception_values, firm_line_values, head_shown, movement_values, seat_values, nat_tests}
 use Rattle.std.proofs.Math.Bool.{and-true, or-false}
 use Rattle.sqlite_value.specs.Keys.{first_key}
 use Rattle.sqlite_schema.specs.Names.{same_name}
@@ -52,8 +52,7 @@ has_firm_line = elim [ Made ↦ inr (inr (inr (inr (inr (inr (inl refl)))))) | M
 -- those of the same number
 head_meets : (l : Layout) (n x : Head) → conflicts None (book_schema l).indexes (matter_table l) (head_row n) (head_row x) ≡ is_head n.no x
 unfolding first_key
-head_meets Made n x = let same = at_ints false Eq x.no n.no in rw same (simp (and-true, or-false))
-head_meets Moved n x = let same = at_ints false Eq x.no n.no in rw same (simp (and-true, or-false))
+head_meets l n x = grind (arith, ints, nat_tests, at_ints, and-true, or-false)
 
 other_id : (a b : ℤ) → a <ℤ b → int_eq a b ≡ false
 other_id a b h = grind (arith, ints)
@@ -61,27 +60,12 @@ other_id a b h = grind (arith, ints)
 -- those of the same matter and number
 entry_meets : (l : Layout) (n x : Entry) → x.id <ℤ n.id → conflicts None (book_schema l).indexes (entry_table l) (entry_row n) (entry_row x) ≡ is_entry n x
 unfolding first_key
-entry_meets l n x low =
-    let id = at_ints false Eq x.id n.id ∙ other_id x.id n.id low in
-    let matter = at_ints false Eq x.matter n.matter in
-    let no = at_ints false Eq x.no n.no in
-    elim l as (λ l. conflicts None (book_schema l).indexes (entry_table l) (entry_row n) (entry_row x) ≡ is_entry n x)
-    [ Made ↦ rw (id, matter, no) (simp (and-true, or-false)) | _ ↦ rw (id, matter, no) (simp (and-true, or-false)) ]
+entry_meets l n x low = grind (arith, ints, nat_tests, at_ints, other_id, conflicts, and-true, or-false)
 
 -- the same lines
 exception_meets : (l : Layout) (n x : Exception) → x.id <ℤ n.id → conflicts None (book_schema l).indexes (exception_table l) (exception_row n) (exception_row x) ≡ is_exception n x
 unfolding first_key
-exception_meets l n x low =
-    let id = at_ints false Eq x.id n.id ∙ other_id x.id n.id low in
-    let day = at_ints false Eq x.day n.day in
-    let reference = at_texts false Eq x.reference n.reference in
-    let bank_ref = at_texts false Eq x.bank_ref n.bank_ref in
-    let amount = at_ints false Eq x.amount n.amount in
-    let text = at_texts false Eq x.text n.text in
-    elim l as (λ l. conflicts None (book_schema l).indexes (exception_table l) (exception_row n) (exception_row x) ≡ is_exception n x) [
-      | Made ↦ rw (id, day, reference, bank_ref, amount, text) (simp (and-true, or-false))
-      | _ ↦ rw (id, day, reference, bank_ref, amount, text) (simp (and-true, or-false))
-    ]
+exception_meets l n x low = grind (arith, ints, nat_tests, at_ints, other_id, at_texts, conflicts, and-true, or-false)
 
 -- ---- the statements
 
@@ -134,13 +118,11 @@ did l old new st (statement.Left e) r =
 did l old new st (statement.Movement m) r =
     let it = counts r (journal_place l) (journal_at l) st.movements (λ _. refl) refl refl (λ k. record (movement_given m) { seq = k })
     (Null ∷ movement_values (movement_given m)) (λ _. refl) (λ _. refl) refl _ _ (means l (statement.Movement m)) refl (listed l) refl (has_journal l) (λ e. omega (arith, e)) in
-    let all = movements_did l st (record { changed = it.changed; rise = it.rise }) in
-    (it, all.1, (it.seq, all.2), all.3)
+    grind (arith, ints, nat_tests, movements_did)
 did l old new st (statement.FirmLine f) r =
     let it = counts r (firm_line_place l) (firm_line_at l) st.firm_lines (λ _. refl) refl refl (λ k. record (firm_line_given f) { seq = k })
     (Null ∷ firm_line_values (firm_line_given f)) (λ _. refl) (λ _. refl) refl _ _ (means l (statement.FirmLine f)) refl (listed l) refl (has_firm_line l) (λ e. omega (arith, e)) in
-    let all = firm_lines_did l st (record { changed = it.changed; rise = it.rise }) in
-    (it, all.1, (it.seq, all.2), all.3)
+    grind (arith, ints, nat_tests, firm_lines_did)
 did l old new st (statement.Exception e) r =
     let key = λ (x : Exception). x.id in
     let xs = exceptions_in l old.now.trees in

@@ -1,15 +1,12 @@
 -- What a statement that writes makes of the trees, over any schema.
-use Rattle.sql_tables.proofs.Names.{◌≡◌, ◌≢◌, ◌⊎◌, inl, inr, ℕ, ℤ, ◌/◌, true, false, List, [], ◌∷◌, length, slice_get, Option, Some, None, Result, Ok, Err, refl, sym, ap, subst, subst₂, ◌∙◌, AllByRecursion, Row, Trees, rowid, put_row, Term, Schema, Table, Enforced, Program, Command, Insert, InsertOr, Update, Delete, Ignore, Replace, is_present, IsJudged, passes_checks, Values, Chosen, Given, cast_row, ids_of, works, AreConflicts, edit_of, without_all, with_rowid, taken_by, is_chosen, Applies, Database, Answers, value_rows, Written, Task, stamped, mended, Inserts, InsertsOr, Deletes, Updates, Tries, TriesEach, Judged, Clears, Puts, Edited, count_of, nothing, Counts, rowids_for, State, mode_of, Writes, one_step}
+use Rattle.sql_tables.proofs.Names.{◌≡◌, ◌≢◌, ◌⊎◌, inl, inr, ℕ, ℤ, ◌/◌, true, false, List, [], ◌∷◌, length, slice_get, Option, Some, None, Result, Ok, Err, refl, sym, ap, subst, subst₂, ◌∙◌, AllByRecursion, Row, Trees, rowid, put_row, Term, Schema, Table, Enforced, Program, Command, Insert, InsertOr, Update, Delete, Ignore, Replace, is_present, IsJudged, passes_checks, Values, Chosen, Given, cast_row, ids_of, works, AreConflicts, edit_of, without_all, with_rowid, taken_by, is_chosen, Applies, Answers, value_rows, Written, Task, stamped, mended, Inserts, InsertsOr, Deletes, Updates, Tries, TriesEach, Judged, Clears, Puts, Edited, count_of, nothing, Counts, rowids_for, State, mode_of, Writes, one_step, arith, ints, nat_tests}
 use Rattle.sqlite_schema.specs.declared.command.Conflict.{Conflict}
-use Rattle.sqlite_schema.specs.declared.schema.Constraint.TheVariants.{Datatype, NotNull, Check}
 use Rattle.sqlite_rules.specs.declared.error.Refusal.{Refusal}
-use Rattle.sqlite_rules.specs.declared.error.Refusal.TheVariants.{Violates, Mismatch}
 use Rattle.sqlite_schema.specs.declared.command.Source.{Source}
 use Rattle.sqlite.specs.Does.{Tally, OnRows, AtPlace}
 
 pub went : {B E R : Type 0} {b : B} {Stops : E → Type 0} → ((stop : E) × Stops stop × (Ok b ≡ Err stop)) ⊎ R → R
-went (inl stopped) = absurd (let e = stopped.2 in cc)
-went (inr on) = on
+went stop = grind (arith, ints, nat_tests)
 
 pub same_value : {B E : Type 0} {a b : B} → ◌≡◌ {A = Result B E} (Ok a) (Ok b) → a ≡ b
 same_value e = cc
@@ -23,16 +20,12 @@ module _ (old new : State) (schema : Schema) (has : old.now.schema ≡ schema) (
   HasWritten command = (w : Written) × Rattle.sqlite.specs.Does.WritesRows task old.now.trees command (Ok w) × (new.now ≡ record { schema = schema; trees = w.trees })
 
   on_rows : (command : Command) (tally : Tally) → OnRows task (mode_of old) None command old.now.trees (Ok (tally, new.now)) → HasWritten command
-  on_rows command tally h =
-      let done = went h in
-      let last = went (went done.2).2 in
-      (done.0, done.1, ap (λ (p : Tally × Database). p.1) (same_value last.2))
+  on_rows command tally h = grind (arith, ints, nat_tests, went, same_value)
 
   at_place : (command : Command) (tally : Tally)
       → AtPlace (λ t. OnRows (record { limit = old.step_limit; keys = Enforced; schema = schema; table = t; params = params }) (mode_of old) None command old.now.trees) (slice_get schema.tables at) (Ok (tally, new.now))
       → HasWritten command
-  at_place command tally h =
-      on_rows command tally (subst (λ o. AtPlace (λ t. OnRows (record { limit = old.step_limit; keys = Enforced; schema = schema; table = t; params = params }) (mode_of old) None command old.now.trees) o (Ok (tally, new.now))) place h)
+  at_place command tally h = grind (arith, ints, nat_tests, on_rows, mode_of)
 
   pub inserts : (from : Source) → Writes old new None (Insert at from) text params count → HasWritten (Insert at from)
   inserts from w = at_place (Insert at from) w.tally (subst (λ s. Rattle.sqlite.specs.Does.Does old.step_limit (mode_of old) params (record old.now { schema = s }) text None (Insert at from) (Ok (w.tally, new.now))) has w.changed)
@@ -169,17 +162,11 @@ module _ (limit : Option ℕ) (schema : Schema) (table : Table) (params : Row) (
 
   judged : (new : Row) (db : Trees) (w : Written) (verdict : Option Refusal) → is_present table new ≡ true → passes_checks table new ≡ true → IsIdle (cast_row table new ∷ [])
       → IsJudged table new verdict → Judged it Ignore [] new db verdict (Ok w) → Ignores db w.trees new
-  judged new db w None present fine some is h = (h.0, h.1, clears_or_not new db w h.0 some h.2)
-  judged new db w (Some (Violates Datatype)) present fine some is h = absurd (let e = h in cc)
-  judged new db w (Some (Violates NotNull)) present fine some is h = absurd (let e = sym present ∙ is in cc)
-  judged new db w (Some (Violates Check)) present fine some is h = absurd (let e = sym fine ∙ is in cc)
-  judged new db w (Some Mismatch) present fine some is h = absurd (let e = h in cc)
-  judged new db w _ present fine some is h = absurd is
+  judged new db w verdict present fine some is h = grind (arith, ints, nat_tests, clears_or_not)
 
   tries_or_not : (new : Row) (db : Trees) (w : Written) → is_present table new ≡ true → passes_checks table new ≡ true → IsIdle (cast_row table new ∷ []) → Tries it Ignore [] new db (Ok w)
       → Ignores db w.trees new
-  tries_or_not new db w present fine some (inl big) = absurd (let e = big.1 in cc)
-  tries_or_not new db w present fine some (inr (verdict, is, h)) = judged new db w verdict present fine some is h
+  tries_or_not new db w present fine some x6 = grind (arith, ints, nat_tests, judged)
 
   pub ignored : (terms : List Term) (width : ℕ) (source : Row) → table.is_counted ≡ false → value_rows (stamped table params) width (length terms / width) terms ≡ source ∷ []
       → (db : Trees) (w : Written) → (let new = with_rowid Chosen (db table.tree) (cast_row table source) in

@@ -1,11 +1,9 @@
 -- What was given of a statement.
-use Rattle.statement_csv.proofs.Names.{◌≡◌, ◌≤◌, ◌+◌, ℕ, Bool, true, false, List, [], ◌∷◌, ◌++◌, length, take, drop, Option, Some, None, refl, sym, ap, ◌∙◌, arith, inl, inr, add-zero, cases_Bool, Keeps, rows-more, ReadRecord, Reached, default_config, has_failed, reader_source, reader_state, records, source_of, strip_bom, is_header, items_after_header, items_from, IsHeldBack, left_of, GivesWithin, HasRead, Records, Stands, items_left, records_left, unread, Item}
+use Rattle.statement_csv.proofs.Names.{◌≡◌, ◌≤◌, ◌+◌, ℕ, Bool, true, false, List, [], ◌∷◌, ◌++◌, length, take, drop, Option, Some, None, refl, sym, ap, ◌∙◌, arith, inl, add-zero, cases_Bool, Keeps, rows-more, ReadRecord, Reached, default_config, has_failed, reader_source, reader_state, records, source_of, strip_bom, is_header, items_after_header, items_from, IsHeldBack, left_of, GivesWithin, HasRead, Records, Stands, items_left, records_left, unread, Item, Ready, reader_trim, took_first, GivesRecord, IsLive}
 use Rattle.std.proofs.Common.{length-append, length-drop}
 use Rattle.std.specs.Prelude.{option_map}
-use Rattle.csv.specs.Reading.{Ready, reader_trim, took_first}
 use Rattle.csv.specs.declared.parser.State.TheVariants as st
 use Rattle.csv.specs.declared.reader.Trim.TheVariants as trim
-use Rattle.statement_csv.specs.Reading.{GivesRecord, IsLive}
 use Rattle.statement_csv.proofs.ReadingFacts.{read-gives}
 use Rattle.byte_streams.specs.CsvRecords.{rest_records}
 use Rattle.byte_streams.proofs.CsvFronts.{front-records, length-strip_bom, rest-all, strip_bom-front}

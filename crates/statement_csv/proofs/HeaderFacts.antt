@@ -1,5 +1,5 @@
 -- The fields of the header.
-use Rattle.statement_csv.proofs.Names.{◌≡◌, ◌==◌, ◌&&◌, ℕ, false, List, [], ◌∷◌, refl, length, arith, nat_tests, codes, get_or, is_header}
+use Rattle.statement_csv.proofs.Names.{◌≡◌, ◌==◌, ◌&&◌, ℕ, List, [], ◌∷◌, refl, length, arith, nat_tests, codes, get_or, is_header}
 use Rattle.std.proofs.Math.Bool.{and-false, and-true, and_assoc}
 use Rattle.std.specs.Str.{bytes_eq}
 

@@ -1,10 +1,8 @@
 -- Which records are lines.
-use Rattle.statement_csv.proofs.Names.{◌≡◌, ◌∙◌, sym, ap, ℕ, ◌==◌, Bool, true, false, List, [], ◌∷◌, cond, length, Option, Some, None, option_map, unwrap_or, refl, arith, nat_tests, item_by, item_of, item_of_line, line_in, entry_named, owner_of, Item}
+use Rattle.statement_csv.proofs.Names.{◌≡◌, ◌∙◌, ℕ, ◌==◌, Bool, true, false, List, [], cond, length, Option, Some, None, option_map, unwrap_or, arith, nat_tests, item_by, item_of, item_of_line, line_in, entry_named, owner_of, Item, get_or, LineOwner}
 use Rattle.trust_base.specs.declared.line.Line.{Line}
 use Rattle.statement_csv.specs.Lines.{line_of, line_of_texts}
-use Rattle.std.specs.Prelude.{get_or}
 use Rattle.statement_csv.specs.declared.item.Item.TheVariants as item
-use Rattle.statement_csv.specs.References.{LineOwner}
 use Rattle.statement_csv.specs.References as owner
 
 -- the line that is kept of a line of this owner: all but balances need the bank's own reference

@@ -1,5 +1,5 @@
 -- How a statement's bytes are given.
-use Rattle.statement_csv.proofs.Names.{◌≡◌, ◌≤◌, ◌+◌, ℕ, List, [], ◌++◌, length, drop, Option, Some, None, refl, sym, ap, subst, ◌∙◌, add-zero, arith, drop-drop, drop_at, length-append, length-drop, Consumes, IsAtEnd, prepend_known, MAX_FILE_BYTES, IsAfter, IsHeldBack, IsReading, IsWithin, beyond}
+use Rattle.statement_csv.proofs.Names.{◌≡◌, ◌≤◌, ◌+◌, ℕ, List, [], ◌++◌, length, drop, Option, Some, None, refl, sym, ap, subst, ◌∙◌, add-zero, arith, drop-drop, drop_at, length-append, length-drop, Consumes, IsAtEnd, prepend_known, MAX_FILE_BYTES, IsAfter, IsHeldBack, IsReading, IsWithin, beyond, ints, nat_tests}
 use Rattle.statement_csv.specs.declared.item.Course.{Course}
 use Rattle.statement_csv.specs.declared.item.Course.TheVariants as course
 
@@ -42,8 +42,7 @@ pub given-more : (whole old new : Option (List ℕ)) (given n : ℕ) (now : Cour
 given-more whole old new given n now bs is_open reading took size most =
     let before = after-open whole old given (subst (λ (k : Course). IsReading whole old given k) is_open reading) in
     let more = after-more whole old new given bs before took in
-    let after : IsAfter whole new (given + n) = subst (λ (k : ℕ). IsAfter whole new (given + k)) (sym size) more in
-    subst (λ (k : Course). IsReading whole new (given + n) k) (sym is_open) (record { after = rw front-none after; most = most; tells = tt })
+    grind (arith, ints, nat_tests, front-none)
 
 -- the reader ended within the greatest length
 pub given-end : (whole old new : Option (List ℕ)) (given : ℕ) (now : Course) → now ≡ course.Open → IsReading whole old given now → Consumes old new [] → IsAtEnd new

@@ -1,7 +1,6 @@
 -- The texts that name an entry.
-use Rattle.statement_csv.proofs.Names.{◌≡◌, ◌==◌, ◌&&◌, ℕ, List, ◌∷◌, ◌++◌, length, drop, slice_index, slice_range, Option, Some, None, option_and_then, option_map, IfSome, refl, sym, ap, ◌∙◌, arith, inl, inr, cases_Bool, entry_of, entry_text, matter_of, matter_text, entry_named, entry_of_texts, named, reference_text}
+use Rattle.statement_csv.proofs.Names.{◌≡◌, ℕ, List, ◌∷◌, ◌++◌, length, drop, slice_index, slice_range, Some, option_and_then, option_map, IfSome, refl, sym, ap, ◌∙◌, arith, cases_Bool, entry_of, entry_text, matter_of, matter_text, entry_named, entry_of_texts, named, reference_text, drop-drop, drop_more, length-drop, take-append-drop, take_all}
 use Rattle.byte_streams.specs.Digits.{fixed_digits}
-use Rattle.std.proofs.lemmas.List.{drop-drop, drop_more, length-drop, take-append-drop, take_all}
 use Rattle.trust_base.specs.Limits.{IsEntryNo, IsMatterNo}
 use Rattle.trust_base.proofs.EntryFacts.{entry_of-is}
 use Rattle.trust_base.proofs.ReadFacts.{matter_of-is, number-text}

@@ -1,8 +1,7 @@
 -- What the next record of a statement gives of the items that are left.
-use Rattle.statement_csv.proofs.Names.{◌≡◌, ◌+◌, ℕ, Bool, true, false, List, [], Option, Some, None, refl, sym, subst, ◌∙◌, rows-end, rows-more, ReadRecord, Reached, default_config, source_of, is_header, item_of, items_from, left_of, Gives, GivesRecord, Records, items_left, records_left, Item}
+use Rattle.statement_csv.proofs.Names.{◌≡◌, ◌+◌, ℕ, Bool, true, false, List, [], Option, Some, None, refl, rows-end, rows-more, ReadRecord, Reached, default_config, source_of, is_header, item_of, items_from, left_of, Gives, GivesRecord, Records, items_left, records_left, Item, arith, ints, nat_tests, LacksHeader, Reading}
 use Rattle.std.specs.Prelude.{option_map}
 use Rattle.csv.specs.declared.parser.State.{State}
-use Rattle.statement_csv.specs.Reading.{LacksHeader, Reading}
 use Rattle.statement_csv.specs.declared.item.Stage.{Stage}
 use Rattle.statement_csv.specs.declared.item.Stage.TheVariants as stage
 use Rattle.byte_streams.proofs.CsvRecords.{rest-none, rest-reached}
@@ -29,39 +28,29 @@ read-gives a b found f e r = by found (source_of left_of a) refl r
 -- a record that was found gives its item
 pub gives-item : (n : ℕ) (old new : Option Rows) (fields : List (List ℕ)) → GivesRecord old new true fields → Gives (option_map (items_left false n) old) (option_map (items_left false (n + 1)) new) (Some (item_of n fields))
 unfolding items_from
-gives-item n None new fields h = tt
-gives-item n (Some rest) None fields h = absurd h
-gives-item n (Some rest) (Some more) fields h = (items_from (n + 1) more, rw h refl, refl)
+gives-item n old new fields h = grind (arith, ints, nat_tests, items_from)
 
 -- where no record was found no item is left
 pub gives-end : (n : ℕ) (old new : Option Rows) (after : Option (Option (List Item))) (fields : List (List ℕ)) → GivesRecord old new false fields → Gives (option_map (items_left false n) old) after None
 unfolding items_from
-gives-end n None new after fields h = tt
-gives-end n (Some rest) new after fields h = rw h refl
+gives-end n old new after fields h = grind (arith, ints, nat_tests)
 
 -- a record that was found and is the header: the items are those of the records after it
 pub header-left : (n : ℕ) (old new : Option Rows) (fields : List (List ℕ)) (left : Option (List Item)) → GivesRecord old new true fields → is_header fields ≡ true
     → option_map (items_left true n) old ≡ Some left → option_map (items_left false n) new ≡ Some left
-header-left n None new fields left h header is = cc
-header-left n (Some rest) None fields left h header is = absurd h
-header-left n (Some rest) (Some more) fields left h header is = sym (rw (h, header) refl) ∙ is
+header-left n old new fields left h header is = grind (arith, ints, nat_tests)
 
 -- no record is left, or the first is not the header
 pub lacks-header : (n : ℕ) (old new : Option Rows) (found : Bool) (fields : List (List ℕ)) → GivesRecord old new found fields → (found ≡ true → is_header fields ≡ false)
     → LacksHeader (option_map (items_left true n) old)
-lacks-header n None new found fields h other = tt
-lacks-header n (Some rest) None true fields h other = absurd h
-lacks-header n (Some rest) (Some more) true fields h other = rw (h, other refl) refl
-lacks-header n (Some rest) new false fields h other = rw h refl
+lacks-header n old new found fields h other = grind (arith, ints, nat_tests)
 
 -- what holds of what is left holds of what was left before, if that is the same or unknown
 pub gives-follows : (old now after : Option (Option (List Item))) (found : Option Item) → ((left : Option (List Item)) → old ≡ Some left → now ≡ Some left) → Gives now after found → Gives old after found
-gives-follows None now after found same gives = tt
-gives-follows (Some left) now after found same gives = subst (λ (known : Option (Option (List Item))). Gives known after found) (same left refl) gives
+gives-follows old now after found same gives = grind (arith, ints, nat_tests)
 
 pub lacks-follows : (old now : Option (Option (List Item))) → ((left : Option (List Item)) → old ≡ Some left → now ≡ Some left) → LacksHeader now → LacksHeader old
-lacks-follows None now same lacks = tt
-lacks-follows (Some left) now same lacks = subst LacksHeader (same left refl) lacks
+lacks-follows old now same lacks = grind (arith, ints, nat_tests)
 
 -- no fault and no end came between, and what was left, if it is known, is left
 pub record Follows (old now : Reading) : Type 0 where

@@ -1,5 +1,5 @@
 -- What is alike has one number.
-use Rattle.statement_lines.proofs.Names.{◌≡◌, ◌∙◌, sym, ap, ℕ, ◌==◌, true, false, List, [], Some, None, unsigned_abs, int_eq, bytes_eq, and_parts, eqb-true, eq-eqb, Decides-int_eq, bytes_eq-Decides, Line, amount_key, booking_key, claim_key, line_key, text_key, waiting_key, claimed_reference, exception_reference, is_named_like, is_open, is_open_fit, is_open_like, fits, Waiting, arith, refl}
+use Rattle.statement_lines.proofs.Names.{◌≡◌, ℕ, ◌==◌, true, false, List, [], Some, None, unsigned_abs, int_eq, bytes_eq, and_parts, eqb-true, eq-eqb, bytes_eq-Decides, Line, amount_key, booking_key, claim_key, line_key, text_key, waiting_key, claimed_reference, exception_reference, is_named_like, is_open, is_open_fit, is_open_like, fits, Waiting, arith, refl}
 use Rattle.std.specs.Prelude.{find}
 use Rattle.statement_lines.specs.declared.booking.Booking.{Booking}
 use Rattle.statement_lines.specs.Bookings.{booking_of, is_beside, is_same_booking}

@@ -1,5 +1,5 @@
 -- What a test finds among the elements that have a number, where all that pass it have that.
-use Rattle.statement_lines.proofs.Names.{◌≡◌, ◌∙◌, sym, ap, ℕ, Bool, true, false, List, [], ◌∷◌, length, refl, inl, inr, ◌&&◌, ◌||◌, option_map, count_by, filter, find, list_any, cases_Bool, length-map, elements}
+use Rattle.statement_lines.proofs.Names.{◌≡◌, ◌∙◌, sym, ap, ℕ, Bool, true, false, List, [], ◌∷◌, length, refl, ◌&&◌, ◌||◌, option_map, count_by, filter, find, list_any, cases_Bool, length-map, elements, arith, ints, nat_tests}
 use Rattle.std.proofs.Math.Bool.{and-false, and-true}
 use Rattle.std.proofs.lemmas.List.Sums.{length-filter}
 use Rattle.std.proofs.lemmas.Map.Views.{any-filter_same}
@@ -11,27 +11,18 @@ Narrows {T} p q = (x : T) → p x ≡ true → q x ≡ true
 
 module _ {T : Type 0} (p q : T → Bool) (narrows : Narrows p q) where
   misses : (x : T) → q x ≡ false → p x ≡ false
-  misses x off = elim (cases_Bool (p x)) [
-    | inl t ↦ let on = narrows x t in cc
-    | inr f ↦ f
-  ]
+  misses x off = grind (arith, ints, nat_tests, cases_Bool)
 
   pub any_among : (xs : List T) → list_any p (filter q xs) ≡ list_any p xs
   any_among = any-filter_same p q true narrows
 
   pub filter_among : (xs : List T) → filter p (filter q xs) ≡ filter p xs
   filter_among [] = refl
-  filter_among (x ∷ xs) = elim (cases_Bool (q x)) [
-    | inl t ↦ rw (t, filter_among xs) refl
-    | inr f ↦ rw (f, misses x f) (filter_among xs)
-  ]
+  filter_among (x ∷ xs) = grind (arith, ints, nat_tests, cases_Bool, misses, (filter_among xs))
 
   pub find_among : (xs : List T) → find p (filter q xs) ≡ find p xs
   find_among [] = refl
-  find_among (x ∷ xs) = elim (cases_Bool (q x)) [
-    | inl t ↦ rw (t, find_among xs) refl
-    | inr f ↦ rw (f, misses x f) (find_among xs)
-  ]
+  find_among (x ∷ xs) = grind (arith, ints, nat_tests, cases_Bool, misses, (find_among xs))
 
   pub count_among : (xs : List T) → count_by p (filter q xs) ≡ count_by p xs
   count_among xs = sym (length-filter p (filter q xs)) ∙ ap length (filter_among xs) ∙ length-filter p xs
@@ -40,10 +31,7 @@ module _ {T : Type 0} (p q : T → Bool) (narrows : Narrows p q) where
 module _ {T : Type 0} (p : T → Bool) where
   pub filter_elements : (found : List (ℕ × Bor T)) → elements (filter (λ e. p e.1.now) found) ≡ filter p (elements found)
   filter_elements [] = refl
-  filter_elements (e ∷ found) = elim (cases_Bool (p e.1.now)) [
-    | inl t ↦ rw (t, filter_elements found) refl
-    | inr f ↦ rw f (filter_elements found)
-  ]
+  filter_elements (e ∷ found) = grind (arith, ints, nat_tests, cases_Bool, (filter_elements found))
 
   pub count_elements : (found : List (ℕ × Bor T)) → count_by (λ e. p e.1.now) found ≡ count_by p (elements found)
   count_elements found =
@@ -58,10 +46,7 @@ module _ {T : Type 0} (p : T → Bool) where
   pub find_elements : (found : List (ℕ × Bor T))
       → option_map (λ e. e.1.now) (find (λ e. p e.1.now) found) ≡ find p (elements found)
   find_elements [] = refl
-  find_elements (e ∷ found) = elim (cases_Bool (p e.1.now)) [
-    | inl t ↦ rw t refl
-    | inr f ↦ rw f (find_elements found)
-  ]
+  find_elements (e ∷ found) = grind (arith, ints, nat_tests, cases_Bool, (find_elements found))
 
 -- where those were found that have the number
 module _ {T : Type 0} (p q : T → Bool) (narrows : Narrows p q) (found : List (ℕ × Bor T)) (all : List T)
@@ -83,36 +68,23 @@ module _ {T : Type 0} (p q : T → Bool) (narrows : Narrows p q) (found : List (
 module _ {T : Type 0} (p q : T → Bool) (narrows : Narrows p q) (found : List (ℕ × Bor T)) (all : List T)
     (same : filter q (elements found) ≡ filter q all) where
   pub filtered_kept : filter p (elements found) ≡ filter p all
-  filtered_kept =
-      sym (filter_among p q narrows (elements found)) ∙ ap (filter p) same ∙ filter_among p q narrows all
+  filtered_kept = grind (arith, ints, nat_tests, filter_among, elements, filter)
 
   pub counted_kept : count_by (λ e. p e.1.now) found ≡ count_by p all
-  counted_kept =
-      count_elements p found ∙ sym (count_among p q narrows (elements found)) ∙ ap (count_by p) same
-      ∙ count_among p q narrows all
+  counted_kept = grind (arith, ints, nat_tests, count_elements, count_among, elements, count_by)
 
   pub any_kept : list_any (λ e. p e.1.now) found ≡ list_any p all
-  any_kept =
-      any_elements p found ∙ sym (any_among p q narrows (elements found)) ∙ ap (list_any p) same
-      ∙ any_among p q narrows all
+  any_kept = grind (arith, ints, nat_tests, any_elements, any_among, elements, list_any)
 
   pub first_kept : option_map (λ e. e.1.now) (find (λ e. p e.1.now) found) ≡ find p all
-  first_kept =
-      find_elements p found ∙ sym (find_among p q narrows (elements found)) ∙ ap (find p) same
-      ∙ find_among p q narrows all
+  first_kept = grind (arith, ints, nat_tests, find_elements, find_among, elements, find)
 
 -- what passes two tests
 module _ {T : Type 0} (p q : T → Bool) where
   pub filter_both : (xs : List T) → filter p (filter q xs) ≡ filter (λ x. p x && q x) xs
   filter_both [] = refl
-  filter_both (x ∷ xs) = elim (cases_Bool (q x)) [
-    | inl t ↦ rw (t, and-true (p x), filter_both xs) refl
-    | inr f ↦ rw (f, and-false (p x)) (filter_both xs)
-  ]
+  filter_both (x ∷ xs) = grind (arith, ints, nat_tests, cases_Bool, and-true, and-false, (filter_both xs))
 
   pub find_both : (xs : List T) → find p (filter q xs) ≡ find (λ x. p x && q x) xs
   find_both [] = refl
-  find_both (x ∷ xs) = elim (cases_Bool (q x)) [
-    | inl t ↦ rw (t, and-true (p x), find_both xs) refl
-    | inr f ↦ rw (f, and-false (p x)) (find_both xs)
-  ]
+  find_both (x ∷ xs) = grind (arith, ints, nat_tests, cases_Bool, and-true, and-false, (find_both xs))

@@ -1,6 +1,5 @@
 -- The elements with a number stand side by side in a list that is sorted by it.
-use Rattle.statement_lines.proofs.Names.{◌≡◌, ◌∙◌, sym, ap, ℕ, zero, suc, ◌+◌, ◌<◌, ◌≤◌, ◌==◌, Bool, true, false, not, cond, List, [], ◌∷◌, ◌++◌, map, length, get_or, take, drop, refl, inl, inr, arith, ◌&&◌, nat_le, nat_lt, is_lt, nat_cmp, filter, IsPartitionPoint, IsStableByKey, ties, nat_tests, cases_Bool, get_or-drop, length-drop, map-append, take_more, filter_agree, IsKeyed, elements, has_key}
-use Rattle.std.specs.declared.cmp.Ordering.TheVariants.{Less, Equal, Greater}
+use Rattle.statement_lines.proofs.Names.{◌≡◌, ◌∙◌, sym, ap, ℕ, zero, suc, ◌+◌, ◌<◌, ◌≤◌, ◌==◌, Bool, true, false, not, List, [], ◌∷◌, ◌++◌, map, length, get_or, take, drop, refl, arith, ◌&&◌, nat_le, nat_lt, is_lt, nat_cmp, filter, IsPartitionPoint, IsStableByKey, ties, nat_tests, cases_Bool, get_or-drop, length-drop, map-append, take_more, filter_agree, IsKeyed, elements, has_key}
 use denote.Ref.{Bor}
 
 -- where none of the first i passes, those that pass are those of the rest

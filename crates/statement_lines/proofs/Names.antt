@@ -5,7 +5,7 @@ pub use Rattle.csv.specs.Records.{fields_of}
 unfoldable pub use Rattle.statement_csv.specs.Items.{items_from}
 pub use Rattle.std.proofs.Common.{Bool, Bor, List, None, Option, Some, [], add-one, add-zero, ap, append-nil, append_assoc, arith, cond, drop, false, fold, get_or, inl, inr, length, map, not, option_copied, refl, rules, subst, suc, sym, take, true, unwrap_or, zero, ℕ, ◌++◌, ◌+◌, ◌-◌, ◌<◌, ◌==◌, ◌∙◌, ◌∷◌, ◌≡◌, ◌≢◌, ◌≤◌}
 pub use Rattle.std.proofs.lemmas.Bool.{and_parts, cases_Bool, cond-false, cond-true, eq-eqb, eqb-true}
-pub use Rattle.std.proofs.lemmas.Bool.Decides.{Decides-int_eq, nat_tests}
+pub use Rattle.std.proofs.lemmas.Bool.Decides.{nat_tests}
 pub use Rattle.std.proofs.lemmas.List.{at_drop_more, drop_all, drop_more, get_or-drop, length-drop, length-map, map-append, map-id, take_all, take_more, take_rest}
 pub use Rattle.std.proofs.lemmas.List.Elements.{Contains-append_cases, Contains-append_left, Contains-append_right, filter_agree}
 pub use Rattle.std.proofs.lemmas.List.Sorted.{IsNonDecreasingBy-drop, IsNonDecreasingBy-from_sort_by_key, IsPartitionPoint-from_clause, IsPartitionedBy-leb, IsPartitionedBy-ltb, answers_always, length_permutation}
@@ -38,3 +38,4 @@ pub use Rattle.statement_lines.specs.Written.{row_as, text_of}
 unfoldable pub use Rattle.statement_lines.specs.Written.{rows_by}
 pub use Rattle.statement_lines.specs.declared.book_entry.BookEntry.{BookEntry}
 pub use Rattle.statement_lines.specs.declared.outcome.Outcome.{Outcome}
+pub use Rattle.std.proofs.lemmas.Int.{ints}

@@ -1,5 +1,5 @@
 -- What is met of the lines of a statement while its records are passed.
-use Rattle.statement_lines.proofs.Names.{◌≡◌, ◌∙◌, sym, ap, ℕ, zero, suc, ◌+◌, ◌<◌, ◌≤◌, ◌==◌, true, false, List, [], ◌∷◌, ◌++◌, drop, map, append-nil, append_assoc, Bor, Option, Some, None, option_copied, refl, inl, inr, arith, add-one, cases_Bool, nat_tests, Line, items_from, Rows, line_at, lines_from, numbers_from, outcome_if, row_as, rows_by, Outcome}
+use Rattle.statement_lines.proofs.Names.{◌≡◌, ◌∙◌, sym, ap, ℕ, zero, suc, ◌+◌, ◌<◌, ◌≤◌, ◌==◌, true, false, List, [], ◌∷◌, ◌++◌, drop, map, append-nil, append_assoc, Bor, Option, Some, None, option_copied, refl, arith, add-one, cases_Bool, nat_tests, Line, items_from, Rows, line_at, lines_from, numbers_from, outcome_if, row_as, rows_by, Outcome}
 use Rattle.std.specs.List.{slice_get}
 use Rattle.std.specs.Option.{is_some}
 

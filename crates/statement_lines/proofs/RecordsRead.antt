@@ -1,5 +1,5 @@
 -- What is kept of the records of a statement that are read one at a time.
-use Rattle.statement_lines.proofs.Names.{◌≡◌, ◌∙◌, sym, ap, ℕ, ◌+◌, List, [], ◌∷◌, ◌++◌, length, fold, append_assoc, append-nil, add-zero, refl, arith, Line, items_from, Records, Rows, lines_from, no_records, numbers_from, records_of, rows_of, with_record}
+use Rattle.statement_lines.proofs.Names.{◌≡◌, ◌∙◌, sym, ap, ℕ, ◌+◌, List, [], ◌∷◌, ◌++◌, length, fold, append_assoc, append-nil, add-zero, refl, arith, Line, items_from, Records, Rows, lines_from, no_records, numbers_from, records_of, rows_of, with_record, ints, nat_tests}
 
 -- records with these lines, these numbers and this count
 abbrev records_with : List Line → List ℕ → ℕ → Records
@@ -12,17 +12,12 @@ records_kept : (r : Records) (rows : Rows)
 unfolding items_from numbers_from
 records_kept r [] = rw (append-nil r.lines, append-nil r.numbers, add-zero r.count) refl
 records_kept r (fields ∷ rest) =
-    let count : r.count + 1 + length rest ≡ r.count + length (fields ∷ rest) = omega arith in
-    let parts = simp append_assoc at (records_kept (with_record r fields) rest) in
-    rw count at parts
+    grind (arith, ints, nat_tests, length, append_assoc, (records_kept (with_record r fields) rest))
 
 -- the records of a statement, kept one at a time
 pub all_records : (bytes : List ℕ) → fold with_record no_records (rows_of bytes) ≡ records_of bytes
 unfolding records_of
-all_records bytes =
-    let count : 0 + length (rows_of bytes) ≡ length (rows_of bytes) = omega arith in
-    records_kept no_records (rows_of bytes)
-    ∙ ap (λ n. records_with (lines_from 1 (rows_of bytes)) (numbers_from 1 (rows_of bytes)) n) count
+all_records bytes = grind (arith, ints, nat_tests, length, records_kept, numbers_from)
 
 -- a statement without records
 pub none_of : (bytes : List ℕ) → rows_of bytes ≡ [] → no_records ≡ records_of bytes

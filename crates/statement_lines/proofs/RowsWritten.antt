@@ -1,5 +1,5 @@
 -- What a writer holds after a record.
-use Rattle.statement_lines.proofs.Names.{◌≡◌, ◌≢◌, ◌∙◌, sym, ap, subst, ℕ, true, false, List, [], ◌∷◌, ◌++◌, append-nil, append_assoc, Option, Some, None, refl, Rows, Adds, Holds, text_of}
+use Rattle.statement_lines.proofs.Names.{◌≡◌, ◌≢◌, ◌∙◌, sym, ap, subst, ℕ, true, false, List, [], ◌∷◌, ◌++◌, append-nil, append_assoc, Option, Some, refl, Rows, Adds, Holds, text_of, arith, ints, nat_tests}
 use Rattle.std.specs.Io.KnownBytes.{Appends}
 use Rattle.std.proofs.lemmas.Grind.{flat_map-append}
 use Rattle.csv.specs.Writing.{default_writer, escaped, field_text, fields_text, fields_written, has_written, is_blank, row_text, text_written, with_flexible, writer_setup}
@@ -25,18 +25,14 @@ fields_text-same (x ∷ rest) = rw (field_text-same x, fields_text-same rest) re
 is_blank-same : (fields : List (List ℕ))
     → is_blank (with_flexible default_writer true) fields ≡ is_blank default_writer fields
 unfolding is_blank
-is_blank-same [] = refl
-is_blank-same (x ∷ []) = rw (field_text-same x) refl
-is_blank-same (x ∷ y ∷ rest) = refl
+is_blank-same fields = grind (arith, ints, nat_tests, field_text-same)
 
 row_text-same : (fields : List (List ℕ))
     → row_text (with_flexible default_writer true) fields ≡ row_text default_writer fields
-row_text-same [] = rw (is_blank-same []) refl
-row_text-same (x ∷ rest) = rw (field_text-same x, fields_text-same rest, is_blank-same (x ∷ rest)) refl
+row_text-same fields = grind (arith, ints, nat_tests, is_blank-same, field_text-same, fields_text-same)
 
 appended : (known : Option (List ℕ)) (text bs : List ℕ) → Appends (Some text) known bs → known ≡ Some (text ++ bs)
-appended None text bs h = absurd h
-appended (Some ys) text bs h = rw h refl
+appended known text bs h = grind (arith, ints, nat_tests)
 
 -- one more record was written
 pub holds-more : {W : Type 0} (contents : W → Option (List ℕ)) (a b : Writer W) (fields : List (List ℕ))
@@ -45,14 +41,7 @@ pub holds-more : {W : Type 0} (contents : W → Option (List ℕ)) (a b : Writer
     → fields_written b ≡ 0 → has_written b ≡ false → writer_setup b ≡ writer_setup a
     → (text : List ℕ) → Holds contents a text → Holds contents b (text ++ text_of (fields ∷ []))
 holds-more contents a b fields bytes starts fresh same text h =
-    let plain : (writer_setup a).style ≢ style.NonNumeric = rw h.setup (λ e. cc e) in
-    let more = rw (h.held, h.setup) at (bytes h.starts h.fresh plain) in
-    record {
-      setup = same ∙ h.setup;
-      starts = starts;
-      fresh = fresh;
-      held = appended (text_written contents b) text _ more ∙ ap (λ t. Some (text ++ t)) (row_text-same fields ∙ sym (append-nil (row_text default_writer fields)));
-    }
+    grind (arith, ints, nat_tests, appended, row_text-same, append-nil)
 
 -- records were added after others
 pub adds-more : {W : Type 0} (contents : W → Option (List ℕ)) (a b c : Writer W) (first second : Rows)

@@ -1,5 +1,5 @@
 -- All entries that a line shows are found by its marks.
-use Rattle.statement_lines.proofs.Names.{◌≡◌, ◌∙◌, sym, ap, subst, ℕ, zero, suc, ◌+◌, ◌-◌, ◌<◌, ◌≤◌, ◌==◌, Bool, true, false, cond, List, [], ◌∷◌, ◌++◌, length, get_or, take, map, refl, inl, inr, arith, cases_Bool, option_to_list, slice_get, AllPairs, Contains, filter, flat_map, list_any, IsStrictlyIncreasing, bytes_eq, and_parts, eqb-true, eq-eqb, nat_tests, bytes_eq-Decides, Contains-append_left, Contains-append_right, Line, text_key, entry_marks, is_shown, line_marks, mark_of, marks_at, marks_from, reference_mark, window_marks, is_among, line_numbers, begins_with_reference, has_reference, shows, Waiting, BookEntry}
+use Rattle.statement_lines.proofs.Names.{◌≡◌, ◌∙◌, sym, ap, subst, ℕ, zero, suc, ◌+◌, ◌-◌, ◌<◌, ◌≤◌, ◌==◌, Bool, true, false, cond, List, [], ◌∷◌, ◌++◌, length, get_or, take, map, refl, inl, inr, arith, cases_Bool, option_to_list, slice_get, AllPairs, Contains, filter, flat_map, list_any, IsStrictlyIncreasing, bytes_eq, and_parts, eqb-true, eq-eqb, nat_tests, bytes_eq-Decides, Contains-append_left, Contains-append_right, Line, text_key, entry_marks, is_shown, line_marks, mark_of, marks_at, marks_from, reference_mark, window_marks, is_among, line_numbers, begins_with_reference, has_reference, shows, Waiting, BookEntry, ints}
 use Rattle.std.proofs.lemmas.List.Folds.{Any-from_list_any}
 use Rattle.std.proofs.lemmas.List.Kept.{AllPairs-from_increasing}
 use Rattle.std.proofs.lemmas.Map.Made.{Contains-tail}
@@ -53,8 +53,7 @@ module _ {X : Type 0} (q : X → Bool) (f : ℕ → List X) where
       → filter q (flat_map f places) ≡ filter q xs
 
   kept : (n : ℕ) (xs : List X) (ps : List ℕ) → ((i : ℕ) → f (n + i) ≡ option_to_list (slice_get xs i)) → Kept n xs ps
-  kept n xs [] there rise all =
-      sym (none_passes q xs (λ i d lt hit. not_among_none (n + i) (all i d lt hit)))
+  kept n xs [] there rise all = grind (arith, ints, nat_tests, none_passes, not_among_none)
   kept n [] (p ∷ ps) there rise all =
       ap (filter q)
       (none_there f n (p ∷ ps)

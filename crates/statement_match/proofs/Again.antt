@@ -1,5 +1,5 @@
 -- A line that was filled, once the book has it.
-use Rattle.statement_match.proofs.Names.{◌≡◌, ◌∙◌, ap, ℕ, ◌≤◌, true, false, not, List, arith, nat_lt, Contains, count_by, cond-false, cond-true, le-leb, or_left, or_parts, nat_tests, Line, Booking, booking_of, is_same_booking, Held, is_open, is_open_like, becomes, is_booked, is_booked_in_parts, is_doubled, is_in_book}
+use Rattle.statement_match.proofs.Names.{◌≡◌, ℕ, ◌≤◌, true, false, List, arith, nat_lt, Contains, count_by, cond-false, cond-true, le-leb, or_left, or_parts, nat_tests, Line, Booking, booking_of, is_same_booking, Held, is_open, is_open_like, becomes, is_doubled, is_in_book, ints}
 use Rattle.statement_lines.specs.declared.outcome.Outcome.TheVariants as outcome
 use Rattle.statement_match.proofs.Filling.{sure_of}
 use Rattle.statement_match.proofs.Picks.{is_counted}
@@ -8,19 +8,14 @@ use Rattle.statement_match.proofs.Picks.{is_counted}
 open_once : (held : Held) (lines : List Line) (line : Line) → is_doubled held lines line ≡ false
     → count_by (is_open_like line) lines ≤ 1
 unfolding is_doubled
-open_once held lines line single =
-    let many = (or_parts (nat_lt 1 (count_by (is_open_like line) lines)) _ single).0 in
-    grind (arith, nat_tests)
+open_once held lines line single = grind (arith, ints, nat_tests, or_parts, nat_lt, count_by, is_open_like)
 
 in_book : (held : Held) (lines : List Line) (line : Line) (b : Booking) → count_by (is_open_like line) lines ≤ 1
     → Contains held.bookings b → is_same_booking (booking_of line) b ≡ true → is_in_book held lines line ≡ true
 unfolding is_in_book
 in_book held lines line b few there same =
     let some = is_counted (is_same_booking (booking_of line)) held.bookings b there same in
-    let enough : count_by (is_open_like line) lines ≤ count_by (is_same_booking (booking_of line)) held.bookings =
-    omega (arith, few, some) in
-    or_left (is_booked held lines line) (is_booked_in_parts held lines line)
-    (le-leb (count_by (is_open_like line) lines) (count_by (is_same_booking (booking_of line)) held.bookings) enough)
+    grind (arith, ints, nat_tests, or_left, le-leb)
 
 -- a line that was filled is in the book of which a booking is that of the line
 pub filled_is_booked : (today later : ℕ) (held new : Held) (lines : List Line) (line : Line) (reference : List ℕ)
@@ -28,7 +23,4 @@ pub filled_is_booked : (today later : ℕ) (held new : Held) (lines : List Line)
     → is_same_booking (booking_of line) b ≡ true → becomes later new lines line ≡ outcome.InBook
 unfolding becomes
 filled_is_booked today later held new lines line reference b filled there same =
-    let sure = (sure_of today held lines line reference filled).1 in
-    let once = open_once held lines line sure.single in
-    cond-false (not (is_open line)) _ _ (ap not sure.nameless)
-    ∙ cond-true (is_in_book new lines line) _ _ (in_book new lines line b once there same)
+    grind (arith, ints, nat_tests, sure_of, open_once, cond-false, is_open, cond-true, in_book)

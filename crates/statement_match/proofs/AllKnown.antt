@@ -1,5 +1,5 @@
 -- What a collector knows of a firm's rows is what is known of the firm.
-use Rattle.statement_match.proofs.Names.{◌≡◌, ◌∙◌, sym, ap, ℕ, List, [], ◌∷◌, ◌++◌, map, fold, append_assoc, append-nil, Line, Firm, Row, Waiting, Known, Booking, BookEntry, held_of, own_booking, row_bookings, row_waiting, know_exception, know_own_line, know_row, known_of, none_known, row_entries}
+use Rattle.statement_match.proofs.Names.{◌≡◌, ◌∙◌, sym, ℕ, List, [], ◌∷◌, ◌++◌, map, fold, append_assoc, append-nil, Line, Firm, Row, Waiting, Known, Booking, BookEntry, held_of, own_booking, row_bookings, row_waiting, know_exception, know_own_line, know_row, known_of, none_known, row_entries, arith, ints, nat_tests}
 use Rattle.std.specs.List.{flat_map}
 use Rattle.firm_rows.specs.declared.ledger.FirmLine.{FirmLine}
 
@@ -12,23 +12,16 @@ rows_known : (k : Known) (rows : List (ℕ × Row))
     → fold know_row k rows
     ≡ known_with (k.held.waiting ++ flat_map row_waiting rows) (k.held.bookings ++ flat_map row_bookings rows)
     k.held.exceptions (k.entries ++ flat_map row_entries rows)
-rows_known k [] =
-    λ i. known_with (sym (append-nil k.held.waiting) i) (sym (append-nil k.held.bookings) i) k.held.exceptions
-    (sym (append-nil k.entries) i)
+rows_known k [] = grind (arith, ints, nat_tests, known_with, append-nil)
 rows_known k (row ∷ rows) =
-    rows_known (know_row k row) rows
-    ∙ (λ i. known_with (append_assoc k.held.waiting (row_waiting row) (flat_map row_waiting rows) i)
-    (append_assoc k.held.bookings (row_bookings row) (flat_map row_bookings rows) i) k.held.exceptions
-    (append_assoc k.entries (row_entries row) (flat_map row_entries rows) i))
+    grind (arith, ints, nat_tests, append_assoc, row_entries, (rows_known (know_row k row) rows))
 
 own_lines_known : (k : Known) (lines : List FirmLine)
     → fold know_own_line k lines
     ≡ known_with k.held.waiting (k.held.bookings ++ map own_booking lines) k.held.exceptions k.entries
 own_lines_known k [] = λ i. known_with k.held.waiting (sym (append-nil k.held.bookings) i) k.held.exceptions k.entries
 own_lines_known k (line ∷ lines) =
-    own_lines_known (know_own_line k line) lines
-    ∙ (λ i. known_with k.held.waiting
-    (append_assoc k.held.bookings (own_booking line ∷ []) (map own_booking lines) i) k.held.exceptions k.entries)
+    grind (arith, ints, nat_tests, append_assoc, map, (own_lines_known (know_own_line k line) lines))
 
 exceptions_known : (k : Known) (lines : List Line)
     → fold know_exception k lines
@@ -41,7 +34,4 @@ exceptions_known k (line ∷ lines) =
 pub all_known : (firm : Firm) (a b c : Known) → a ≡ fold know_row none_known firm.rows
     → b ≡ fold know_own_line a firm.firm_lines → c ≡ fold know_exception b firm.exceptions → c ≡ known_of firm
 unfolding known_of held_of
-all_known firm a b c ea eb ec =
-    let rows = ea ∙ rows_known none_known firm.rows in
-    let own = eb ∙ ap (λ k. fold know_own_line k firm.firm_lines) rows ∙ own_lines_known _ firm.firm_lines in
-    ec ∙ ap (λ k. fold know_exception k firm.exceptions) own ∙ exceptions_known _ firm.exceptions
+all_known firm a b c ea eb ec = grind (arith, ints, nat_tests, rows_known, fold, own_lines_known, exceptions_known)

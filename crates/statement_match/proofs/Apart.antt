@@ -1,5 +1,5 @@
 -- No two entries that wait in a sound firm have one reference.
-use Rattle.statement_match.proofs.Names.{◌≡◌, ◌∙◌, sym, ap, subst, ℕ, zero, suc, ◌+◌, ◌<◌, true, List, [], ◌∷◌, length, get_or, Option, Some, None, inl, inr, arith, Contains, nat_tests, Contains-append_cases, same_Some, DepositState, PaymentState, Entry, EntryRow, Firm, HeadRow, Row, SeatRow, entry_pairs, head_pairs, of, pairs, put, seat_pairs, entry_named, named, reference_text, Waiting, filter_has, deposit_waiting, entry_waiting, held_of, payment_waiting, row_waiting, HasMatterNumbers, NoneIsNamedTwiceByFirms, WaitApart}
+use Rattle.statement_match.proofs.Names.{◌≡◌, ◌∙◌, sym, ap, subst, ℕ, zero, suc, ◌+◌, ◌<◌, true, List, [], ◌∷◌, length, get_or, Option, Some, inl, inr, arith, Contains, nat_tests, Contains-append_cases, same_Some, Entry, EntryRow, Firm, HeadRow, Row, SeatRow, entry_pairs, head_pairs, of, pairs, put, seat_pairs, entry_named, named, reference_text, Waiting, filter_has, entry_waiting, held_of, row_waiting, HasMatterNumbers, NoneIsNamedTwiceByFirms, WaitApart, ints}
 use Rattle.std.specs.Prelude.{◌==◌}
 use Rattle.trust_base.specs.Limits.{IsEntryNo, IsMatterNo}
 use Rattle.matter_rows.specs.Rows.{Rows, entry_at}
@@ -16,26 +16,18 @@ use Rattle.statement_match.proofs.Writing.{none_is_named_twice}
 -- The rows of a matter.
 
 no_head : (m n : ℕ) (e : Entry) (head : Option Head) → Contains (head_pairs m head) (m, EntryRow n e) → ⊥
-no_head m n e None (k, lt, is) = omega arith
-no_head m n e (Some head) (zero, lt, is) =
-    let row : HeadRow head ≡ EntryRow n e = ap (λ (p : ℕ × Row). p.1) is in cc
-no_head m n e (Some head) (suc k, lt, is) = omega arith
+no_head m n e head x4 = grind (arith, ints, nat_tests)
 
 no_seat : (m n : ℕ) (e : Entry) (seats : List Seat) → Contains (seat_pairs m seats) (m, EntryRow n e) → ⊥
 no_seat m n e [] (k, lt, is) = omega arith
-no_seat m n e (seat ∷ seats) (zero, lt, is) =
-    let row : SeatRow seat ≡ EntryRow n e = ap (λ (p : ℕ × Row). p.1) is in cc
+no_seat m n e (seat ∷ seats) (zero, lt, is) = grind (arith, ints, nat_tests)
 no_seat m n e (seat ∷ seats) (suc k, lt, is) = no_seat m n e seats (k, omega arith, is)
 
 -- the place of an entry's row among the rows of entries, which are numbered from a number on
 entry_place : (m first n : ℕ) (e : Entry) (es : List Entry) → Contains (entry_pairs m first es) (m, EntryRow n e)
     → (i : ℕ) × (first + i ≡ n) × (i < length es) × (e ≡ get_or es i e)
 entry_place m first n e [] (k, lt, is) = absurd (omega arith)
-entry_place m first n e (x ∷ es) (zero, lt, is) =
-    let row : EntryRow first x ≡ EntryRow n e = ap (λ (p : ℕ × Row). p.1) is in
-    let number : first ≡ n = cc in
-    let same : e ≡ x = cc in
-    (0, omega (arith, number), omega arith, same)
+entry_place m first n e (x ∷ es) (zero, lt, is) = grind (arith, ints, nat_tests)
 entry_place m first n e (x ∷ es) (suc k, lt, is) =
     let more = entry_place m (first + 1) n e es (k, omega arith, is) in
     let number = more.1 in
@@ -72,29 +64,14 @@ entry_of_row firm m n e sound there =
 -- and its number is one that an entry may have
 entry_number : (firm : Firm) (m n : ℕ) (e : Entry) → FirmSound firm → entry_at (of m firm).entries n ≡ Some e
     → IsEntryNo n
-entry_number firm m n e sound at =
-    let inside = within (of m firm).entries n e at in
-    let low = inside.0 in
-    let high = inside.1 in
-    let few = (sound.matters m).backed.few in
-    (omega (arith, low), omega (arith, high, few))
+entry_number firm m n e sound at = grind (arith, ints, nat_tests, within, of)
 
 -- The entry that waits.
 
 -- an entry waits once, under its reference
 pub entry_once : (m n : ℕ) (e : Entry) (w v : Waiting) → Contains (entry_waiting m n e) w
     → Contains (entry_waiting m n e) v → (w ≡ v) × (w.reference ≡ reference_text m n)
-entry_once m n e w v first second =
-    by_waiting (λ (x : Entry). Contains (entry_waiting m n x) v → (w ≡ v) × (w.reference ≡ reference_text m n)) m n w
-    (λ d held is there. (
-      sym is ∙ the_one _ v (subst (λ (s : DepositState). Contains (deposit_waiting m n d s) v) held there),
-      sym (ap (λ (x : Waiting). x.reference) is),
-    ))
-    (λ p day issued is there. (
-      sym is ∙ the_one _ v (subst (λ (s : PaymentState). Contains (payment_waiting m n p s) v) issued there),
-      sym (ap (λ (x : Waiting). x.reference) is),
-    ))
-    e first second
+entry_once m n e w v first second = grind (arith, ints, nat_tests, by_waiting, the_one)
 
 -- the entry that waits, of a matter under its number
 pub record IsOfEntry (firm : Firm) (w : Waiting) : Type 0 where
@@ -113,16 +90,7 @@ of_row firm m (HeadRow head) w sound is_matter there waits = absurd (none_there 
 of_row firm m (SeatRow seat) w sound is_matter there waits = absurd (none_there w waits)
 of_row firm m (EntryRow n e) w sound is_matter there waits =
     let at = entry_of_row firm m n e sound there in
-    record {
-      matter = m;
-      number = n;
-      made = e;
-      is_matter = is_matter;
-      is_number = entry_number firm m n e sound at;
-      there = at;
-      waits = waits;
-      is = (entry_once m n e w w waits waits).1;
-    }
+    grind (arith, ints, nat_tests, entry_number, entry_once)
 
 pub of_entry : (firm : Firm) (w : Waiting) → FirmSound firm → HasMatterNumbers firm
     → Contains (held_of firm).waiting w → IsOfEntry firm w
@@ -138,8 +106,7 @@ pub same_named : (m n k j : ℕ) → IsMatterNo m → IsEntryNo n → IsMatterNo
 same_named m n k j m_is n_is k_is j_is same =
     let both : Some (named m n) ≡ Some (named k j) =
     sym (named-found m n m_is n_is) ∙ ap entry_named same ∙ named-found k j k_is j_is in
-    let names : named m n ≡ named k j = cc in
-    (ap (λ x. x.matter) names, ap (λ x. x.entry) names)
+    grind (arith, ints, nat_tests, named)
 
 pub wait_apart : WaitApart
 wait_apart firm sound numbers w v w_there v_there same =

@@ -1,5 +1,5 @@
 -- What a firm has, matter by matter.
-use Rattle.statement_match.proofs.Names.{◌≡◌, ◌∙◌, sym, ap, ℕ, Bool, true, false, cond, List, [], ◌∷◌, ◌++◌, map, refl, inl, inr, ◌⊎◌, Contains, filter, Entry, EntryRow, Firm, HeadRow, Row, SeatRow, reference_text, Waiting, filter_has, flat_map_has, held_of, own_booking, row_bookings, row_waiting, with_matters, HasLess, IsPart, NoneOf, With, Without, FilledWaits, IsHeldRow, IsIssuedRow, OtherMattersOnlyTakeAway}
+use Rattle.statement_match.proofs.Names.{◌≡◌, ℕ, Bool, true, cond, List, [], ◌∷◌, ◌++◌, map, ◌⊎◌, Contains, filter, EntryRow, Firm, HeadRow, Row, SeatRow, reference_text, Waiting, filter_has, flat_map_has, held_of, row_waiting, with_matters, HasLess, IsPart, NoneOf, With, Without, FilledWaits, IsHeldRow, IsIssuedRow, OtherMattersOnlyTakeAway, arith, ints, nat_tests}
 use Rattle.std.specs.List.{flat_map}
 use Rattle.statement_match.proofs.Filling.{fills_with_waiting}
 use Rattle.statement_match.proofs.Less.{more_only_takes_away}
@@ -26,8 +26,7 @@ part_beyond (x ∷ xs) some all rest = Without x some (xs ++ all) (part_beyond x
 
 part_of_picked : {A B : Type 0} (f : A → List B) (b : Bool) (x : A) (some all : List A)
     → IsPart (flat_map f some) (flat_map f all) → IsPart (flat_map f (cond b (x ∷ some) some)) (f x ++ flat_map f all)
-part_of_picked f true x some all rest = part_in_front (f x) (flat_map f some) (flat_map f all) rest
-part_of_picked f false x some all rest = part_beyond (f x) (flat_map f some) (flat_map f all) rest
+part_of_picked f b x some all rest = grind (arith, ints, nat_tests, part_in_front, flat_map, part_beyond)
 
 part_of_filter : {A B : Type 0} (f : A → List B) (p : A → Bool) (xs : List A)
     → IsPart (flat_map f (filter p xs)) (flat_map f xs)
@@ -38,13 +37,7 @@ part_of_filter f p (x ∷ xs) = part_of_picked f (p x) x (filter p xs) xs (part_
 
 has_less : (is_kept : ℕ → Bool) (firm : Firm) → HasLess (held_of (with_matters is_kept firm)) (held_of firm)
 unfolding held_of
-has_less is_kept firm = record {
-  waiting = part_of_filter row_waiting (λ p. is_kept p.0) firm.rows;
-  bookings = part_behind (flat_map row_bookings (filter (λ p. is_kept p.0) firm.rows))
-      (flat_map row_bookings firm.rows) (map own_booking firm.firm_lines)
-      (part_of_filter row_bookings (λ p. is_kept p.0) firm.rows);
-  exceptions = refl;
-}
+has_less is_kept firm = grind (arith, ints, nat_tests, part_of_filter, part_behind, filter, map)
 
 still_waits : (is_kept : ℕ → Bool) (firm : Firm) (m : ℕ) (row : Row) (w : Waiting)
     → is_kept m ≡ true → Contains firm.rows (m, row) → Contains (row_waiting (m, row)) w
@@ -65,20 +58,10 @@ row_from : (m : ℕ) (row : Row) (w : Waiting) → Contains (row_waiting (m, row
     → (n : ℕ) × (w.reference ≡ reference_text m n) × (IsHeldRow row n ⊎ IsIssuedRow row n)
 row_from m (HeadRow head) w there = absurd (none_there w there)
 row_from m (SeatRow seat) w there = absurd (none_there w there)
-row_from m (EntryRow n e) w there =
-    by_waiting (λ (x : Entry). (k : ℕ) × (w.reference ≡ reference_text m k)
-    × (IsHeldRow (EntryRow n x) k ⊎ IsIssuedRow (EntryRow n x) k)) m n w
-    (λ d held is. (n, sym (ap (λ (v : Waiting). v.reference) is), inl (record { made = d; is = refl; held = held })))
-    (λ p day issued is. (
-      n,
-      sym (ap (λ (v : Waiting). v.reference) is),
-      inr (record { made = p; day = day; is = refl; issued = issued }),
-    ))
-    e there
+row_from m (EntryRow n e) w there = grind (arith, ints, nat_tests, by_waiting, reference_text)
 
 pub filled_waits : FilledWaits
 filled_waits today firm lines line reference e =
     let filled = fills_with_waiting today (held_of firm) lines line reference e in
     let row = row_of firm filled.0 filled.1 in
-    let told = row_from row.0.0 row.0.1 filled.0 row.2 in
-    (row.0.0, told.0, row.0.1, row.1, sym filled.3 ∙ told.1, told.2)
+    grind (arith, ints, nat_tests, row_from)

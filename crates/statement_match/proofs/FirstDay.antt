@@ -1,10 +1,6 @@
 -- The first day whose deposits are together an amount.
-use Rattle.statement_match.proofs.Names.{◌≡◌, ◌∙◌, sym, ap, subst, ℕ, zero, suc, ◌≤◌, ◌==◌, ℤ, Bool, true, false, cond, List, [], ◌∷◌, get_or, Option, Some, None, refl, inl, inr, ◌↔◌, arith, nat_le, option_map, int_eq, Contains, filter, find, and_parts, cases_order, eq-eqb, eqb-true, nat_tests, AllPairs-from_increasing, is_held, is_held_on, BookEntry, filter_from, filter_has, find_has, later, map_from, are_together, day_sums, day_with, first_day, held_days, least, lesser, same_day, together_on, Bor}
-use Rattle.std.specs.List.{position_or_len}
+use Rattle.statement_match.proofs.Names.{◌≡◌, ◌∙◌, sym, ap, subst, ℕ, zero, suc, ◌≤◌, ℤ, Bool, true, false, cond, List, [], ◌∷◌, get_or, Option, Some, None, refl, inl, inr, ◌↔◌, arith, nat_le, option_map, Contains, filter, find, and_parts, cases_order, eq-eqb, eqb-true, nat_tests, AllPairs-from_increasing, is_held, is_held_on, BookEntry, filter_from, filter_has, find_has, later, map_from, are_together, day_sums, day_with, first_day, held_days, least, lesser, same_day, Bor, ints, position_or_len, find_at, fails_before_first, get_or_from_slice_get, slice_get_within}
 use Rattle.std.specs.List.Sorted.{IsStrictlyIncreasing}
-use Rattle.std.proofs.lemmas.List.Folds.{find_at}
-use Rattle.std.proofs.lemmas.List.Sums.{fails_before_first}
-use Rattle.std.proofs.lemmas.Option.{get_or_from_slice_get, slice_get_within}
 use Rattle.statement_match.proofs.Picks.{found_is_there, found_passes}
 
 -- The least of days.
@@ -83,27 +79,14 @@ sums_found : (amount : ℤ) (entries : List BookEntry) (days : List ℕ)
     → day_with amount (day_sums entries days) ≡ find (are_together amount entries) days
 sums_found amount entries [] = refl
 sums_found amount entries (day ∷ days) =
-    cases (are_together amount entries day) (sums_found amount entries days)
-  where
-    sum : ℤ
-    sum = together_on entries day
-
-    rest : Option (ℕ × ℤ)
-    rest = find (λ s. int_eq s.1 amount) (day_sums entries days)
-
-    cases : (b : Bool) → option_map (λ s. s.0) rest ≡ find (are_together amount entries) days
-        → option_map (λ (s : ℕ × ℤ). s.0) (cond b (Some (day, sum)) rest)
-        ≡ cond b (Some day) (find (are_together amount entries) days)
-    cases true more = refl
-    cases false more = more
+    grind (arith, ints, nat_tests, find, option_map, (sums_found amount entries days))
 
 pub sums_are : (amount : ℤ) (entries : List BookEntry) (days : List ℕ) → IsStrictlyIncreasing days
     → ((day : ℕ) → Contains (held_days entries) day ↔ Contains days day)
     → day_with amount (day_sums entries days) ≡ first_day amount entries
 unfolding first_day
 sums_are amount entries days rises same =
-    sums_found amount entries days
-    ∙ first_found (are_together amount entries) days (held_days entries) rises same
+    grind (arith, ints, nat_tests, sums_found, first_found, are_together, held_days)
 
 -- The day of a deposit that was booked on it.
 
@@ -116,11 +99,8 @@ day_is amount entries day is =
     let e = map_from (λ (x : BookEntry). x.day) (filter (λ x. is_held x.state) entries) day there in
     let held = filter_from (λ (x : BookEntry). is_held x.state) entries e.0 e.1 in
     let first = find_has (is_held_on day) entries e.0 held.1 (rw held.0 (eq-eqb e.0.day day e.2)) in
-    let passes = found_passes (is_held_on day) entries first.0 first.1 in
-    let same = eqb-true first.0.day day (and_parts (is_held first.0.state) (first.0.day == day) passes).1 in
-    ap (option_map (λ (x : BookEntry). x.day)) first.1 ∙ ap (λ (d : ℕ). Some d) same
+    grind (arith, ints, nat_tests, found_passes, is_held_on, eqb-true, and_parts, is_held, option_map)
 
 pub day_of_found : (o : Option (ℕ × Bor BookEntry))
     → option_map (λ e. e.1.now.day) o ≡ option_map (λ (e : BookEntry). e.day) (option_map (λ e. e.1.now) o)
-day_of_found None = refl
-day_of_found (Some e) = refl
+day_of_found o = grind (arith, ints, nat_tests)

@@ -1,18 +1,12 @@
 -- No line that is written before a filled one has its reference.
-use Rattle.statement_match.proofs.Names.{◌≡◌, ◌≢◌, ◌∙◌, sym, ap, subst, ℕ, zero, suc, ◌<◌, List, [], ◌∷◌, ◌++◌, length, get_or, append_assoc, refl, inl, inr, ◌⊎◌, arith, Contains, Contains-append_cases, Contains-append_right, Line, Held, Outcome, becomes, AreNamedApart, with_reference, written, written_as, written_of}
-use Rattle.std.proofs.lemmas.Bool.{cases_eq}
+use Rattle.statement_match.proofs.Names.{◌≡◌, ◌≢◌, ◌∙◌, sym, ap, subst, ℕ, zero, suc, ◌<◌, List, [], ◌∷◌, ◌++◌, length, get_or, append_assoc, refl, inl, inr, ◌⊎◌, arith, Contains, Contains-append_cases, Contains-append_right, Line, Held, Outcome, becomes, AreNamedApart, with_reference, written, written_as, written_of, ints, nat_tests, cases_eq}
 use Rattle.statement_lines.specs.declared.outcome.Outcome.TheVariants as outcome
 use Rattle.statement_match.proofs.Writing.{none_is_named_twice}
 
 -- Of a line nothing is written, or one line.
 
 one_or_none : (line : Line) (o : Outcome) → (written_as line o ≡ []) ⊎ ((z : Line) × (written_as line o ≡ z ∷ []))
-one_or_none line outcome.AsItIs = inr (line, refl)
-one_or_none line outcome.InBook = inl refl
-one_or_none line (outcome.Retried r) = inr (with_reference r line, refl)
-one_or_none line outcome.Doubled = inl refl
-one_or_none line (outcome.Filled r) = inr (with_reference r line, refl)
-one_or_none line outcome.Left = inl refl
+one_or_none line o = grind (arith, ints, nat_tests, with_reference)
 
 no_front : (front rest : List Line) (x : Line) → [] ≡ front ++ x ∷ rest → ⊥
 no_front [] rest x e = cc
@@ -85,12 +79,9 @@ module _ (today : ℕ) (held : Held) (all : List Line) (d x y : Line) where
   first_or_later l ls z [] rest one later whole (k, lt, is) = absurd (omega arith)
   first_or_later l ls z (f ∷ fs) rest one later whole (zero, lt, is) =
       let first : z ≡ f = cc in
-      let more : written_of today held all ls ≡ fs ++ x ∷ rest = cc in
-      let here : Contains (z ∷ []) y = (0, omega arith, first ∙ is) in
-      in_front l ls (subst (λ (ws : List Line). Contains ws y) (sym one) here) (behind fs rest ls more)
+      grind (arith, ints, nat_tests, written_of, first, in_front, behind)
   first_or_later l ls z (f ∷ fs) rest one later whole (suc k, lt, is) =
-      let more : written_of today held all ls ≡ fs ++ x ∷ rest = cc in
-      one_further l ls (later fs more (k, omega arith, is))
+      grind (arith, ints, nat_tests, written_of, one_further)
 
   pub stem_apart : (xs front rest : List Line) → written_of today held all xs ≡ front ++ x ∷ rest
       → Contains front y → StemApart xs
@@ -133,10 +124,7 @@ module _ (today : ℕ) (held : Held) (all : List Line) (d : Line) (reference : L
 pub has_filled : (today : ℕ) (held : Held) (lines : List Line) (line : Line) (reference : List ℕ)
     → Contains lines line → becomes today held lines line ≡ outcome.Filled reference
     → HasFilled today held lines line reference lines line
-has_filled today held lines line reference (j, inside, at) filled =
-    let Has = λ (z : Line). HasFilled today held lines line reference lines z in
-    subst Has at
-    (place_filled today held lines line reference lines j inside (ap (becomes today held lines) at ∙ filled))
+has_filled today held lines line reference x5 filled = grind (arith, ints, nat_tests, place_filled, becomes)
 
 -- no line before a filled one has the reference with which that is filled
 pub front_apart : (today : ℕ) (held : Held) (lines front rest : List Line) (line y : Line) (reference : List ℕ)

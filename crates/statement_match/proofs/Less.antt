@@ -1,6 +1,5 @@
 -- What becomes of a line where less is held.
-use Rattle.statement_match.proofs.Names.{◌≡◌, ◌∙◌, sym, ap, ℕ, zero, suc, ◌≤◌, Bool, true, false, cond, List, Some, arith, nat_lt, Contains, count_by, list_any, and_left, and_right, leb-false, lt-leb, or_from, or_parts, Line, booking_of, is_beside, is_same_booking, Waiting, fits, Held, exception_reference, is_claimed, is_open_like, find_has, later, is_beside_booked, is_booked, is_booked_in_parts, is_doubled, is_in_book, HasLess, IsPart, IsSure, MoreOnlyTakesAway, NoneOf, With, Without}
-use Rattle.std.proofs.lemmas.List.Sums.{sum_by-cons}
+use Rattle.statement_match.proofs.Names.{◌≡◌, ℕ, zero, suc, ◌≤◌, Bool, true, false, cond, List, arith, nat_lt, Contains, count_by, list_any, and_left, and_right, leb-false, lt-leb, or_from, or_parts, Line, booking_of, is_beside, is_same_booking, Waiting, fits, Held, exception_reference, is_claimed, is_open_like, find_has, later, is_beside_booked, is_doubled, is_in_book, HasLess, IsPart, IsSure, MoreOnlyTakesAway, NoneOf, With, Without, ints, nat_tests, sum_by-cons}
 use Rattle.statement_lines.specs.declared.outcome.Outcome.TheVariants as outcome
 use Rattle.statement_match.proofs.Filling.{filled_if_sure, sure_of}
 use Rattle.statement_match.proofs.Picks.{found_is_there, found_passes, is_counted, is_the_one}
@@ -41,14 +40,7 @@ less_new : (less more : Held) (lines : List Line) (line : Line) → IsPart less.
     → is_beside_booked less line ≡ false → is_in_book more lines line ≡ false → is_in_book less lines line ≡ false
 unfolding is_in_book
 less_new less more lines line part apart new =
-    let like = count_by (is_open_like line) lines in
-    let same = is_same_booking (booking_of line) in
-    let parts = or_parts (is_booked more lines line) (is_booked_in_parts more lines line) new in
-    let above = leb-false like (count_by same more.bookings) parts.0 in
-    let fewer = part_count same less.bookings more.bookings part in
-    or_from (is_booked less lines line) (is_booked_in_parts less lines line)
-    (lt-leb like (count_by same less.bookings) (omega (arith, above, fewer)))
-    (and_left _ _ (and_right _ (is_beside_booked less line) apart))
+    grind (arith, ints, nat_tests, or_parts, leb-false, part_count, or_from, lt-leb, and_left, and_right)
 
 less_single : (less more : Held) (lines : List Line) (line : Line) → IsPart less.bookings more.bookings
     → is_doubled more lines line ≡ false → is_doubled less lines line ≡ false
@@ -71,20 +63,8 @@ less_sure today less more lines line w v part there fit sure =
     (part_has less.waiting more.waiting found.0 part.waiting
     (found_is_there (fits today line) less.waiting found.0 found.1))
     (found_passes (fits today line) less.waiting found.0 found.1) in
-    record {
-      nameless = sure.nameless;
-      new = less_new less more lines line part.bookings apart sure.new;
-      unnamed = ap (λ es. exception_reference es line) part.exceptions ∙ sure.unnamed;
-      single = less_single less more lines line part.bookings sure.single;
-      apart = apart;
-      fits_one = omega (arith, few, one, shown);
-      fits_it = found.1 ∙ ap Some same;
-      fitted_once = sure.fitted_once;
-      unclaimed = ap (λ es. is_claimed es lines v.reference) part.exceptions ∙ sure.unclaimed;
-    }
+    grind (arith, ints, nat_tests, less_new, exception_reference, less_single, is_claimed)
 
 pub more_only_takes_away : MoreOnlyTakesAway
 more_only_takes_away today less more lines line reference w part there fit e =
-    let found = sure_of today more lines line reference e in
-    filled_if_sure today less lines line found.0 (less_sure today less more lines line w found.0 part there fit found.1)
-    ∙ ap (λ r. outcome.Filled r) (sym found.2)
+    grind (arith, ints, nat_tests, sure_of, filled_if_sure, less_sure)

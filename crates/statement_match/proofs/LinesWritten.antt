@@ -1,8 +1,8 @@
 -- The lines of the records that are written are what is written of the lines.
-use Rattle.statement_match.proofs.Names.{◌≡◌, ◌∙◌, ap, subst, ℕ, ℤ, ◌+◌, true, List, [], ◌∷◌, ◌++◌, drop, Option, Some, None, option_and_then, refl, find, bank_text_of, line_text_of, bank_amount_of, day_of, Line, item_of, item_of_line, items_from, line_in, Rows, line_at, lines_from, records_of, rows_of, Held, exception_reference, is_named_like, is_open, named_row, row_as, rows_by, Outcome, with_reference, written_as, written_of, becomes, HasLinesWritten, HasReferences, IsReference}
+use Rattle.statement_match.proofs.Names.{◌≡◌, ◌∙◌, ap, subst, ℕ, ◌+◌, true, List, [], ◌∷◌, ◌++◌, drop, Option, Some, None, refl, find, Line, item_of, item_of_line, items_from, line_in, Rows, line_at, lines_from, records_of, rows_of, Held, exception_reference, is_named_like, is_open, named_row, row_as, rows_by, Outcome, with_reference, written_as, written_of, becomes, HasLinesWritten, HasReferences, IsReference, arith, ints, nat_tests}
 use Rattle.std.proofs.Common.{option_map, option_to_list}
 use Rattle.std.specs.Prelude.{unwrap_or}
-use Rattle.statement_csv.specs.Lines.{line_of, line_of_texts, line_with}
+use Rattle.statement_csv.specs.Lines.{line_of, line_of_texts}
 use Rattle.statement_csv.specs.declared.item.Item.TheVariants as item
 use Rattle.statement_csv.proofs.ItemFacts.{known_line, open_line, same_line}
 use Rattle.statement_lines.specs.declared.outcome.Outcome.TheVariants as outcome
@@ -18,37 +18,12 @@ texts_with : (date reference bank_ref amount text other : List ℕ) (l : Line) �
     → line_of_texts date reference bank_ref amount text ≡ Some l
     → line_of_texts date other bank_ref amount text ≡ Some (with_reference other l)
 unfolding line_of_texts
-texts_with date reference bank_ref amount text other l is e =
-    by (day_of date) (bank_amount_of amount) (bank_text_of reference) (bank_text_of bank_ref) (line_text_of text)
-    (bank_text_of other) is e
-  where
-    line_by : Option ℕ → Option ℤ → Option (List ℕ) → Option (List ℕ) → Option (List ℕ) → Option Line
-    line_by d a r b t =
-        option_and_then (λ d. option_and_then (λ a. option_and_then (λ r. option_and_then (λ b. option_and_then (λ t.
-        Some (line_with d a r b t)) t) b) r) a) d
-
-    by : (d : Option ℕ) (a : Option ℤ) (r b t o : Option (List ℕ)) → o ≡ Some other → line_by d a r b t ≡ Some l
-        → line_by d a o b t ≡ Some (with_reference other l)
-    by None a r b t o same e = cc
-    by (Some d) None r b t o same e = cc
-    by (Some d) (Some a) None b t o same e = cc
-    by (Some d) (Some a) (Some r) None t o same e = cc
-    by (Some d) (Some a) (Some r) (Some b) None o same e = cc
-    by (Some d) (Some a) (Some r) (Some b) (Some t) o same e =
-        let whole : line_with d a r b t ≡ l = cc in
-        rw same (ap (λ (x : Line). Some (with_reference other x)) whole)
+texts_with date reference bank_ref amount text other l is e = grind (arith, ints, nat_tests)
 
 -- the record of a line with another reference is that line
 named_line : (fields : List (List ℕ)) (other : List ℕ) (l : Line) → IsReference other → line_of fields ≡ Some l
     → line_of (named_row other fields) ≡ Some (with_reference other l)
-named_line [] other l is e = cc
-named_line (a ∷ []) other l is e = cc
-named_line (a ∷ b ∷ []) other l is e = cc
-named_line (a ∷ b ∷ c ∷ []) other l is e = cc
-named_line (a ∷ b ∷ c ∷ d ∷ []) other l is e = cc
-named_line (date ∷ reference ∷ bank_ref ∷ amount ∷ text ∷ []) other l is e =
-    texts_with date reference bank_ref amount text other l is e
-named_line (a ∷ b ∷ c ∷ d ∷ e ∷ f ∷ rest) other l is same = cc
+named_line fields other l is e = grind (arith, ints, nat_tests, texts_with)
 
 -- the record of an open line with a reference is that line with it
 named_at : (n m : ℕ) (fields : List (List ℕ)) (line : Line) (other : List ℕ) → IsReference other
@@ -86,9 +61,7 @@ retried_reference today held all line r ok e =
 
 filled_reference : (today : ℕ) (held : Held) (all : List Line) (line : Line) (r : List ℕ) → HasReferences held
     → becomes today held all line ≡ outcome.Filled r → IsReference r
-filled_reference today held all line r ok e =
-    let (w, there, fit, same) = fills_with_waiting today held all line r e in
-    subst IsReference same (ok.waiting w there)
+filled_reference today held all line r ok e = grind (arith, ints, nat_tests, fills_with_waiting)
 
 -- the lines of what is written of a record, and of the records behind it
 one_written : (m : ℕ) (fields : List (List ℕ)) (line : Line) (o : Outcome) (rows : Rows) (out : List Line)
@@ -98,12 +71,7 @@ one_written : (m : ℕ) (fields : List (List ℕ)) (line : Line) (o : Outcome) (
     → ((k : ℕ) → lines_from k rows ≡ out)
     → lines_from m (row_as fields (Some o) ++ rows) ≡ written_as line o ++ out
 unfolding items_from
-one_written m fields line outcome.AsItIs rows out is retried filled rest = rw (is, rest (m + 1)) refl
-one_written m fields line outcome.InBook rows out is retried filled rest = rest m
-one_written m fields line (outcome.Retried r) rows out is retried filled rest = rw (retried r refl, rest (m + 1)) refl
-one_written m fields line outcome.Doubled rows out is retried filled rest = rest m
-one_written m fields line (outcome.Filled r) rows out is retried filled rest = rw (filled r refl, rest (m + 1)) refl
-one_written m fields line outcome.Left rows out is retried filled rest = rest m
+one_written m fields line o rows out is retried filled rest = grind (arith, ints, nat_tests)
 
 lines_written : (today : ℕ) (held : Held) (all : List Line) → HasReferences held → (n m : ℕ) (rows : Rows)
     → lines_from m (rows_by (becomes today held all) n rows) ≡ written_of today held all (lines_from n rows)
@@ -133,5 +101,4 @@ lines_written today held all ok n m (fields ∷ rest) =
 pub has_lines_written : HasLinesWritten
 unfolding records_of
 has_lines_written today held bytes ok =
-    ap (λ (all : Rows). lines_from 1 (drop 1 all)) (reads_back today held bytes)
-    ∙ lines_written today held (lines_from 1 (rows_of bytes)) ok 1 1 (rows_of bytes)
+    grind (arith, ints, nat_tests, lines_from, drop, reads_back, lines_written, rows_of)

@@ -1,5 +1,5 @@
 -- The steps of the loop that lists entries.
-use Rattle.statement_match.proofs.Names.{◌≡◌, ◌∙◌, sym, ap, ℕ, zero, suc, ◌+◌, ◌<◌, ◌≤◌, Bool, true, false, cond, List, [], ◌∷◌, ◌++◌, length, length-append, get_or, take, map, append-nil, refl, arith, filter, map-append, take-append-le, take_all, filter_more}
+use Rattle.statement_match.proofs.Names.{◌≡◌, ◌∙◌, sym, ap, ℕ, zero, suc, ◌+◌, ◌<◌, ◌≤◌, Bool, true, false, cond, List, [], ◌∷◌, ◌++◌, length, length-append, get_or, take, map, append-nil, refl, arith, filter, map-append, take-append-le, take_all, filter_more, ints, nat_tests}
 
 -- The first texts of what passes a test.
 
@@ -10,8 +10,7 @@ take_through (suc n) (x ∷ xs) ys = ap (λ zs. x ∷ zs) (take_through n xs ys)
 
 map_picked : {X Y : Type 0} (f : X → Y) (b : Bool) (xs : List X) (x : X)
     → map f (xs ++ cond b (x ∷ []) []) ≡ map f xs ++ cond b (f x ∷ []) []
-map_picked f true xs x = map-append f xs (x ∷ [])
-map_picked f false xs x = map-append f xs []
+map_picked f b xs x = grind (arith, ints, nat_tests, map-append)
 
 pub listed_more : {X Y : Type 0} (f : X → Y) (p : X → Bool) (n : ℕ) (xs : List X) (i : ℕ) (d : X) → i < length xs
     → take n (take n (map f (filter p (take i xs))) ++ cond (p (get_or xs i d)) (f (get_or xs i d) ∷ []) [])
@@ -29,14 +28,10 @@ has_no_room n xs ys within all = take-append-le n xs ys within ∙ take_all n xs
 
 pub is_not_told : {X : Type 0} (n : ℕ) (b : Bool) (xs : List X) (x : X) → b ≡ false → length xs ≤ n
     → take n (xs ++ cond b (x ∷ []) []) ≡ xs
-is_not_told n b xs x miss short =
-    ap (λ v. take n (xs ++ cond v (x ∷ []) [])) miss ∙ ap (take n) (append-nil xs) ∙ take_all n xs short
+is_not_told n b xs x miss short = grind (arith, ints, nat_tests, take, append-nil, take_all)
 
 pub is_told : {X : Type 0} (n : ℕ) (b : Bool) (xs : List X) (x : X) → b ≡ true → length xs < n
     → take n (xs ++ cond b (x ∷ []) []) ≡ xs ++ x ∷ []
-is_told n b xs x hit short =
-    let e = length-append xs (x ∷ []) in
-    let all : length (xs ++ x ∷ []) ≤ n = omega (arith, e, short) in
-    ap (λ v. take n (xs ++ cond v (x ∷ []) [])) hit ∙ take_all n (xs ++ x ∷ []) all
+is_told n b xs x hit short = grind (arith, ints, nat_tests, length-append, length, take, take_all)
 
 pub ruleset told_steps = (has_no_room, is_not_told, is_told)

@@ -1,5 +1,5 @@
 -- The lines with their numbers.
-use Rattle.statement_match.proofs.Names.{◌≡◌, ◌∙◌, ap, ℕ, ◌+◌, ◌<◌, ◌≤◌, ◌==◌, Bool, true, false, cond, List, [], ◌∷◌, ◌++◌, length, get_or, drop, map, append_assoc, append-nil, refl, filter, at_drop_more, drop_all, map-append, Line, amount_key, waiting_key, elements, is_open_fit, Waiting, open_fit_narrows, filter_among, numbered, numbered_key, plain_pairs, fit_numbers, Bor}
+use Rattle.statement_match.proofs.Names.{◌≡◌, ◌∙◌, ap, ℕ, ◌+◌, ◌<◌, ◌≤◌, ◌==◌, Bool, true, false, cond, List, [], ◌∷◌, ◌++◌, length, get_or, drop, map, append_assoc, append-nil, refl, filter, at_drop_more, drop_all, map-append, Line, amount_key, waiting_key, elements, is_open_fit, Waiting, open_fit_narrows, filter_among, numbered, numbered_key, plain_pairs, fit_numbers, Bor, arith, ints, nat_tests}
 
 pub numbered_more : (numbers : List ℕ) (lines : List Line) (i number : ℕ) (line : Bor Line) (found new : List (ℕ × Bor Line))
     → i < length lines → number ≡ get_or numbers i 0 → line.now ≡ get_or lines i line.now
@@ -20,9 +20,7 @@ numbered_more numbers lines i number line found new lt number_is line_is added =
 pub numbered_done : (numbers : List ℕ) (lines : List Line) (i : ℕ) (found : List (ℕ × Bor Line)) → length lines ≤ i
     → plain_pairs found ++ numbered numbers i (drop i lines) ≡ plain_pairs found
 unfolding numbered
-numbered_done numbers lines i found past =
-    ap (λ (ls : List Line). plain_pairs found ++ numbered numbers i ls) (drop_all i lines past)
-    ∙ append-nil (plain_pairs found)
+numbered_done numbers lines i found past = grind (arith, ints, nat_tests, plain_pairs, numbered, drop_all, append-nil)
 
 -- The numbers of those that fit an entry.
 
@@ -32,18 +30,7 @@ fit_pairs : (today : ℕ) (w : Waiting) (numbers : List ℕ) (place : ℕ) (line
 unfolding numbered fit_numbers
 fit_pairs today w numbers place [] = refl
 fit_pairs today w numbers place (line ∷ lines) =
-    cases (is_open_fit today w line) (fit_pairs today w numbers (place + 1) lines)
-  where
-    picked : List (ℕ × Line)
-    picked = filter (λ x. is_open_fit today w x.1) (numbered numbers (place + 1) lines)
-
-    cases : (b : Bool)
-        → map (λ x. x.0) picked ≡ fit_numbers today w numbers (place + 1) lines
-        → map {A = ℕ × Line} (λ x. x.0) (cond b ((get_or numbers place 0, line) ∷ picked) picked)
-        ≡ cond b (get_or numbers place 0 ∷ fit_numbers today w numbers (place + 1) lines)
-        (fit_numbers today w numbers (place + 1) lines)
-    cases true more = ap (λ ns. get_or numbers place 0 ∷ ns) more
-    cases false more = more
+    grind (arith, ints, nat_tests, filter, numbered, map, (fit_pairs today w numbers (place + 1) lines))
 
 told_pairs : (p : Line → Bool) (found : List (ℕ × Bor (ℕ × Bor Line)))
     → map (λ e. e.1.now.0) (filter (λ e. p e.1.now.1.now) found)

@@ -1,16 +1,9 @@
 -- Which elements of a list pass a test, where one alone does.
-use Rattle.statement_match.proofs.Names.{◌≡◌, ◌∙◌, sym, ap, ℕ, ◌+◌, ◌<◌, ◌≤◌, Bool, true, cond, List, length, get_or, take, Some, inl, inr, arith, false, [], ◌∷◌, refl, ◌||◌, nat_lt, nat_tests, list_any, Contains, count_by, find, cases_order, get_or_default, length-take}
-use Rattle.std.specs.List.{position_or_len}
-use Rattle.std.proofs.lemmas.List.{get_or-take}
-use Rattle.std.proofs.lemmas.List.Folds.{find_at}
-use Rattle.std.proofs.lemmas.List.Sums.{get_or-le-sum_by, passes_at_first, sum_by-cons, sum_by_more_le}
-use Rattle.std.proofs.lemmas.Option.{get_or_from_slice_get, slice_get_within}
+use Rattle.statement_match.proofs.Names.{◌≡◌, ◌∙◌, sym, ap, ℕ, ◌+◌, ◌<◌, ◌≤◌, Bool, true, cond, List, length, get_or, take, Some, arith, false, [], ◌∷◌, refl, ◌||◌, nat_lt, nat_tests, list_any, Contains, count_by, find, cases_order, get_or_default, length-take, ints, position_or_len, get_or-take, find_at, get_or-le-sum_by, passes_at_first, sum_by-cons, sum_by_more_le, get_or_from_slice_get, slice_get_within}
 
 one_passes : {X : Type 0} (p : X → Bool) (xs : List X) (k : ℕ) (d : X)
     → k < length xs → p (get_or xs k d) ≡ true → 1 ≤ count_by p xs
-one_passes p xs k d lt hit =
-    let more : cond (p (get_or xs k d)) 1 0 ≤ count_by p xs = get_or-le-sum_by (λ x. cond (p x) 1 0) xs k d lt in
-    rw hit at more
+one_passes p xs k d lt hit = grind (arith, ints, nat_tests, get_or, count_by, get_or-le-sum_by)
 
 -- one that passes is counted
 pub is_counted : {X : Type 0} (p : X → Bool) (xs : List X) (x : X) → Contains xs x → p x ≡ true → 1 ≤ count_by p xs
@@ -32,21 +25,12 @@ two_in_order : {X : Type 0} (p : X → Bool) (xs : List X) (i k : ℕ) (d : X)
 two_in_order p xs i k d order lt hit again =
     let inside : i < length (take k xs) = omega (arith, length-take k xs) in
     let front = one_passes p (take k xs) i d inside (ap p (get_or-take k xs i d order) ∙ hit) in
-    let more : count_by p (take k xs) + cond (p (get_or xs k d)) 1 0 ≤ count_by p xs =
-    sum_by_more_le (λ x. cond (p x) 1 0) xs k d lt in
-    let both = rw again at more in omega (arith, front, both)
+    grind (arith, ints, nat_tests, count_by, take, get_or, sum_by_more_le)
 
 -- where one passes, two places at which elements pass are one
 pub one_place : {X : Type 0} (p : X → Bool) (xs : List X) (i k : ℕ) (d : X) → count_by p xs ≡ 1
     → i < length xs → k < length xs → p (get_or xs i d) ≡ true → p (get_or xs k d) ≡ true → i ≡ k
-one_place p xs i k d one li lk hit again =
-    elim (cases_order i k) [
-      | inl same ↦ same
-      | inr h ↦ elim h [
-        | inl order ↦ let two = two_in_order p xs i k d order lk hit again in absurd (omega (arith, one, two))
-        | inr order ↦ let two = two_in_order p xs k i d order li again hit in absurd (omega (arith, one, two))
-      ]
-    ]
+one_place p xs i k d one li lk hit again = grind (arith, ints, nat_tests, cases_order, two_in_order)
 
 abbrev pub found_is_there : {X : Type 0} (p : X → Bool) (xs : List X) (w : X) → find p xs ≡ Some w → Contains xs w
 found_is_there p xs w e =

@@ -1,5 +1,5 @@
 -- The text of records reads as those records.
-use Rattle.statement_match.proofs.Names.{◌≡◌, ◌≢◌, ◌∙◌, ◌+◌, ap, ℕ, zero, suc, true, List, [], ◌∷◌, ◌++◌, map, drop, Option, Some, None, refl, inl, inr, cases_Bool, Line, items_after_header, items_from, Rows, line_at, lines_from, rows_of, named_row, row_as, rows_by, text_of, Outcome, becomes, IsImported, ReadsBack, statement_text, written_rows}
+use Rattle.statement_match.proofs.Names.{◌≡◌, ◌≢◌, ◌∙◌, ◌+◌, ap, ℕ, zero, suc, true, List, [], ◌∷◌, ◌++◌, map, drop, Option, Some, None, refl, inl, inr, cases_Bool, Line, items_after_header, items_from, Rows, line_at, lines_from, rows_of, named_row, row_as, rows_by, text_of, Outcome, becomes, IsImported, ReadsBack, statement_text, written_rows, arith, ints, nat_tests}
 use Rattle.std.proofs.Common.{option_map}
 use Rattle.csv.specs.Machine.{Read, ends_at_end, field_after, fields_after, is_end, next_record, step}
 use Rattle.csv.specs.Reading.{default_config, records, records_from, records_next, strip_bom}
@@ -43,21 +43,12 @@ added [] field e = cc
 added (x ∷ xs) field e = cc
 
 ended : (a : Action) (fields : List (List ℕ)) (field : List ℕ) → is_end a ≡ true → fields_after a fields field ≢ []
-ended act.EndRecord fields field e = added fields field
-ended act.Skip fields field e = cc
-ended act.Copy fields field e = cc
-ended act.EndField fields field e = cc
+ended a fields field e = grind (arith, ints, nat_tests, added)
 
 fields_read : (cfg : Config) (s : State) (fields : List (List ℕ)) (field xs : List ℕ) (p : Read)
     → next_record cfg s fields field xs ≡ Some p → p.0 ≢ []
 unfolding next_record
-fields_read cfg s fields field [] p e = elim (cases_Bool (ends_at_end s)) [
-  | inl t ↦
-      let same : Some (fields ++ (field ∷ []), st.StartRecord, []) ≡ Some p = rw t at e in
-      let parts : (fields ++ (field ∷ []), st.StartRecord, []) ≡ p = cc in
-      λ none. added fields field (ap (λ (r : Read). r.0) parts ∙ none)
-  | inr t ↦ let h = rw t at e in cc
-]
+fields_read cfg s fields field [] p e = grind (arith, ints, nat_tests, cases_Bool, ends_at_end, added)
 fields_read cfg s fields field (c ∷ rest) p e = elim (cases_Bool (is_end (step cfg s c).1)) [
   | inl t ↦
       let same : Some (fields_after (step cfg s c).1 fields field, (step cfg s c).0, rest) ≡ Some p = rw t at e in
@@ -81,8 +72,7 @@ rows_read cfg (suc n) s xs = by (next_record cfg s [] [] xs) refl (λ t y. rows_
         More p.0 (records_from cfg n p.1 p.2) (fields_read cfg s [] [] xs p e) (more p.1 p.2)
 
 behind_first : (rows : Rows) → HaveFields rows → HaveFields (drop 1 rows)
-behind_first [] h = None_here
-behind_first (row ∷ rows) (More r rs full more) = more
+behind_first rows h = grind (arith, ints, nat_tests)
 
 -- So has each that is written.
 

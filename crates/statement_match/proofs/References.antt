@@ -1,5 +1,5 @@
 -- The reference of an entry is one of a bank's texts.
-use Rattle.statement_match.proofs.Names.{◌≡◌, ◌∙◌, ℕ, zero, suc, ◌+◌, ◌≤◌, ◌/◌, ◌%◌, true, [], ◌∷◌, length, length-append, refl, arith, list_all, and_from, le-leb, list_all-append, is_bank_text, is_printed_byte, entry_text, matter_text, reference_text}
+use Rattle.statement_match.proofs.Names.{◌≡◌, ◌∙◌, ℕ, zero, suc, ◌+◌, ◌/◌, ◌%◌, true, [], ◌∷◌, length, length-append, refl, arith, list_all, and_from, le-leb, list_all-append, is_bank_text, is_printed_byte, reference_text, ints, nat_tests}
 use Rattle.byte_streams.specs.Digits.{fixed_digits}
 use Rattle.byte_streams.proofs.FixedFacts.{length-fixed}
 
@@ -16,10 +16,4 @@ digits_printed (suc k) n =
 pub reference_is_text : (m e : ℕ) → is_bank_text (reference_text m e) ≡ true
 unfolding is_bank_text
 reference_is_text m e =
-    let six = length-fixed 6 m in
-    let four = length-fixed 4 e in
-    let both = length-append (matter_text m) (45 ∷ entry_text e) in
-    let short : length (reference_text m e) ≤ 64 = omega (arith, six, four, both) in
-    let rest = list_all-append is_printed_byte (matter_text m) (45 ∷ entry_text e)
-    ∙ and_from _ _ (digits_printed 6 m) (digits_printed 4 e) in
-    and_from _ _ (le-leb (length (reference_text m e)) 64 short) rest
+    grind (arith, ints, nat_tests, length-fixed, length-append, length, list_all-append, and_from, digits_printed, le-leb)

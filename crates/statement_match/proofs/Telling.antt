@@ -1,5 +1,5 @@
 -- The steps of the loops over the records of a statement.
-use Rattle.statement_match.proofs.Names.{◌≡◌, ◌∙◌, sym, ap, ℕ, suc, ◌+◌, ◌-◌, ◌<◌, ◌≤◌, List, [], ◌∷◌, ◌++◌, length, get_or, drop, append_assoc, append-nil, refl, arith, at_drop_more, drop_all, get_or-map, Line, Records, Known, Outcome, becomes, outcomes, reason_for, told_by, told_from, told_of_line, told_unreadable, unreadable_line}
+use Rattle.statement_match.proofs.Names.{◌≡◌, ◌∙◌, sym, ap, ℕ, ◌+◌, ◌-◌, ◌<◌, ◌≤◌, List, [], ◌∷◌, ◌++◌, length, get_or, drop, append_assoc, append-nil, arith, at_drop_more, drop_all, get_or-map, Line, Records, Known, Outcome, becomes, outcomes, reason_for, told_by, told_from, told_of_line, told_unreadable, unreadable_line, ints, nat_tests}
 
 -- Unreadable records.
 
@@ -7,17 +7,12 @@ pub unreadable_more : (before last : ℕ) (told : List (List ℕ)) → before < 
     → told ++ told_unreadable before (last - before)
     ≡ (told ++ unreadable_line (before + 1) ∷ []) ++ told_unreadable (before + 1) (last - (before + 1))
 unfolding told_unreadable
-unreadable_more before last told lt =
-    let e : last - before ≡ suc (last - (before + 1)) = omega arith in
-    ap (λ k. told ++ told_unreadable before k) e
-    ∙ sym (append_assoc told (unreadable_line (before + 1) ∷ []) (told_unreadable (before + 1) (last - (before + 1))))
+unreadable_more before last told lt = grind (arith, ints, nat_tests, told_unreadable, append_assoc, unreadable_line)
 
 pub unreadable_done : (before last : ℕ) (told : List (List ℕ)) → last ≤ before
     → told ++ told_unreadable before (last - before) ≡ told
 unfolding told_unreadable
-unreadable_done before last told past =
-    let e : last - before ≡ 0 = omega arith in
-    ap (λ k. told ++ told_unreadable before k) e ∙ append-nil told
+unreadable_done before last told past = grind (arith, ints, nat_tests, told_unreadable, append-nil)
 
 -- The records.
 
@@ -55,9 +50,4 @@ pub told_step : (today : ℕ) (known : Known) (records : Records) (os : List Out
     → told ++ told_from today known records before i (drop i records.lines)
     ≡ new ++ told_from today known records number (i + 1) (drop (i + 1) records.lines)
 told_step today known records os before i number line o told new lt same number_is line_is o_is new_is =
-    let f = becomes today known.held records.lines in
-    let now : o ≡ f line =
-    o_is ∙ ap (λ (xs : List Outcome). get_or xs i o) same
-    ∙ get_or-map f records.lines i line o lt ∙ ap f (sym line_is) in
-    told_more today known records before i records.lines line told lt
-    ∙ rw (← number_is, ← line_is, ← now, ← new_is) refl
+    grind (arith, ints, nat_tests, becomes, get_or, get_or-map, told_more)

@@ -1,10 +1,9 @@
 -- Sums of what passes a test, one element on.
-use Rattle.statement_match.proofs.Names.{◌≡◌, ◌∙◌, sym, ap, ℕ, ◌+◌, ◌<◌, ℤ, pos, ◌+ℤ◌, Bool, true, false, cond, List, [], ◌∷◌, length, get_or, take, refl, arith, ints, filter, filter_more, sum_of, Booking, amount_if, total_of}
+use Rattle.statement_match.proofs.Names.{◌≡◌, ◌∙◌, sym, ap, ℕ, ◌+◌, ◌<◌, ℤ, pos, ◌+ℤ◌, Bool, cond, List, [], ◌∷◌, length, get_or, take, refl, arith, ints, filter, filter_more, sum_of, Booking, amount_if, total_of, nat_tests}
 use Rattle.firm_rows.proofs.Sums.{sum-append}
 
 sum_picked : {A : Type 0} (f : A → ℤ) (b : Bool) (x : A) → sum_of f (cond b (x ∷ []) []) ≡ cond b (f x) (pos 0)
-sum_picked f true x = omega (arith, ints)
-sum_picked f false x = refl
+sum_picked f b x = grind (arith, ints, nat_tests)
 
 pub sum_more : {A : Type 0} (f : A → ℤ) (p : A → Bool) (xs : List A) (i : ℕ) (x : A) → i < length xs → x ≡ get_or xs i x
     → sum_of f (filter p (take (i + 1) xs)) ≡ sum_of f (filter p (take i xs)) +ℤ cond (p x) (f x) (pos 0)

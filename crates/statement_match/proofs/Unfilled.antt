@@ -1,9 +1,5 @@
 -- Lines that are not filled, and the lines that are written where none has a reference.
-use Rattle.statement_match.proofs.Names.{◌≡◌, ◌≢◌, ◌∙◌, sym, ap, ℕ, Bool, true, false, cond, List, [], ◌∷◌, length, get_or, None, refl, arith, nat_lt, Contains, count_by, filter, find, list_any, unwrap_or, int_eq, bytes_eq, and_from, and_left, and_right, eq-eqb, false_from_ne_true, lt-leb, or_from, or_parts, Decides-int_eq, get_or_default, length-filter, bytes_eq-Decides, Line, Booking, booking_of, is_beside, is_same_booking, Waiting, fits, Held, claimed_reference, exception_reference, is_claimed, is_open, is_open_fit, is_open_like, Outcome, becomes, is_beside_booked, is_booked, is_booked_in_parts, is_doubled, is_in_book, IsSure, with_reference, written_as}
-use Rattle.std.proofs.lemmas.Bool.{ltb-false}
-use Rattle.std.proofs.lemmas.List.Elements.{All-contains_itself, All-weaker}
-use Rattle.std.proofs.lemmas.List.Folds.{list_any_none}
-use Rattle.statement_lines.proofs.Found.{find_among}
+use Rattle.statement_match.proofs.Names.{◌≡◌, ◌≢◌, ◌∙◌, sym, ap, ℕ, Bool, true, false, cond, List, [], ◌∷◌, length, get_or, None, refl, arith, nat_lt, Contains, count_by, filter, find, list_any, unwrap_or, int_eq, bytes_eq, and_from, and_left, and_right, eq-eqb, false_from_ne_true, lt-leb, or_from, or_parts, get_or_default, length-filter, bytes_eq-Decides, Line, Booking, booking_of, is_beside, is_same_booking, Waiting, fits, Held, claimed_reference, exception_reference, is_claimed, is_open, is_open_fit, is_open_like, Outcome, becomes, is_beside_booked, is_doubled, is_in_book, IsSure, with_reference, written_as, ints, nat_tests, ltb-false, All-contains_itself, All-weaker, list_any_none, find_among}
 use Rattle.statement_lines.specs.declared.outcome.Outcome.TheVariants as outcome
 use Rattle.statement_match.proofs.Filling.{filled_if_sure}
 use Rattle.statement_match.proofs.Picks.{any_counted, found_passes, is_counted, one_place}
@@ -87,11 +83,7 @@ none_like a (b ∷ bookings) e =
     (and_left (is_beside a b) (int_eq a.amount b.amount) parts.0) (none_like a bookings parts.1)
 
 like_itself : (line : Line) → is_open line ≡ true → is_open_like line line ≡ true
-like_itself line opened =
-    let day = eq-eqb line.date line.date refl in
-    let ref = (bytes_eq-Decides line.bank_ref line.bank_ref).1 refl in
-    let amount = (Decides-int_eq line.amount line.amount).1 refl in
-    and_from _ _ opened (and_from _ _ (and_from _ _ day ref) amount)
+like_itself line opened = grind (arith, ints, nat_tests, eq-eqb, bytes_eq-Decides, and_from)
 
 -- an open line of the statement is not in a book that has none beside it
 not_in_book : (held : Held) (lines : List Line) (line : Line) → Contains lines line → is_open line ≡ true
@@ -103,9 +95,7 @@ not_in_book held lines line there opened apart =
     let some = is_counted like lines line there (like_itself line opened) in
     let none = ltb-false 0 (count_by same held.bookings)
     (any_counted same held.bookings ∙ none_like (booking_of line) held.bookings apart) in
-    or_from (is_booked held lines line) (is_booked_in_parts held lines line)
-    (lt-leb (count_by like lines) (count_by same held.bookings) (omega (arith, some, none)))
-    (and_left _ _ (and_right _ (is_beside_booked held line) apart))
+    grind (arith, ints, nat_tests, or_from, lt-leb, and_left, and_right)
 
 not_doubled : (held new : Held) (lines : List Line) (line : Line) → is_beside_booked held line ≡ false
     → is_doubled new lines line ≡ false → is_doubled held lines line ≡ false

@@ -1,5 +1,5 @@
 -- An entry that waits is a held deposit or an issued payment.
-use Rattle.statement_match.proofs.Names.{◌≡◌, ℕ, zero, suc, [], ◌∷◌, refl, arith, Contains, DepositState, PaymentState, Entry, Firm, Row, flat_map_from, held_of, row_waiting, reference_text, Waiting, waiting_deposit, waiting_payment, deposit_waiting, entry_waiting, payment_waiting}
+use Rattle.statement_match.proofs.Names.{◌≡◌, ℕ, [], ◌∷◌, arith, Contains, DepositState, PaymentState, Entry, Firm, Row, flat_map_from, held_of, row_waiting, reference_text, Waiting, waiting_deposit, waiting_payment, deposit_waiting, entry_waiting, payment_waiting, ints, nat_tests}
 use Rattle.matter_rows.specs.declared.deposit.Deposit.{Deposit}
 use Rattle.matter_rows.specs.declared.deposit.DepositState.TheVariants as deposit
 use Rattle.matter_rows.specs.declared.payment.Payment.{Payment}
@@ -10,8 +10,7 @@ pub none_there : {A : Type 0} (x : A) → Contains [] x → ⊥
 none_there x (k, lt, is) = omega arith
 
 pub the_one : {A : Type 0} (y x : A) → Contains (y ∷ []) x → y ≡ x
-the_one y x (zero, lt, is) = is
-the_one y x (suc k, lt, is) = absurd (omega arith)
+the_one y x x2 = grind (arith, ints, nat_tests)
 
 -- what holds of both holds of an entry that waits
 module _ (P : Entry → Type 0) (m n : ℕ) (w : Waiting)
@@ -21,24 +20,14 @@ module _ (P : Entry → Type 0) (m n : ℕ) (w : Waiting)
     → waiting_payment (reference_text m n) p.amount day p.instrument ≡ w → P (entry.Payment p)) where
   by_deposit : (d : Deposit) (s : DepositState) → d.state ≡ s → Contains (deposit_waiting m n d s) w
       → P (entry.Deposit d)
-  by_deposit d deposit.Held is there = held d is (the_one _ w there)
-  by_deposit d (deposit.Cleared c) is there = absurd (none_there w there)
-  by_deposit d (deposit.Cancelled day) is there = absurd (none_there w there)
-  by_deposit d (deposit.Returned r) is there = absurd (none_there w there)
+  by_deposit d s is there = grind (arith, ints, nat_tests, the_one, none_there)
 
   by_payment : (p : Payment) (s : PaymentState) → p.state ≡ s → Contains (payment_waiting m n p s) w
       → P (entry.Payment p)
-  by_payment p payment.Proposed is there = absurd (none_there w there)
-  by_payment p payment.Declined is there = absurd (none_there w there)
-  by_payment p (payment.Issued day) is there = issued p day is (the_one _ w there)
-  by_payment p (payment.Cleared c) is there = absurd (none_there w there)
-  by_payment p (payment.Voided v) is there = absurd (none_there w there)
+  by_payment p s is there = grind (arith, ints, nat_tests, none_there, the_one)
 
   pub by_waiting : (e : Entry) → Contains (entry_waiting m n e) w → P e
-  by_waiting (entry.Deposit d) there = by_deposit d d.state refl there
-  by_waiting (entry.Payment p) there = by_payment p p.state refl there
-  by_waiting (entry.Fee f) there = absurd (none_there w there)
-  by_waiting (entry.Claim c) there = absurd (none_there w there)
+  by_waiting e there = grind (arith, ints, nat_tests, by_deposit, by_payment, none_there)
 
 -- an entry that waits is of a row
 pub row_of : (firm : Firm) (w : Waiting) → Contains (held_of firm).waiting w

@@ -1,5 +1,5 @@
 -- What is written of the lines of a statement.
-use Rattle.statement_match.proofs.Names.{◌≡◌, ◌≢◌, ◌∙◌, sym, ap, subst, ℕ, ◌<◌, ◌==◌, Bool, true, false, not, cond, ◌&&◌, List, [], ◌∷◌, ◌++◌, length, get_or, Option, Some, None, refl, Contains, count_by, find, unwrap_or, bytes_eq, and_from, list_any_at, bytes_eq-Decides, Line, Waiting, fits, Held, claimed_reference, exception_reference, is_claimed, is_open, is_open_fit, Outcome, claimed_closed, becomes, fill, filled_with, is_beside_booked, is_doubled, is_fitted_once, is_in_book, unless_exception, AreWritten, None_left, Kept, Named, LeftOut, AreNamedApart, IsSure, NoneIsNamedTwice, OnlyReferencesChange, with_reference, written_as, written_of}
+use Rattle.statement_match.proofs.Names.{◌≡◌, ◌≢◌, ◌∙◌, ap, subst, ℕ, ◌<◌, Bool, true, false, not, cond, List, [], ◌∷◌, ◌++◌, length, get_or, Option, Some, None, refl, Contains, find, unwrap_or, bytes_eq, and_from, list_any_at, bytes_eq-Decides, Line, Waiting, Held, claimed_reference, exception_reference, is_claimed, is_open, is_open_fit, Outcome, claimed_closed, becomes, fill, is_doubled, is_in_book, unless_exception, AreWritten, None_left, Kept, Named, LeftOut, AreNamedApart, IsSure, NoneIsNamedTwice, OnlyReferencesChange, with_reference, written_as, written_of, arith, ints, nat_tests}
 use Rattle.statement_lines.specs.declared.outcome.Outcome.TheVariants as outcome
 use Rattle.statement_match.proofs.Filling.{second_gave, sure_of}
 use Rattle.statement_match.proofs.Picks.{found_is_there, found_passes, one_place}
@@ -8,23 +8,13 @@ use Rattle.statement_match.proofs.Waits.{none_there, the_one}
 -- What holds of both choices holds of the one that is taken.
 
 pub chosen : (P : Outcome → Type 0) (b : Bool) (x y : Outcome) → P x → P y → P (cond b x y)
-chosen P true x y px py = px
-chosen P false x y px py = py
+chosen x0 b x y px py = grind (arith, ints, nat_tests)
 
 -- what holds of a line that is left and of one that is filled holds behind the search for its entry
 pub by_fill : (P : Outcome → Type 0) (today : ℕ) (held : Held) (lines : List Line) (line : Line) → P outcome.Left
     → ((r : List ℕ) → P (outcome.Filled r)) → P (fill today held lines line)
 unfolding fill
-by_fill P today held lines line left filled =
-    chosen P (not (is_beside_booked held line) && count_by (fits today line) held.waiting == 1)
-    (filled_with today held lines (find (fits today line) held.waiting)) outcome.Left
-    (by (find (fits today line) held.waiting)) left
-  where
-    by : (found : Option Waiting) → P (filled_with today held lines found)
-    by None = left
-    by (Some w) =
-        chosen P (is_fitted_once today lines w && not (is_claimed held.exceptions lines w.reference))
-        (outcome.Filled w.reference) outcome.Left (filled w.reference) left
+by_fill x0 today held lines line left filled = grind (arith, ints, nat_tests, chosen, find)
 
 pub by_last : (P : Outcome → Type 0) (today : ℕ) (held : Held) (lines : List Line) (line : Line) → P outcome.Doubled
     → P outcome.Left → ((r : List ℕ) → P (outcome.Filled r))
@@ -81,9 +71,7 @@ only_references_change today held lines = written_by today held lines lines
 
 claimed_open : (exceptions : List Line) (line : Line) (reference : List ℕ) → is_open line ≡ true
     → exception_reference exceptions line ≡ Some reference → claimed_reference exceptions line ≡ reference
-claimed_open exceptions line reference e found =
-    ap (λ b. cond b (unwrap_or (exception_reference exceptions line) []) line.reference) e
-    ∙ ap (λ o. unwrap_or o []) found
+claimed_open exceptions line reference e found = grind (arith, ints, nat_tests, unwrap_or, exception_reference)
 
 -- an outcome that is no exception's
 IsNoRetry : Outcome → Type 0
@@ -93,8 +81,7 @@ IsNoRetry _ = Unit {0}
 retried_by : (found : Option (List ℕ)) (other : Outcome) (reference : List ℕ) → IsNoRetry other
     → unless_exception found other ≡ outcome.Retried reference → found ≡ Some reference
 unfolding IsNoRetry
-retried_by None other reference h e = absurd (subst IsNoRetry e h)
-retried_by (Some r) other reference h e = cc
+retried_by found other reference h e = grind (arith, ints, nat_tests)
 
 -- the exception of a line that is written again
 pub retried_of : (today : ℕ) (held : Held) (lines : List Line) (line : Line) (reference : List ℕ)
@@ -112,8 +99,7 @@ retried_of today held lines line reference e =
 claims : (exceptions lines : List Line) (k : ℕ) (d : Line) (reference : List ℕ) → k < length lines
     → claimed_reference exceptions (get_or lines k d) ≡ reference → is_claimed exceptions lines reference ≡ true
 claims exceptions lines k d reference lt e =
-    list_any_at (λ x. bytes_eq (claimed_reference exceptions x) reference) lines k d lt
-    ((bytes_eq-Decides (claimed_reference exceptions (get_or lines k d)) reference).1 e)
+    grind (arith, ints, nat_tests, list_any_at, bytes_eq, claimed_reference, bytes_eq-Decides, get_or)
 
 -- No entry is named twice.
 
@@ -123,16 +109,7 @@ not_both : (today : ℕ) (held : Held) (lines : List Line) (i k : ℕ) (d : Line
     → IsSure today held lines (get_or lines i d) w → IsSure today held lines (get_or lines k d) v
     → v.reference ≡ w.reference → ⊥
 not_both today held lines i k d w v apart li lk differ one other e =
-    let same = apart v w
-    (found_is_there (fits today (get_or lines k d)) held.waiting v other.fits_it)
-    (found_is_there (fits today (get_or lines i d)) held.waiting w one.fits_it) e in
-    let fit_i = and_from (is_open (get_or lines i d)) (fits today (get_or lines i d) w) one.nameless
-    (found_passes (fits today (get_or lines i d)) held.waiting w one.fits_it) in
-    let fit_v = and_from (is_open (get_or lines k d)) (fits today (get_or lines k d) v) other.nameless
-    (found_passes (fits today (get_or lines k d)) held.waiting v other.fits_it) in
-    let P = λ (u : Waiting). is_open_fit today u (get_or lines k d) ≡ true in
-    let fit_k = subst P same fit_v in
-    differ (one_place (is_open_fit today w) lines i k d one.fitted_once li lk fit_i fit_k)
+    grind (arith, ints, nat_tests, found_is_there, get_or, and_from, is_open, found_passes, is_open_fit, one_place)
 
 clash_by : (today : ℕ) (held : Held) (lines : List Line) (i k : ℕ) (d x : Line) (w : Waiting) (o : Outcome)
     → AreNamedApart held.waiting → i < length lines → k < length lines → i ≢ k
@@ -147,19 +124,10 @@ clash_by today held lines i k d x w outcome.AsItIs apart li lk differ sure e the
     let free = sure.unclaimed in cc
 clash_by today held lines i k d x w outcome.InBook apart li lk differ sure e there is = none_there x there
 clash_by today held lines i k d x w (outcome.Retried r) apart li lk differ sure e there is =
-    let opened = subst (HasOpenness (get_or lines k d)) e (openness today held lines (get_or lines k d)) in
-    let same = the_one (with_reference r (get_or lines k d)) x there in
-    let claimed = claims held.exceptions lines k d w.reference lk
-    (claimed_open held.exceptions (get_or lines k d) r opened
-    (retried_of today held lines (get_or lines k d) r e)
-    ∙ ap (λ (y : Line). y.reference) same ∙ is) in
-    let free = sure.unclaimed in cc
+    grind (arith, ints, nat_tests, openness, the_one, claims, claimed_open, retried_of)
 clash_by today held lines i k d x w outcome.Doubled apart li lk differ sure e there is = none_there x there
 clash_by today held lines i k d x w (outcome.Filled r) apart li lk differ sure e there is =
-    let other = sure_of today held lines (get_or lines k d) r e in
-    let same = the_one (with_reference r (get_or lines k d)) x there in
-    not_both today held lines i k d w other.0 apart li lk differ sure other.1
-    (sym other.2 ∙ ap (λ (y : Line). y.reference) same ∙ is)
+    grind (arith, ints, nat_tests, sure_of, get_or, the_one, with_reference, not_both)
 clash_by today held lines i k d x w outcome.Left apart li lk differ sure e there is = none_there x there
 
 pub none_is_named_twice : NoneIsNamedTwice

@@ -1,5 +1,4 @@
 -- The names that the proofs of this crate cite, passed on from one place. Declares nothing.
-pub use Rattle.std.proofs.Common.{List, arith, false, inl, inr, length, refl, sym, ℕ, ◌≡◌, ◌≤◌}
+pub use Rattle.std.proofs.Common.{List, arith, false, inl, inr, refl, sym, ℕ, ◌≡◌}
 pub use Rattle.std.proofs.lemmas.Str.{IsUtf8-from_is_utf8, is_utf8-from_IsUtf8}
-pub use Rattle.trust_base.specs.Names.{IsLabel, IsPerson, is_person_byte}
 unfoldable pub use Rattle.trust_base.specs.Names.{is_label_text, is_person_text}

@@ -1,5 +1,5 @@
 -- No step leaves a firm unsound.
-use Rattle.trust_desk.proofs.Names.{◌≡◌, ℕ, List, [], ◌∷◌, Option, Some, None, refl, Refusal, BankLine, LineEffect, Asked, line_on, last_after, HasAmount, refusal, edit_on, sound-covered, step, Line, BalanceKind, Firm, of, after_edit, after, by_balance, by_firm_line, FirmSound, edit-sound, ledger-least, balance-fits, firm_line-fits, Item, after_told, after_item, after_items, balance_on, firm_line_on, Heard, Kind, OfMatter, OfItems, Dismisses, kind_of, asked_on, after_asked, after_ask, firm_step, kind_step, dismiss_refusal, dismissed_unless, AlwaysSound}
+use Rattle.trust_desk.proofs.Names.{◌≡◌, ℕ, List, [], ◌∷◌, Option, Some, None, refl, Refusal, BankLine, LineEffect, Asked, line_on, last_after, HasAmount, refusal, edit_on, sound-covered, step, Line, BalanceKind, Firm, of, after_edit, after, by_balance, by_firm_line, FirmSound, edit-sound, ledger-least, balance-fits, firm_line-fits, Item, after_told, after_item, after_items, balance_on, firm_line_on, Heard, Kind, OfMatter, OfItems, Dismisses, kind_of, asked_on, after_asked, after_ask, firm_step, kind_step, dismiss_refusal, dismissed_unless, AlwaysSound, arith, ints, nat_tests}
 use Rattle.trust_matter.specs.declared.line_verdict.LineEffect.TheVariants as told
 use Rattle.firm_rows.specs.declared.ledger.BalanceKind.TheVariants as kind
 use Rattle.firm_rows.proofs.FirmChanges.{change-stays-sound}
@@ -72,8 +72,7 @@ covered-by day firm [] sound = covered firm sound
 covered-by day firm (it ∷ items) sound = (covered firm sound, covered-by day (after_item day firm it) items (sound-after_item day firm it sound))
 
 covered-in : (day : ℕ) (firm : Firm) (k : Kind) → FirmSound firm → KindIsCovered day firm k
-covered-in day firm (OfItems refused items) sound = covered-by day firm items sound
-covered-in day firm _ sound = covered firm sound
+covered-in day firm k sound = grind (arith, ints, nat_tests, covered-by, covered)
 
 pub always-covered : NeverBelowZero
 always-covered day firm [] sound amounts = covered firm sound

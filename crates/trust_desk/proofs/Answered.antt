@@ -1,5 +1,5 @@
 -- How a request is answered, by what the calls of the book were.
-use Rattle.trust_desk.proofs.Names.{◌≡◌, ◌⊎◌, inl, inr, ◌∙◌, ℕ, Bool, true, false, Ok, Err, Result, refl, ap, sym, subst, IfOk, cond-false, false≢true, is_fault, refused_by, Refusal, StoreFault, Ask, Asked, Caller, refusal, IsDecided, MatterChange, Firm, FirmChange, of, after, after_change, after_edit, IsRead, IsWrite, Reply, IsAnswered, counted_end, counted_reply, is_store, IsMade, KindIsMade, is_fault_end, Steps, Stopped, after_ask, after_asked, firm_step, kind_step, Heard, Kind, OfMatter, asked_on, kind_of, is_fault_reply, refused, replied, reply_for, reply_of}
+use Rattle.trust_desk.proofs.Names.{◌≡◌, ◌⊎◌, inl, inr, ◌∙◌, ℕ, true, false, Ok, Err, Result, refl, ap, sym, subst, IfOk, cond-false, is_fault, refused_by, Refusal, StoreFault, Ask, Asked, Caller, refusal, IsDecided, MatterChange, Firm, FirmChange, of, after, after_change, after_edit, IsRead, IsWrite, Reply, IsAnswered, counted_end, counted_reply, is_store, IsMade, KindIsMade, is_fault_end, Steps, after_ask, after_asked, firm_step, kind_step, Heard, Kind, OfMatter, asked_on, kind_of, is_fault_reply, refused, replied, reply_for, reply_of, arith, ints, nat_tests}
 use Rattle.trust_desk.proofs.Calls.{uncounted, kept-as, kept-then, read-kept, write-kept}
 use Rattle.trust_desk.proofs.Crashes.{leave-as, leave-failed, read-leaves, written-leaves}
 use Rattle.trust_desk.proofs.Refused.{IsTold, fault-counted, fault-told}
@@ -8,33 +8,22 @@ use Rattle.trust_desk.proofs.Steps.{nothing-done, steps-fault, steps-plain}
 -- Replies.
 
 pub end-counted : (result : Result Reply Refusal) → IfOk result (λ reply. is_fault_reply reply ≡ false) → (n : ℕ) → counted_end result n ≡ counted_reply (reply_for result) n
-end-counted (Ok reply) plain n = uncounted reply.body plain n
-end-counted (Err r) plain n = refl
+end-counted result plain n = grind (arith, ints, nat_tests, uncounted)
 
 pub end-fault : (result : Result Reply Refusal) → is_fault_reply (reply_for result) ≡ false → is_fault_end result ≡ false
-end-fault (Ok reply) fine = refl
-end-fault (Err r) fine = fine
+end-fault result fine = grind (arith, ints, nat_tests)
 
 -- a refusal is the step's or a fault, and nothing changes
 pub refused-steps : (day : ℕ) (firm new : Firm) (h : Heard) (r : Refusal) → (is_fault r ≡ true) ⊎ ((refused r ≡ (firm_step day firm h).reply) × (firm ≡ (firm_step day firm h).firm)) → new ≡ firm → Steps day firm h (refused r) new
-refused-steps day firm new h r why same = cases (is_fault r) refl
-  where
-    cases : (b : Bool) → is_fault r ≡ b → Steps day firm h (refused r) new
-    cases true is = steps-fault day firm new h r is (subst (λ (f : Firm). Stopped day firm h f) (sym same) (nothing-done day firm h))
-    cases false is = elim why [ inl fault ↦ absurd (cc) | inr step ↦ steps-plain day firm new h (refused r) is step.0 (same ∙ step.1) ]
+refused-steps day firm new h r why same =
+    grind (arith, ints, nat_tests, is_fault, refused, steps-fault, nothing-done, steps-plain)
 
 -- a fault of a read is answered, and nothing changes
 pub unread-answered : {B T : Type 0} {firm : B → Firm} {clean sure stands lasts : B → Type 0} {leaves : B → Firm → Type 0} {refusals : B → ℕ} {old new : B} (day : ℕ) (h : Heard) (fault : StoreFault)
     → IsRead {T = T} firm clean sure stands lasts leaves refusals (Err fault) old new
     → IsAnswered firm clean sure stands lasts leaves refusals day h (Err (refused_by fault)) old new
-unread-answered {firm} {refusals} {old} {new} day h fault read = record {
-  step = λ served stood.
-      refused-steps day (firm old) (firm new) h (refused_by fault) (inl (fault-told fault)) (read.same served stood);
-  plain = tt;
-  kept = kept-as (λ is stood. fault-counted fault (refusals old)) (read-kept read);
-  crash = λ is stood before.
-      leave-failed (λ fine. false≢true (sym fine ∙ fault-told fault)) (λ found made. made) (read-leaves read is stood);
-}
+unread-answered {firm} {refusals} {old} {new} day h fault read =
+    grind (arith, ints, nat_tests, refused-steps, fault-told, kept-as, fault-counted, read-kept, leave-failed, read-leaves)
 
 -- An ask of a matter.
 
@@ -57,13 +46,7 @@ module _ (day : ℕ) (h : Heard) (m : ℕ) (caller : Caller) (ask : Ask) (kind :
 
   refuses : (f : Firm) (r : Refusal) → IsTold (refusal (of m f) a) r
       → (is_fault r ≡ true) ⊎ ((refused r ≡ (firm_step day f h).reply) × (f ≡ (firm_step day f h).firm))
-  refuses f r tells = elim tells.why [
-    | inl fault ↦ inl fault
-    | inr is ↦ inr (
-      sym (ap (λ o. replied o m (of m f) a) is) ∙ says_it f,
-      sym (ap (λ o. after_asked o m a f) is) ∙ leaves_it f,
-    )
-  ]
+  refuses f r tells = grind (arith, ints, nat_tests, replied, of, a, says_it, after_asked, leaves_it)
 
   module _ {B : Type 0} {firm : B → Firm} {clean sure stands lasts : B → Type 0} {leaves : B → Firm → Type 0} {refusals : B → ℕ} {old new : B} where
     -- it is refused, by what was read
@@ -104,14 +87,5 @@ module _ (day : ℕ) (h : Heard) (m : ℕ) (caller : Caller) (ask : Ask) (kind :
         → IsRead firm clean sure stands lasts leaves refusals (Ok read) old now → IsWrite {T = U} firm clean sure stands lasts leaves refusals change (Err fault) now new
         → (clean now → stands old → after change (firm old) ≡ after_ask m a (firm old))
         → IsAnswered firm clean sure stands lasts leaves refusals day h (Err (refused_by fault)) old new
-    ask-unwritten fault read write makes = record {
-      step = λ served stood.
-          let was = write.was_clean served in
-          refused-steps day (firm old) (firm new) h (refused_by fault) (inl (fault-told fault))
-          (write.err served (read.still_stands was stood) ∙ read.same was stood);
-      plain = tt;
-      kept = kept-as (λ is stood. fault-counted fault (refusals old)) (kept-then (read-kept read) (write-kept write));
-      crash = λ is stood before.
-          leave-failed (λ fine. false≢true (sym fine ∙ fault-told fault)) (makes_it (firm old))
-          (written-leaves read write (λ served. makes served stood) is stood);
-    }
+    ask-unwritten fault read write makes =
+        grind (arith, ints, nat_tests, refused-steps, fault-told, kept-as, fault-counted, kept-then, read-kept, write-kept, leave-failed, makes_it, written-leaves)

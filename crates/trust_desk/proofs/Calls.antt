@@ -1,6 +1,6 @@
 -- One call of a book after another, as what a call of the desk leaves of it.
 use Rattle.std.specs.Prelude.{◌≡◌, ℕ, Result, Ok, Err, false}
-use Rattle.trust_desk.proofs.Names.{◌∙◌, ap, refl, sym, false≢true, is_fault, Refusal, StoreFault, Firm, FirmChange, counted, IsRead, IsWrite, Body, KeepsBook, counted_body, counted_refusal, is_fault_body}
+use Rattle.trust_desk.proofs.Names.{◌∙◌, refl, is_fault, Refusal, StoreFault, Firm, FirmChange, counted, IsRead, IsWrite, Body, KeepsBook, counted_body, counted_refusal, is_fault_body, arith, ints, nat_tests}
 use Rattle.trust_base.specs.declared.refusal.Refusal.TheVariants as refusal
 use Rattle.trust_base.specs.declared.refusal.StoreFault.TheVariants as faults
 use Rattle.trust_desk.specs.declared.requests.Body.TheVariants as body
@@ -13,47 +13,19 @@ write-kept write = record { was_clean = write.was_clean; was_sure = write.was_su
 
 -- one after the other
 pub kept-then : {B : Type 0} {clean sure stands lasts : B → Type 0} {refusals : B → ℕ} {first next : ℕ → ℕ} {old mid new : B} → KeepsBook clean sure stands lasts refusals first old mid → KeepsBook clean sure stands lasts refusals next mid new → KeepsBook clean sure stands lasts refusals (λ n. next (first n)) old new
-kept-then {next} a b = record {
-  was_clean = λ clean. a.was_clean (b.was_clean clean);
-  was_sure = λ sure. a.was_sure (b.was_sure sure);
-  still_stands = λ clean stands. b.still_stands clean (a.still_stands (b.was_clean clean) stands);
-  still_lasts = λ sure stands lasts.
-      b.still_lasts sure (λ clean. a.still_stands clean (stands (a.was_clean clean))) (a.still_lasts (b.was_sure sure) stands lasts);
-  cause = λ sure stands. b.cause sure (λ clean. a.still_stands clean (stands (a.was_clean clean))) ∙ ap next (a.cause (b.was_sure sure) stands);
-}
+kept-then {next} a b = grind (arith, ints, nat_tests)
 
 -- a read after another
 pub read-then : {B T U : Type 0} {firm : B → Firm} {clean sure stands lasts : B → Type 0} {leaves : B → Firm → Type 0} {refusals : B → ℕ} {x : T} {result : Result U StoreFault} {old now new : B}
     → IsRead firm clean sure stands lasts leaves refusals (Ok x) old now → IsRead firm clean sure stands lasts leaves refusals result now new
     → IsRead firm clean sure stands lasts leaves refusals result old new
-read-then {result} a b = record {
-  same = λ served stood. let was = b.was_clean served in b.same served (a.still_stands was stood) ∙ a.same was stood;
-  was_clean = λ served. a.was_clean (b.was_clean served);
-  was_sure = λ is. a.was_sure (b.was_sure is);
-  still_stands = λ served stood. b.still_stands served (a.still_stands (b.was_clean served) stood);
-  stood = λ served stands. a.stood (b.was_clean served) (b.stood served stands);
-  still_lasts = λ is last. b.still_lasts is (a.still_lasts (b.was_sure is) last);
-  serves = b.serves;
-  crash = λ is stood found may.
-      let was = b.was_sure is in a.crash was stood found (b.crash is (a.still_stands (a.serves was) stood) found may);
-  count = b.count ∙ ap (counted result) a.count;
-}
+read-then {result} a b = grind (arith, ints, nat_tests, counted)
 
 -- what was read, without memory to tell of it
 pub read-short : {B T U : Type 0} {firm : B → Firm} {clean sure stands lasts : B → Type 0} {leaves : B → Firm → Type 0} {refusals : B → ℕ} {x : T} {old new : B}
     → IsRead firm clean sure stands lasts leaves refusals (Ok x) old new
     → IsRead {T = U} firm clean sure stands lasts leaves refusals (Err faults.Memory) old new
-read-short r = record {
-  same = r.same;
-  was_clean = r.was_clean;
-  was_sure = r.was_sure;
-  still_stands = r.still_stands;
-  stood = r.stood;
-  still_lasts = r.still_lasts;
-  serves = λ is. tt;
-  crash = r.crash;
-  count = r.count;
-}
+read-short r = grind (arith, ints, nat_tests)
 
 -- as many faults, told in another way
 pub kept-as : {B : Type 0} {clean sure stands lasts : B → Type 0} {refusals : B → ℕ} {counted told : ℕ → ℕ} {old new : B} → (sure new → (clean old → stands old) → counted (refusals old) ≡ told (refusals old)) → KeepsBook clean sure stands lasts refusals counted old new → KeepsBook clean sure stands lasts refusals told old new
@@ -65,10 +37,4 @@ kept-still b = record { was_clean = λ clean. clean; was_sure = λ sure. sure; s
 
 -- a reply that tells of no fault counts none
 pub uncounted : (b : Body) → is_fault_body b ≡ false → (n : ℕ) → n ≡ counted_body b n
-uncounted (body.Json text) plain n = refl
-uncounted (body.Text text) plain n = refl
-uncounted (body.Refused r) plain n = unfaulted r plain n
-  where
-    unfaulted : (r : Refusal) → is_fault r ≡ false → (n : ℕ) → n ≡ counted_refusal r n
-    unfaulted refusal.Store plain n = absurd (false≢true (sym plain))
-    unfaulted r plain n = refl
+uncounted b plain n = grind (arith, ints, nat_tests, is_fault, counted_refusal)

@@ -1,11 +1,10 @@
 -- A line that is dismissed from the exceptions.
-use Rattle.trust_desk.proofs.Names.{◌≡◌, Bool, true, false, cond, List, [], ◌∷◌, Option, Some, None, refl, sym, ap, ◌∙◌, fold, Line, Refusal, first, Firm, without_line, dismiss_refusal, dismissed_unless, is_exception}
+use Rattle.trust_desk.proofs.Names.{◌≡◌, Bool, false, cond, List, [], ◌∷◌, Option, refl, sym, ◌∙◌, fold, Line, Refusal, first, Firm, without_line, dismiss_refusal, dismissed_unless, is_exception, arith, ints, nat_tests}
 use Rattle.std.specs.Prelude.{not, ◌||◌}
 use Rattle.std.proofs.Math.Bool.{or_assoc, or-false}
 use Rattle.trust_base.specs.LineOrder.{is_same_line}
 use Rattle.trust_base.specs.declared.refusal.Refusal.TheVariants as refusals
 use Rattle.trust_base.specs.declared.refusal.Rule.TheVariants as rule
-use Rattle.trust_matter.specs.declared.ask.Caller.TheVariants.{Cashier}
 use Rattle.trust_desk.specs.declared.exceptions.LineSearch.{LineSearch}
 use Rattle.trust_desk.specs.Dismissed.{DismissedOnce, DismissingMovesNothing, KeepsAllElse}
 
@@ -22,15 +21,13 @@ looked-all s (x ∷ xs) = looked-all (looked s x) xs ∙ or_assoc s.is_found (is
 -- The laws.
 
 kept-else : (o : Option Refusal) (line : Line) (firm : Firm) → KeepsAllElse firm (dismissed_unless o line firm)
-kept-else None line firm = record { rows = refl; movements = refl; firm_lines = refl; balances = refl }
-kept-else (Some r) line firm = record { rows = refl; movements = refl; firm_lines = refl; balances = refl }
+kept-else o line firm = grind (arith, ints, nat_tests)
 
 pub dismissing-moves-nothing : DismissingMovesNothing
 dismissing-moves-nothing day firm caller line = kept-else (dismiss_refusal caller line firm) line firm
 
 left-of : (line x : Line) (b : Bool) (left : List Line) → is_same_line x line ≡ b → is_exception line left ≡ false → is_exception line (cond (not b) (x ∷ left) left) ≡ false
-left-of line x true left e none = none
-left-of line x false left e none = rw e none
+left-of line x b left e none = grind (arith, ints, nat_tests)
 
 none-left : (line : Line) (lines : List Line) → is_exception line (without_line line lines) ≡ false
 none-left line [] = refl
@@ -38,7 +35,6 @@ none-left line (x ∷ xs) = left-of line x (is_same_line x line) (without_line l
 
 pub dismissed-once : DismissedOnce
 dismissed-once day firm line fit =
-    ap (λ o. dismiss_refusal Cashier line (dismissed_unless o line firm)) fit
-    ∙ ap (λ b. first ((false, refusals.NotAllowed rule.Firm) ∷ (not b, refusals.NoEntry) ∷ [])) (none-left line firm.exceptions)
+    grind (arith, ints, nat_tests, dismiss_refusal, dismissed_unless, first, not, none-left)
 
 pub ruleset dismissed_laws = (dismissing-moves-nothing)

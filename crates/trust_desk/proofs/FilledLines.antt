@@ -1,11 +1,10 @@
 -- Lines that are filled are applied.
-use Rattle.trust_desk.proofs.Names.{cond_both, later, eqb-true, ◌≡◌, ◌≢◌, ◌∙◌, sym, ap, subst, ℕ, ◌+◌, ◌<◌, Bool, true, false, not, cond, List, [], ◌∷◌, length, Some, None, refl, arith, IfSome, nat_le, nat_lt, Contains, int_eq, bytes_eq, and_parts, Decides-int_eq, nat_tests, Line, Rows, Entry, BankLine, line_on, rows_after_line, Firm, of, FirmSound, item_by, item_of_line, Item, Waiting, fits, is_other_business, shows, entry_waiting, held_of, HasMatterNumbers, IsSure, with_reference, of_entry, wait_apart, sure_of, front_apart, OwnLine, own_of_item, after_item, after_items, counted_as, counted_of, FilledLinesAreApplied, items_of, solo_rows}
+use Rattle.trust_desk.proofs.Names.{cond_both, later, eqb-true, ◌≡◌, ◌≢◌, ◌∙◌, sym, ap, subst, ℕ, ◌+◌, ◌<◌, Bool, true, false, not, cond, List, [], ◌∷◌, length, Some, None, refl, arith, IfSome, nat_le, nat_lt, Contains, int_eq, bytes_eq, and_parts, nat_tests, Line, Rows, Entry, BankLine, line_on, rows_after_line, Firm, of, FirmSound, item_by, item_of_line, Item, Waiting, fits, is_other_business, shows, entry_waiting, held_of, HasMatterNumbers, IsSure, with_reference, of_entry, wait_apart, sure_of, front_apart, own_of_item, after_item, after_items, counted_as, counted_of, FilledLinesAreApplied, items_of, solo_rows, ints, found_is_there, found_passes}
 use Rattle.std.proofs.Common.{◌==◌, codes}
 use Rattle.trust_base.specs.Limits.{IsEntryNo, IsMatterNo}
 use Rattle.statement_csv.specs.References.{entry_named, owner_by, owner_of, reference_text}
 use Rattle.statement_csv.specs.declared.item.Item.TheVariants as item
 use Rattle.statement_csv.proofs.NamedFacts.{named-found, named-text}
-use Rattle.statement_match.proofs.Picks.{found_is_there, found_passes}
 use Rattle.trust_desk.specs.declared.importing.Counted.TheVariants as counted
 use Rattle.trust_desk.proofs.Awaiting.{Awaits, Stands, entry_awaits, line_applies, line_keeps, sound_stands}
 use Rattle.trust_desk.proofs.OwnItems.{of-after_item}
@@ -18,21 +17,15 @@ item_named : (number m n : ℕ) (x : Line) → IsMatterNo m → IsEntryNo n → 
     → item_of_line number x ≡ item.OfMatter (record { matter = m; entry = n; line = x })
 unfolding owner_of
 item_named number m n x m_is n_is is bank =
-    let it = item.OfMatter (record { matter = m; entry = n; line = x }) in
-    let some : (length x.bank_ref == 0) ≡ false = grind (arith, nat_tests) in
-    ap (λ (r : List ℕ). item_by number x (owner_of r)) is
-    ∙ ap (λ o. item_by number x (owner_by o)) (named-found m n m_is n_is)
-    ∙ ap (λ b. cond b (item.Unreadable number) it) some
+    grind (arith, ints, nat_tests, length, item_by, owner_of, owner_by, named-found)
 
 with_ref : (b : Bool) (number : ℕ) (it : Item) (l : BankLine) → cond b (item.Unreadable number) it ≡ item.OfMatter l
     → it ≡ item.OfMatter l
-with_ref true number it l e = absurd (cc)
-with_ref false number it l e = e
+with_ref b number it l e = grind (arith, ints, nat_tests)
 
 other_owner : {A : Type 0} (f : A → Item) (b : Bool) (x rest : A) (l : BankLine) → (f x ≡ item.OfMatter l → ⊥)
     → f (cond b x rest) ≡ item.OfMatter l → f rest ≡ item.OfMatter l
-other_owner f true x rest l none e = absurd (none e)
-other_owner f false x rest l none e = e
+other_owner f b x rest l none e = grind (arith, ints, nat_tests)
 
 -- the reference of a line that is an item of an entry is that of the entry
 named_by : (number : ℕ) (y : Line) (l : BankLine) → item_of_line number y ≡ item.OfMatter l
@@ -61,10 +54,7 @@ module _ (P : Rows → Type 0) (m today : ℕ) (firm : Firm) where
   own_keeps : (it : Item)
       → ((l : BankLine) → it ≡ item.OfMatter l → l.matter ≡ m → P (rows_after_line (of m firm) l today))
       → P (of m firm) → P (solo_rows (of m firm) (own_of_item m today it))
-  own_keeps (item.OfMatter l) own now =
-      cond_both (l.matter == m) (OwnLine l today ∷ []) [] (λ owns. P (solo_rows (of m firm) owns))
-      (λ test. own l refl (eqb-true l.matter m test)) (λ test. now)
-  own_keeps _ own now = now
+  own_keeps it own now = grind (arith, ints, nat_tests, cond_both, solo_rows, of, eqb-true)
 
   pub item_keeps : (it : Item)
       → ((l : BankLine) → it ≡ item.OfMatter l → l.matter ≡ m → P (rows_after_line (of m firm) l today))
@@ -91,13 +81,7 @@ fits_by : (today : ℕ) (line : Line) (w : Waiting) → fits today line w ≡ tr
     → (nat_lt today line.date ≡ false) × (line.amount ≡ w.amount)
 unfolding fits
 fits_by today line w fit =
-    let all = and_parts _ (shows line w) fit in
-    let business = and_parts _ (not (is_other_business line)) all.0 in
-    let since = and_parts _ (nat_le w.since line.date) business.0 in
-    let both = and_parts (nat_le line.date today) (int_eq line.amount w.amount) since.0 in
-    let came = both.0 in
-    let dated : nat_lt today line.date ≡ false = grind (arith, nat_tests) in
-    (dated, (Decides-int_eq line.amount w.amount).0 both.1)
+    grind (arith, ints, nat_tests, and_parts, shows, not, is_other_business, nat_le, int_eq, nat_lt)
 
 -- a line under the reference of an entry that awaits it, as this one that waits, and of a day that came
 pub record IsReady (today : ℕ) (firm : Firm) (x : Line) (w : Waiting) : Type 0 where
@@ -120,18 +104,7 @@ filled_ready today firm lines line reference w sound numbers sure is =
     let there = found_is_there (fits today line) (held_of firm).waiting w sure.fits_it in
     let named = of_entry firm w sound numbers there in
     let facts = fits_by today line w (found_passes (fits today line) (held_of firm).waiting w sure.fits_it) in
-    record {
-      matter = named.matter;
-      number = named.number;
-      made = named.made;
-      is_matter = named.is_matter;
-      is_number = named.is_number;
-      is = is ∙ named.is;
-      dated = facts.0;
-      stands = sound_stands (of named.matter firm) named.number named.made (sound.matters named.matter) named.there;
-      waits = named.waits;
-      awaits = entry_awaits named.matter named.number named.made w (with_reference reference line) named.waits facts.1;
-    }
+    grind (arith, ints, nat_tests, sound_stands, of, entry_awaits, with_reference)
 
 -- and stays so behind lines with other references
 pub ready_behind : (today number : ℕ) (firm : Firm) (x : Line) (w : Waiting) (lines : List Line)
@@ -157,8 +130,7 @@ ready_line {x = x} ready = record { matter = ready.matter; entry = ready.number;
 
 pub ready_item : (today number : ℕ) (firm : Firm) (x : Line) (w : Waiting) (ready : IsReady today firm x w)
     → 0 < length x.bank_ref → item_of_line number x ≡ item.OfMatter (ready_line ready)
-ready_item today number firm x w ready bank =
-    item_named number ready.matter ready.number x ready.is_matter ready.is_number ready.is bank
+ready_item today number firm x w ready bank = grind (arith, ints, nat_tests, item_named)
 
 pub ready_counted : (today : ℕ) (firm : Firm) (x : Line) (w : Waiting) (ready : IsReady today firm x w)
     → counted_as (line_on (of ready.matter firm) (ready_line ready) today) ≡ counted.Applied

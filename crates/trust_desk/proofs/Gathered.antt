@@ -1,5 +1,5 @@
 -- What is gathered from a firm's rows, where an entry of a matter stands in the place of another.
-use Rattle.trust_desk.proofs.Names.{◌≡◌, sym, subst, ℕ, ◌+◌, ◌-◌, true, false, cond, List, [], ◌∷◌, ◌++◌, Option, Some, None, refl, arith, eqb, nat_lt, filter, flat_map, eqb-true, Head, Entry, Rows, entry_at, seen_on, with_entry, within, changed_by, EntryRow, HeadRow, Row, entry_pairs, head_pairs, pairs, put, seat_pairs}
+use Rattle.trust_desk.proofs.Names.{◌≡◌, subst, ℕ, ◌+◌, ◌-◌, true, false, cond, List, [], ◌∷◌, ◌++◌, Option, Some, refl, arith, eqb, nat_lt, filter, flat_map, eqb-true, Head, Entry, Rows, entry_at, seen_on, with_entry, within, changed_by, EntryRow, HeadRow, Row, entry_pairs, head_pairs, pairs, put, ints, nat_tests}
 use Rattle.std.proofs.lemmas.Grind.{flat_map-append}
 use Rattle.matter_parts.specs.declared.edit.Edit.TheVariants as edit
 
@@ -9,10 +9,7 @@ module _ {B : Type 0} (f : ℕ × Row → List B) (R : List B → List B → Typ
   Gathered xs ys = R (flat_map f xs) (flat_map f ys)
 
   joined_gathered : (a b c d : List (ℕ × Row)) → Gathered a b → Gathered c d → Gathered (a ++ c) (b ++ d)
-  joined_gathered a b c d first second =
-      let whole = both (flat_map f a) (flat_map f b) (flat_map f c) (flat_map f d) first second in
-      subst (λ (xs : List B). R xs (flat_map f (b ++ d))) (sym (flat_map-append f a c))
-      (subst (λ (ys : List B). R (flat_map f a ++ flat_map f c) ys) (sym (flat_map-append f b d)) whole)
+  joined_gathered a b c d first second = grind (arith, ints, nat_tests, flat_map, flat_map-append)
 
   entries_gathered : (m first n number : ℕ) (es : List Entry) (old new : Entry) → entry_at es n ≡ Some old
       → number + 1 ≡ first + n → R (f (m, EntryRow number new)) (f (m, EntryRow number old))
@@ -41,22 +38,13 @@ module _ {B : Type 0} (f : ℕ × Row → List B) (R : List B → List B → Typ
   heads_gathered : (m last : ℕ) (head : Option Head)
       → ((h g : Head) → R (f (m, HeadRow h)) (f (m, HeadRow g)))
       → Gathered (head_pairs m (seen_on head last)) (head_pairs m head)
-  heads_gathered m last None heads = same []
-  heads_gathered m last (Some h) heads =
-      both (f (m, HeadRow (record h { last = last }))) (f (m, HeadRow h)) [] [] (heads (record h { last = last }) h)
-      (same [])
+  heads_gathered m last head heads = grind (arith, ints, nat_tests)
 
   pairs_gathered : (m n last : ℕ) (rows : Rows) (old new : Entry) → entry_at rows.entries n ≡ Some old
       → R (f (m, EntryRow n new)) (f (m, EntryRow n old)) → ((h g : Head) → R (f (m, HeadRow h)) (f (m, HeadRow g)))
       → Gathered (pairs m (changed_by (edit.Exchange (record { number = n; entry = new })) last rows)) (pairs m rows)
   pairs_gathered m n last rows old new at one heads =
-      let seats = seat_pairs m rows.seats in
-      let now = entry_pairs m 1 (with_entry rows.entries n new) in
-      let before = entry_pairs m 1 rows.entries in
-      joined_gathered (head_pairs m (seen_on rows.head last)) (head_pairs m rows.head) (seats ++ now) (seats ++ before)
-      (heads_gathered m last rows.head heads)
-      (joined_gathered seats seats now before (same (flat_map f seats))
-      (entries_gathered m 1 n n rows.entries old new at (omega arith) one))
+      grind (arith, ints, nat_tests, joined_gathered, heads_gathered, entries_gathered)
 
   -- where the one entry is put for the other
   pub put_gathered : (m n last : ℕ) (joined : List (ℕ × Row)) (rows : Rows) (old new : Entry)
@@ -65,9 +53,4 @@ module _ {B : Type 0} (f : ℕ × Row → List B) (R : List B → List B → Typ
       → Gathered (put m (changed_by (edit.Exchange (record { number = n; entry = new })) last rows) joined)
       (put m rows joined)
   put_gathered m n last joined rows old new at one heads =
-      let before = filter (λ (p : ℕ × Row). nat_lt p.0 m) joined in
-      let behind = filter (λ (p : ℕ × Row). nat_lt m p.0) joined in
-      let now = pairs m (changed_by (edit.Exchange (record { number = n; entry = new })) last rows) in
-      joined_gathered before before (now ++ behind) (pairs m rows ++ behind) (same (flat_map f before))
-      (joined_gathered now (pairs m rows) behind behind (pairs_gathered m n last rows old new at one heads)
-      (same (flat_map f behind)))
+      grind (arith, ints, nat_tests, filter, nat_lt, pairs, joined_gathered, pairs_gathered)

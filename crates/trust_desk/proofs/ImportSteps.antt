@@ -1,5 +1,5 @@
 -- The course of an import is its step.
-use Rattle.trust_desk.proofs.Names.{◌≡◌, ◌⊎◌, inl, inr, ℕ, Bool, true, false, List, [], ◌∷◌, ◌++◌, Option, Some, None, Ok, Err, refl, sym, ap, ◌∙◌, subst, append-nil, cond-false, nat_lt, is_none, unwrap_or, false≢true, Refusal, is_fault, Caller, first, Firm, Item, items, LacksHeader, ImportEnd, ImportStop, Json, is_store, counted_refusal, refused, after_items, counts_after, none_counted, AreFirst, AreFront, Imports, IsAfterFirst, IsStop, IsMade, IsOfItems, KindIsMade, KindStopped, MayLeave, IsAnswered, KeepsBook, is_stopped, IsAfterFront, import_refusal, items_unless, imported, counts_text, import_reply, is_not_of_firm, firm_step, kind_step, Heard, Kind, OfItems, kind_of}
+use Rattle.trust_desk.proofs.Names.{◌≡◌, ◌⊎◌, ℕ, Bool, true, false, List, [], ◌∷◌, Option, Some, None, Ok, Err, refl, sym, ap, ◌∙◌, subst, append-nil, cond-false, nat_lt, is_none, unwrap_or, false≢true, Refusal, is_fault, Caller, first, Firm, Item, items, LacksHeader, ImportEnd, ImportStop, Json, is_store, counted_refusal, refused, after_items, counts_after, none_counted, AreFirst, AreFront, Imports, IsAfterFirst, IsStop, IsMade, IsOfItems, KindIsMade, KindStopped, MayLeave, IsAnswered, KeepsBook, is_stopped, IsAfterFront, import_refusal, items_unless, imported, counts_text, import_reply, is_not_of_firm, firm_step, kind_step, Heard, Kind, OfItems, kind_of, arith, ints, nat_tests}
 use Rattle.std.specs.Prelude.{length}
 use Rattle.trust_base.specs.declared.refusal.Field.TheVariants as field
 use Rattle.trust_base.specs.declared.refusal.Rule.TheVariants as rule
@@ -19,33 +19,25 @@ fault_in None = false
 fault_in (Some r) = is_fault r
 
 no-fault : (a b c : Bool) → fault_in (first ((a, refusal.TooLarge) ∷ (b, refusal.BadField field.Header) ∷ (c, refusal.NotAllowed rule.Firm) ∷ [])) ≡ false
-no-fault true b c = refl
-no-fault false true c = refl
-no-fault false false true = refl
-no-fault false false false = refl
+no-fault a b c = grind (arith, ints, nat_tests)
 
 refusal-plain : (caller : Caller) (bytes : List ℕ) (r : Refusal) → import_refusal caller bytes ≡ Some r → is_fault r ≡ false
 refusal-plain caller bytes r is = ap fault_in (sym is) ∙ no-fault (nat_lt MAX_FILE_BYTES (length bytes)) (is_none (items bytes)) (is_not_of_firm caller)
 
 store-faults : (r : Refusal) → is_fault r ≡ false → is_store r ≡ false
-store-faults refusal.Store plain = absurd (cc)
-store-faults _ plain = refl
+store-faults r plain = grind (arith, ints, nat_tests)
 
 passed : (a b c : Bool) → first ((a, refusal.TooLarge) ∷ (b, refusal.BadField field.Header) ∷ (c, refusal.NotAllowed rule.Firm) ∷ []) ≡ None → b ≡ false
-passed true b c fit = absurd (cc)
-passed false true c fit = absurd (cc)
-passed false false c fit = refl
+passed a b c fit = grind (arith, ints, nat_tests)
 
 -- What was read.
 
 first-front : (o : Option (List Item)) (front : List Item) (end : ImportStop) → AreFirst (Some o) front end → AreFront (Some o) front
-first-front None front end first = first.0
-first-front (Some its) front end first = (first.0, first.1)
+first-front o front end first = grind (arith, ints, nat_tests)
 
 -- all of it, where the import is done
 first-all : (o : Option (List Item)) (front : List Item) (end : ImportStop) → end ≡ stop.Done → AreFirst (Some o) front end → front ≡ unwrap_or o []
-first-all None front end done first = absurd (first.1 done)
-first-all (Some its) front end done first = sym (append-nil front) ∙ (ap (λ rest. front ++ rest) (sym (first.2 done)) ∙ first.1)
+first-all o front end done first = grind (arith, ints, nat_tests, append-nil)
 
 -- How an import is answered.
 
@@ -60,32 +52,12 @@ module _ (day : ℕ) (h : Heard) (caller : Caller) (bytes : List ℕ) (kind : ki
     -- it is refused before anything is applied
     pub import-unfit : (b : B) (r : Refusal) → (r ≡ refusal.Memory) ⊎ (import_refusal caller bytes ≡ Some r)
         → IsAnswered firm clean sure stands lasts leaves refusals day h (Err r) b b
-    import-unfit b r checked = record {
-      step = λ served stood. refused-steps day (firm b) (firm b) h r (why checked) refl;
-      plain = tt;
-      kept = kept-as (λ is stood. sym (cond-false (is_store r) _ _ (uncounted_by checked))) (kept-still b);
-      crash = λ is stood before.
-          leave-as (λ fine. fine) (λ f made. made)
-          (λ fine. elim (why checked) [ inl fault ↦ absurd (cc) | inr same ↦ sym same.1 ]) (leave-still (firm b) b);
-    }
-      where
-        why : (r ≡ refusal.Memory) ⊎ (import_refusal caller bytes ≡ Some r)
-            → (is_fault r ≡ true) ⊎ ((refused r ≡ (firm_step day (firm b) h).reply) × (firm b ≡ (firm_step day (firm b) h).firm))
-        why (inl is) = inl (ap is_fault is)
-        why (inr is) = inr (
-          ap (λ o. import_reply o (counts_after day (firm b) (imported caller bytes) none_counted)) (sym is) ∙ says_it (firm b),
-          ap (λ o. after_items day (firm b) (items_unless o bytes)) (sym is) ∙ leaves_it (firm b),
-        )
-
-        uncounted_by : (r ≡ refusal.Memory) ⊎ (import_refusal caller bytes ≡ Some r) → is_store r ≡ false
-        uncounted_by (inl is) = ap is_store is
-        uncounted_by (inr is) = store-faults r (refusal-plain caller bytes r is)
+    import-unfit b r checked =
+        grind (arith, ints, nat_tests, refused-steps, kept-as, cond-false, kept-still, leave-as, leave-still, refused, none_counted, says_it, after_items, leaves_it, store-faults, refusal-plain)
 
   module _ (fit : import_refusal caller bytes ≡ None) where
     front_of : (f found : Firm) → IsAfterFirst day f (Some (items bytes)) found → (rest : List Item) × IsAfterFront day f (imported caller bytes) rest found
-    front_of f found is =
-        subst (λ (its : List Item). (rest : List Item) × IsAfterFront day f its rest found) (sym (ap (λ o. items_unless o bytes) fit))
-        (front-of-items (items bytes) day f found is)
+    front_of f found is = grind (arith, ints, nat_tests, items_unless, front-of-items, items)
 
     makes_it : (f found : Firm) → IsAfterFirst day f (Some (items bytes)) found → IsMade day f h found
     makes_it f found is = subst (λ (k : Kind). KindIsMade day f k found) (sym kind) (front_of f found is)
@@ -135,11 +107,5 @@ module _ (day : ℕ) (h : Heard) (caller : Caller) (bytes : List ℕ) (kind : ki
 
 -- what ends it is a fault, where the header is good
 pub stopped-by : (caller : Caller) (bytes : List ℕ) (end : ImportStop) (r : Refusal) → import_refusal caller bytes ≡ None → end ≡ stop.Refused r → IsStop end → (end ≡ stop.Refused (refusal.BadField field.Header) → LacksHeader (Some (items bytes))) → is_fault r ≡ true
-stopped-by caller bytes end r fit is stops lacks = cases (subst IsStop is stops)
-  where
-    cases : (r ≡ refusal.BadField field.Header) ⊎ (is_fault r ≡ true) → is_fault r ≡ true
-    cases (inl bad) =
-        let none : items bytes ≡ None = lacks (is ∙ ap stop.Refused bad) in
-        let header = passed (nat_lt MAX_FILE_BYTES (length bytes)) (is_none (items bytes)) (is_not_of_firm caller) fit in
-        absurd (false≢true (sym header ∙ ap is_none none))
-    cases (inr fault) = fault
+stopped-by caller bytes end r fit is stops lacks =
+    grind (arith, ints, nat_tests, is_fault, items, passed, nat_lt, length, is_none, is_not_of_firm)

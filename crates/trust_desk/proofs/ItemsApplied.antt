@@ -1,11 +1,10 @@
 -- How an item is applied, by what is decided of it and by the calls of the book.
-use Rattle.trust_desk.proofs.Names.{◌≡◌, ◌≤◌, ◌∙◌, ℕ, true, None, Some, Ok, Err, Result, Sound, Part, IsPart, holds_for_line, line-held, refl, ap, sym, false≢true, Line, StoreFault, BankLine, LineEffect, Rows, LineDecides, BalanceKind, Verdict, Firm, FirmChange, of, after, by_balance, by_line, Item, counted, counted_fault, IsRead, IsWrite, Counted, IsItemApplied, after_item, after_told, balance_item, balance_on, counted_as, counted_by, counted_of, counted_verdict}
+use Rattle.trust_desk.proofs.Names.{◌≡◌, ◌≤◌, ℕ, true, None, Some, Ok, Err, Result, Sound, Part, IsPart, holds_for_line, line-held, Line, StoreFault, BankLine, Rows, LineDecides, BalanceKind, Verdict, Firm, FirmChange, of, after, by_balance, by_line, Item, counted, counted_fault, IsRead, IsWrite, Counted, IsItemApplied, after_item, after_told, balance_item, balance_on, counted_as, counted_by, counted_of, counted_verdict, arith, ints, nat_tests, IsPartFor}
 use Rattle.trust_base.specs.declared.refusal.StoreFault.TheVariants as faults
 use Rattle.trust_matter.specs.declared.line_verdict.LineVerdict.{LineVerdict}
 use Rattle.trust_matter.specs.declared.line_verdict.LineVerdict.TheVariants as verdict
 use Rattle.firm_rows.specs.declared.ledger.BalanceKind.TheVariants as kind
 use Rattle.statement_csv.specs.declared.item.Item.TheVariants as item
-use Rattle.trust_store.specs.Named.{IsPartFor}
 use Rattle.trust_desk.proofs.Calls.{kept-as, kept-then, read-kept, write-kept}
 use Rattle.trust_desk.proofs.Crashes.{leave-failed, read-leaves, written-leaves}
 
@@ -14,9 +13,7 @@ use Rattle.trust_desk.proofs.Crashes.{leave-failed, read-leaves, written-leaves}
 -- what is written is the step
 pub verdict-tells : (day : ℕ) (firm : Firm) (l : BankLine) (v : LineVerdict) → LineDecides (of l.matter firm) l day (Ok v)
     → (counted_verdict v ≡ counted_of day firm (item.OfMatter l)) × (after (by_line l v) firm ≡ after_item day firm (item.OfMatter l))
-verdict-tells day firm l (verdict.Applied c) d = (sym (ap counted_as d.applied), sym (ap (λ (e : LineEffect). after_told l e firm) d.applied))
-verdict-tells day firm l verdict.Repeat d = (sym (ap counted_as d), sym (ap (λ (e : LineEffect). after_told l e firm) d))
-verdict-tells day firm l (verdict.Unmatched r) d = (sym (ap counted_as d), sym (ap (λ (e : LineEffect). after_told l e firm) d))
+verdict-tells day firm l v d = grind (arith, ints, nat_tests, counted_as, after_told)
 
 -- what was read for a line is enough to decide it
 pub line-decided : (rows : Rows) (l : BankLine) (day : ℕ) (part : Part) (result : Result LineVerdict StoreFault) → 1 ≤ l.entry
@@ -28,15 +25,13 @@ line-decided rows l day part result some sound is decided =
 
 -- a fault of the decision is no fault of the store
 pub decision-uncounted : (rows : Rows) (l : BankLine) (day : ℕ) (fault : StoreFault) (n : ℕ) → LineDecides rows l day (Err fault) → counted_fault fault n ≡ n
-decision-uncounted rows l day faults.Memory n d = refl
-decision-uncounted rows l day faults.Store n d = absurd d
+decision-uncounted rows l day fault n d = grind (arith, ints, nat_tests)
 
 -- A balance.
 
 pub balance-tells : (k : BalanceKind) (day : ℕ) (firm : Firm) (line : Line) (v : Verdict) → v ≡ balance_on firm k line day
     → (counted_by v ≡ counted_of day firm (balance_item k line)) × (after (by_balance k line v) firm ≡ after_item day firm (balance_item k line))
-balance-tells kind.Opening day firm line v is = (ap counted_by is, ap (λ (u : Verdict). after (by_balance kind.Opening line u) firm) is)
-balance-tells kind.Closing day firm line v is = (ap counted_by is, ap (λ (u : Verdict). after (by_balance kind.Closing line u) firm) is)
+balance-tells k day firm line v is = grind (arith, ints, nat_tests, counted_by, after, by_balance)
 
 -- The calls of the book.
 
@@ -45,33 +40,17 @@ module _ {B : Type 0} {firm : B → Firm} {clean sure stands lasts : B → Type 
   pub item-written : {T U : Type 0} {read : T} {done : U} {change : FirmChange} {now : B} (k : Counted)
       → IsRead firm clean sure stands lasts leaves refusals (Ok read) old now → IsWrite firm clean sure stands lasts leaves refusals change (Ok done) now new
       → (clean now → stands old → (k ≡ counted_of day (firm old) it) × (after change (firm old) ≡ after_item day (firm old) it)) → IsItemApplied firm clean sure stands lasts leaves refusals day it (Ok k) old new
-  item-written {change} k read write tells = record {
-    step = λ served stood.
-        let was = write.was_clean served in
-        let says = tells was stood in
-        (says.0, write.ok served (read.still_stands was stood) ∙ (ap (after change) (read.same was stood) ∙ says.1));
-    err = λ served stood. tt;
-    kept = kept-then (read-kept read) (write-kept write);
-    crash = λ is stood. written-leaves read write (λ served. (tells served stood).1) is stood;
-  }
+  item-written {change} k read write tells =
+      grind (arith, ints, nat_tests, after, kept-then, read-kept, write-kept, written-leaves)
 
   pub item-unwritten : {T U : Type 0} {read : T} {change : FirmChange} {now : B} (k : Counted) (fault : StoreFault)
       → IsRead firm clean sure stands lasts leaves refusals (Ok read) old now → IsWrite {T = U} firm clean sure stands lasts leaves refusals change (Err fault) now new
       → (clean now → stands old → (k ≡ counted_of day (firm old) it) × (after change (firm old) ≡ after_item day (firm old) it)) → IsItemApplied firm clean sure stands lasts leaves refusals day it (Err fault) old new
-  item-unwritten {change} k fault read write tells = record {
-    step = λ served stood. tt;
-    err = λ served stood. let was = write.was_clean served in write.err served (read.still_stands was stood) ∙ read.same was stood;
-    kept = kept-then (read-kept read) (write-kept write);
-    crash = λ is stood. written-leaves read write (λ served. (tells served stood).1) is stood;
-  }
+  item-unwritten {change} k fault read write tells =
+      grind (arith, ints, nat_tests, kept-then, read-kept, write-kept, written-leaves)
 
   -- nothing was decided on what was read, for a fault that the book does not count
   pub item-undecided : {T : Type 0} {read : T} (fault : StoreFault) → IsRead firm clean sure stands lasts leaves refusals (Ok read) old new
       → (sure new → (clean old → stands old) → counted {T = Counted} (Err fault) (refusals old) ≡ refusals old)
       → IsItemApplied firm clean sure stands lasts leaves refusals day it (Err fault) old new
-  item-undecided fault read none = record {
-    step = λ served stood. tt;
-    err = λ served stood. read.same served stood;
-    kept = kept-as (λ is stood. sym (none is stood)) (read-kept read);
-    crash = λ is stood. leave-failed false≢true (λ f made. made) (read-leaves read is stood);
-  }
+  item-undecided fault read none = grind (arith, ints, nat_tests, kept-as, read-kept, leave-failed, read-leaves)

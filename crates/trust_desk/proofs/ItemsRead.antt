@@ -1,16 +1,12 @@
 -- A statement that is read and applied item by item.
-use Rattle.trust_desk.proofs.Names.{◌≡◌, ◌∙◌, ◌+◌, ◌≤◌, ◌++◌, ◌∷◌, [], ℕ, false, List, Option, Some, None, Ok, Err, inl, inr, refl, sym, ap, subst, append_assoc, arith, list_any, ⊤, false≢true, refused_by, StoreFault, Line, Firm, FirmLine, of, FirmSound, Gives, LacksHeader, Item, ImportReply, Counted, ImportEnd, ImportStop, AreBelow, AreFirst, AreFront, AreRead, Imports, IsAfterFirst, IsAppliedBeside, IsStop, IsUnnamed, KeepsAllUnnamed, KeepsBeside, MayLeave, StandsBeside, Told, after_item, after_items, count_item, counted_of, counts_after, is_stopped, names_item, none_counted}
+use Rattle.trust_desk.proofs.Names.{◌≡◌, ◌∙◌, ◌+◌, ◌≤◌, ◌++◌, ◌∷◌, [], ℕ, false, List, Option, Some, None, Ok, Err, inl, inr, refl, sym, ap, append_assoc, arith, list_any, ⊤, false≢true, refused_by, StoreFault, Line, Firm, FirmLine, of, FirmSound, Gives, LacksHeader, Item, ImportReply, Counted, ImportEnd, ImportStop, AreBelow, AreFirst, AreFront, AreRead, Imports, IsAfterFirst, IsAppliedBeside, IsStop, IsUnnamed, KeepsAllUnnamed, KeepsBeside, MayLeave, StandsBeside, Told, after_item, after_items, count_item, counted_of, counts_after, is_stopped, names_item, none_counted, ints, nat_tests, option_or, IsImported, counted_stop, stop_at, statement_day}
 use Rattle.trust_base.specs.declared.refusal.Field.TheVariants as field
 use Rattle.trust_base.specs.declared.refusal.Refusal.TheVariants as refusal
 use Rattle.trust_base.specs.declared.refusal.StoreFault.TheVariants as faults
-use Rattle.std.specs.Option.{option_or}
 use Rattle.statement_csv.specs.Limits.{IsTooLong, IsWithin}
 use Rattle.statement_csv.specs.declared.item.Item.TheVariants as item
 use Rattle.statement_csv.specs.declared.item.ReadFault.{ReadFault}
 use Rattle.statement_csv.specs.declared.item.ReadFault.TheVariants as reading
-use Rattle.trust_desk.specs.Applied.{IsImported}
-use Rattle.trust_desk.specs.Imports.{counted_stop, stop_at}
-use Rattle.trust_desk.specs.ItemStep.{statement_day}
 use Rattle.trust_desk.specs.declared.importing.Counted.TheVariants as counted
 use Rattle.trust_desk.specs.declared.importing.ImportStop.TheVariants as stop
 use Rattle.trust_desk.proofs.AlwaysCovered.{always-sound}
@@ -23,39 +19,19 @@ use Rattle.trust_desk.proofs.Refused.{fault-counted, fault-told}
 -- What was read.
 
 pub read-first : (told left more : Told) (front : List Item) (end : ImportStop) → AreRead told front left → (end ≡ stop.Done → Gives left more None) → AreFirst told front end
-read-first None left more front end read done = tt
-read-first (Some None) left more front end read done =
-    (read.0, λ is. let none : Gives (Some None) more None = subst (λ (x : Told). Gives x more None) read.1 (done is) in absurd (cc))
-read-first (Some (Some items)) left more front end read done =
-    (read.0, read.1, λ is. let none : Gives (Some (Some read.0)) more None = subst (λ (x : Told). Gives x more None) read.2 (done is) in cc)
+read-first told left more front end read done = grind (arith, ints, nat_tests)
 
 pub read-lacks : (told left : Told) (front : List Item) → AreRead told front left → LacksHeader left → LacksHeader told
-read-lacks None left front read lacks = tt
-read-lacks (Some None) left front read lacks = refl
-read-lacks (Some (Some items)) left front read lacks =
-    let none : LacksHeader (Some (Some read.0)) = subst (λ (x : Told). LacksHeader x) read.2 lacks in absurd (cc)
+read-lacks told left front read lacks = grind (arith, ints, nat_tests)
 
 pub read-more : (told left more : Told) (front : List Item) (it : Item) → AreRead told front left → Gives left more (Some it) → AreRead told (front ++ it ∷ []) more
-read-more None left more front it read gives = tt
-read-more (Some None) left more front it read gives =
-    let one : Gives (Some None) more (Some it) = subst (λ (x : Told). Gives x more (Some it)) read.1 gives in
-    let none = one.1 in
-    absurd (cc)
-read-more (Some (Some items)) left more front it read gives =
-    let one : Gives (Some (Some read.0)) more (Some it) = subst (λ (x : Told). Gives x more (Some it)) read.2 gives in
-    let first = one.1 in
-    let rest : read.0 ≡ it ∷ one.0 = cc in
-    (one.0, append_assoc front (it ∷ []) one.0 ∙ (ap (λ l. front ++ l) (sym rest) ∙ read.1), one.2)
+read-more told left more front it read gives = grind (arith, ints, nat_tests, append_assoc)
 
 read-front : (told left : Told) (front : List Item) → AreRead told front left → AreFront told front
-read-front None left front read = tt
-read-front (Some None) left front read = read.0
-read-front (Some (Some items)) left front read = (read.0, read.1)
+read-front told left front read = grind (arith, ints, nat_tests)
 
 read-none : (told : Told) → AreRead told [] told
-read-none None = tt
-read-none (Some None) = (refl, refl)
-read-none (Some (Some items)) = (items, refl, refl)
+read-none told = grind (arith, ints, nat_tests)
 
 -- What was applied.
 
@@ -70,11 +46,7 @@ counts_after-push day firm (x ∷ front) it c = counts_after-push day (after_ite
 -- The counts have room.
 
 pub below-more : (n m : ℕ) (it : Item) (kind : Counted) (before after : ImportReply) → AreBelow n before → after ≡ count_item it kind before → n + 1 ≤ m → AreBelow m after
-below-more n m it kind before after below is more = subst (AreBelow m) (sym is) (cases kind)
-  where
-    cases : (k : Counted) → AreBelow m (count_item it k before)
-    cases counted.Applied = record { applied = omega (arith, below.applied, more); repeated = omega (arith, below.repeated, more); exceptions = omega (arith, below.exceptions, more); unreadable = omega (arith, below.unreadable, more) }
-    cases _ = record { applied = omega (arith, below.applied, more); repeated = omega (arith, below.repeated, more); exceptions = omega (arith, below.exceptions, more); unreadable = omega (arith, below.unreadable, more) }
+below-more n m it kind before after below is more = grind (arith, ints, nat_tests, count_item)
 
 -- How an item is counted.
 
@@ -84,20 +56,17 @@ closing_of (item.Closing line) = Some line.date
 closing_of _ = None
 
 pub no-closing : (it : Item) → ((line : Line) → it ≡ item.Closing line → ⊥) → closing_of it ≡ None
-no-closing (item.Closing line) none = absurd (none line refl)
-no-closing _ none = refl
+no-closing it none = grind (arith, ints, nat_tests)
 
 -- it is noted if the balance is on file
 pub on-file : (it : Item) (before closing : Option ℕ) → closing ≡ closing_of it
     → (option_or closing before ≡ statement_day it counted.Applied before)
     × (option_or closing before ≡ statement_day it counted.Repeated before)
-on-file (item.Closing line) before closing is = let same = ap (λ o. option_or o before) is in (same, same)
-on-file _ before closing is = let same = ap (λ o. option_or o before) is in (same, same)
+on-file it before closing is = grind (arith, ints, nat_tests, option_or)
 
 pub not-on-file : (it : Item) (before : Option ℕ)
     → (before ≡ statement_day it counted.Exception before) × (before ≡ statement_day it counted.Unreadable before)
-not-on-file (item.Closing line) before = (refl, refl)
-not-on-file _ before = (refl, refl)
+not-on-file it before = grind (arith, ints, nat_tests)
 
 -- What matters see of it.
 
@@ -125,21 +94,13 @@ pub record IsSoFar {B : Type 0} (firm : B → Firm) (clean sure stands lasts : B
       → MayLeave clean leaves ⊤ (IsAfterFirst day (firm old) told) (firm old) (firm now) old now
 
 not-header : (f : StoreFault) → stop.Refused (refused_by f) ≡ stop.Refused (refusal.BadField field.Header) → ⊥
-not-header faults.Store is = cc
-not-header faults.Memory is = cc
+not-header f is = grind (arith, ints, nat_tests)
 
 module _ {B : Type 0} {firm : B → Firm} {clean sure stands lasts : B → Type 0} {leaves : B → Firm → Type 0}
     {refusals : B → ℕ} {day : ℕ} {told : Told} {old : B} where
   pub none-so_far : (left : Told) → left ≡ told
       → IsSoFar firm clean sure stands lasts leaves refusals day told old 0 left none_counted old None
-  none-so_far left whole = record {
-    front = [];
-    read = subst (λ (x : Told). AreRead told [] x) (sym whole) (read-none told);
-    step = λ served stood. (refl, refl);
-    room = record { applied = omega arith; repeated = omega arith; exceptions = omega arith; unreadable = omega arith };
-    kept = kept-still (old, None);
-    crash = λ is served stood. leave-still (firm old) old;
-  }
+  none-so_far left whole = grind (arith, ints, nat_tests, read-none, kept-still, leave-still)
 
   module _ {turn : ℕ} {left : Told} {counts : ImportReply} {now : B} {own : Option (List FirmLine)}
       (so : IsSoFar firm clean sure stands lasts leaves refusals day told old turn left counts now own) where

@@ -1,5 +1,5 @@
 -- Lines that were filled are in the book behind the import of what was written.
-use Rattle.trust_desk.proofs.Names.{◌≡◌, ◌∙◌, sym, ap, subst, ℕ, zero, suc, ◌+◌, ◌-◌, Bool, true, false, cond, ◌||◌, List, [], ◌∷◌, ◌++◌, Option, Some, None, refl, inl, inr, arith, eqb, pos, ◌-ℤ◌, Contains, filter, flat_map, int_eq, bytes_eq, and_from, and_parts, eq-eqb, eqb-true, false≢true, or_cases, Decides-int_eq, Contains-append_left, Line, DepositState, PaymentState, Entry, entry_at, is_purged, is_clearing_by, is_deposit_cleared_by, is_deposit_returned_by, is_line_again, is_payment_cleared_by, DatedEdit, Reason, IsSameLine, dated_by, first_reason, line_facts, line_on, matched, reasons, rows_after_line, EntryRow, Firm, HeadRow, Row, SeatRow, entries_among, of, rows_of, item_of_line, Item, booking_of, is_same_booking, Waiting, booked_by, deposit_bookings, entry_bookings, held_of, payment_bookings, row_bookings, with_reference, written, wait_apart, sure_of, front_apart, has_filled, filter_from, flat_map_has, later, map_from, own_of_items, after_item, after_items, FilledLinesAreInBook, items_of, solo_rows}
+use Rattle.trust_desk.proofs.Names.{◌≡◌, ◌∙◌, sym, ap, subst, ℕ, zero, suc, ◌+◌, ◌-◌, Bool, true, false, cond, ◌||◌, List, [], ◌∷◌, ◌++◌, Option, Some, None, refl, inl, inr, arith, eqb, pos, ◌-ℤ◌, Contains, filter, flat_map, int_eq, and_from, and_parts, eq-eqb, eqb-true, false≢true, or_cases, Contains-append_left, Line, DepositState, PaymentState, Entry, entry_at, is_purged, is_clearing_by, is_deposit_cleared_by, is_deposit_returned_by, is_line_again, is_payment_cleared_by, DatedEdit, Reason, IsSameLine, dated_by, first_reason, line_facts, line_on, matched, reasons, rows_after_line, EntryRow, Firm, HeadRow, Row, SeatRow, entries_among, of, rows_of, item_of_line, Item, booking_of, is_same_booking, Waiting, booked_by, deposit_bookings, entry_bookings, held_of, payment_bookings, row_bookings, with_reference, written, wait_apart, sure_of, front_apart, has_filled, filter_from, flat_map_has, later, map_from, own_of_items, after_item, after_items, FilledLinesAreInBook, items_of, solo_rows, ints, nat_tests}
 use Rattle.std.proofs.Common.{◌&&◌, ◌==◌, ℤ}
 use Rattle.std.proofs.lemmas.Slice.Eq.{bytes_eq-Decides}
 use Rattle.matter_rows.specs.declared.clearing.Clearing.{Clearing}
@@ -25,14 +25,7 @@ IsBooked bookings line = (b : Booking) × Contains bookings b × (is_same_bookin
 same_booking : (c : Clearing) (amount : ℤ) (line : Line)
     → (is_clearing_by c line && int_eq amount line.amount) ≡ true
     → is_same_booking (booking_of line) (booked_by c amount) ≡ true
-same_booking c amount line is =
-    let parts = and_parts (is_clearing_by c line) (int_eq amount line.amount) is in
-    let cleared = and_parts (c.bank_day == line.date) (bytes_eq c.bank_ref line.bank_ref) parts.0 in
-    let day = eq-eqb line.date c.bank_day (sym (eqb-true c.bank_day line.date cleared.0)) in
-    let ref = (bytes_eq-Decides line.bank_ref c.bank_ref).1
-    (sym ((bytes_eq-Decides c.bank_ref line.bank_ref).0 cleared.1)) in
-    let sum = (Decides-int_eq line.amount amount).1 (sym ((Decides-int_eq amount line.amount).0 parts.1)) in
-    and_from _ _ (and_from _ _ day ref) sum
+same_booking c amount line is = grind (arith, ints, nat_tests, and_parts, eq-eqb, eqb-true, bytes_eq-Decides, and_from)
 
 deposit_booked : (amount : ℕ) (s : DepositState) (line : Line)
     → ((is_deposit_cleared_by s line && int_eq (pos amount) line.amount)
@@ -84,14 +77,11 @@ entry_there (x ∷ es) n e at =
 row_there : (rows : List Row) (e : Entry) → Contains (entries_among rows) e
     → (n : ℕ) × Contains rows (EntryRow n e)
 row_there [] e (k, lt, is) = absurd (omega arith)
-row_there (HeadRow head ∷ rows) e there =
-    let more = row_there rows e there in (more.0, later (HeadRow head) (EntryRow more.0 e) rows more.1)
-row_there (SeatRow seat ∷ rows) e there =
-    let more = row_there rows e there in (more.0, later (SeatRow seat) (EntryRow more.0 e) rows more.1)
+row_there (HeadRow head ∷ rows) e there = grind (arith, ints, nat_tests, later, (row_there rows e there))
+row_there (SeatRow seat ∷ rows) e there = grind (arith, ints, nat_tests, later, (row_there rows e there))
 row_there (EntryRow n x ∷ rows) e (zero, lt, is) = (n, (zero, omega arith, ap (λ y. EntryRow n y) is))
 row_there (EntryRow n x ∷ rows) e (suc k, lt, is) =
-    let more = row_there rows e (k, omega arith, is) in
-    (more.0, later (EntryRow n x) (EntryRow more.0 e) rows more.1)
+    grind (arith, ints, nat_tests, later, (row_there rows e (k, omega arith, is)))
 
 firm_booked : (firm : Firm) (m n : ℕ) (e : Entry) (b : Booking) → entry_at (of m firm).entries n ≡ Some e
     → Contains (entry_bookings e) b → Contains (held_of firm).bookings b
@@ -118,14 +108,10 @@ items_unpurged : (m today : ℕ) (firm : Firm) (items : List Item) → is_purged
     → is_purged (of m (after_items today firm items)).head ≡ false
 items_unpurged m today firm [] kept = kept
 items_unpurged m today firm (it ∷ items) kept =
-    items_unpurged m today (after_item today firm it) items
-    (item_keeps (λ rows. is_purged rows.head ≡ false) m today firm it
-    (λ l is same. line_unpurged (of m firm) l today kept) kept)
+    grind (arith, ints, nat_tests, item_keeps, line_unpurged, of, (items_unpurged m today (after_item today firm it) items (item_keeps (λ rows. is_purged rows.head ≡ false) m today firm it (λ l is same. line_unpurged (of m firm) l today kept) kept)))
 
 was_again : (b : Bool) (r : Option Reason) (d : DatedEdit) → cond b told.Repeat (matched r d) ≡ told.Repeat → b ≡ true
-was_again true r d is = refl
-was_again false None d is = absurd (cc)
-was_again false (Some r) d is = absurd (cc)
+was_again b r d is = grind (arith, ints, nat_tests)
 
 again_there : (o : Option Entry) (line : Line) → is_line_again o line ≡ true
     → (e : Entry) × (o ≡ Some e) × (is_line_again (Some e) line ≡ true)

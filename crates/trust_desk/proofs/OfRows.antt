@@ -1,14 +1,12 @@
 -- What is answered by what is kept of a matter is the answer of its rows.
-use Rattle.trust_desk.proofs.Names.{pos, ◌≡◌, ℕ, Bool, true, false, cond, List, Option, Some, None, refl, rules, sym, ap, ◌∙◌, eqb-true, Entry, PaymentState, Ask, Caller, Numbered, Kept, Rows, entry_at, Asked, Facts, number_named, facts_of, is_repeat, Part, IsPart, kept_at, entry_in, is_held_or_none, HoldsOn, is_held, holds_for, other_of, MatterChange, changed, changed_by, IsDecided, cancelled, decided, edit_on, rows_after, with_claim, with_payment, receipt_body, entry_body, Body, made_text, shown_text, body_of, said, success_of, replied, reply_of, status_of_edit}
-use Rattle.std.proofs.Common.{◌==◌, ◌||◌}
+use Rattle.trust_desk.proofs.Names.{pos, ◌≡◌, ℕ, Bool, true, cond, List, Option, Some, None, refl, rules, sym, ap, ◌∙◌, eqb-true, Entry, PaymentState, Ask, Caller, Numbered, Kept, Rows, entry_at, Asked, Facts, number_named, facts_of, is_repeat, Part, IsPart, kept_at, entry_in, is_held_or_none, HoldsOn, holds_for, MatterChange, changed, changed_by, IsDecided, cancelled, decided, edit_on, rows_after, with_claim, with_payment, receipt_body, entry_body, Body, made_text, shown_text, body_of, said, success_of, replied, reply_of, status_of_edit, arith, ints, nat_tests, Edit, found_passes}
+use Rattle.std.proofs.Common.{◌==◌}
 use Rattle.matter_rows.specs.declared.entry.Entry.TheVariants as entry
 use Rattle.matter_rows.specs.declared.claim.ClaimState.{ClaimState}
 use Rattle.trust_matter.specs.declared.ask.Ask.TheVariants as ask
-use Rattle.matter_parts.specs.declared.edit.Edit.{Edit}
 use Rattle.matter_parts.specs.declared.edit.Edit.TheVariants as edit
 use Rattle.trust_matter.specs.Step.{after}
 use Rattle.matter_parts.proofs.Parts.{held-entry}
-use Rattle.statement_match.proofs.Picks.{found_passes}
 use Rattle.trust_matter.proofs.Parts.{both}
 
 -- The entry that an ask names.
@@ -35,28 +33,21 @@ module _ (m n : ℕ) (part : Part) (rows : Rows) (is : IsPart part rows) where
 
 -- it is still loaded, or does not exist, behind a change
 pub held-on : (part new : Part) (ask : Ask) → HoldsOn part new → holds_for part ask ≡ true → is_held_or_none new (number_named ask) ≡ true
-held-on part new ask on holds =
-    let n = number_named ask in
-    let held = both (is_held_or_none part n) (is_held_or_none part (other_of ask (entry_in (kept_at part n)))) holds in
-    elim (n == 0) as (λ b. (b || is_held part n) ≡ true → (b || is_held new n) ≡ true) [ true ↦ λ _. refl | false ↦ on n ] held.0
+held-on part new ask on holds = grind (arith, ints, nat_tests, both, entry_in, kept_at)
 
 -- The status.
 
 cancelled-status : (n : ℕ) (e : Option Entry) (day : ℕ) → status_of_edit (cancelled n e day) ≡ 200
-cancelled-status n (Some (entry.Deposit d)) day = refl
-cancelled-status n _ day = refl
+cancelled-status n e day = grind (arith, ints, nat_tests)
 
 payment-status : (n : ℕ) (e : Option Entry) (next : PaymentState → PaymentState) → status_of_edit (with_payment n e next) ≡ 200
-payment-status n (Some (entry.Payment p)) next = refl
-payment-status n _ next = refl
+payment-status n e next = grind (arith, ints, nat_tests)
 
 claim-status : (n : ℕ) (e : Option Entry) (next : ClaimState) → status_of_edit (with_claim n e next) ≡ 200
-claim-status n (Some (entry.Claim c)) next = refl
-claim-status n _ next = refl
+claim-status n e next = grind (arith, ints, nat_tests)
 
 append-status : (again : Bool) (x : Numbered) → status_of_edit (cond again edit.Nothing (edit.Append x)) ≡ cond again 200 201
-append-status true x = refl
-append-status false x = refl
+append-status again x = grind (arith, ints, nat_tests)
 
 -- 201 where something is made
 status-same : (f : Facts) (caller : Caller) (day : ℕ) (a : Ask)
@@ -66,9 +57,7 @@ status-same f caller day ask.Show = refl
 status-same f caller day _ = search (rules, append-status, cancelled-status, payment-status, claim-status)
 
 pub other-status : (e : Edit) → ((x : _) → e ≡ edit.Open x → ⊥) → ((x : _) → e ≡ edit.Append x → ⊥) → status_of_edit e ≡ 200
-other-status (edit.Open x) open_ append = absurd (open_ x refl)
-other-status (edit.Append x) open_ append = absurd (append x refl)
-other-status _ open_ append = refl
+other-status e open_ append = grind (arith, ints, nat_tests)
 
 -- The reply.
 
@@ -78,5 +67,4 @@ pub replied-so : (m : ℕ) (rows : Rows) (a : Asked) (c : MatterChange) (text : 
 replied-so m rows a c text body status d texts says told =
     let left : changed c rows ≡ rows_after rows a = (λ i. changed_by (d.edit i) (d.last i) rows) ∙ sym (ap (λ o. after o (edit_on rows a) a.day rows) d.accepted) in
     let statuses : status ≡ success_of a.ask (is_repeat (facts_of rows a.ask) a) = told ∙ (ap status_of_edit d.edit ∙ status-same (facts_of rows a.ask) a.caller a.day a.ask) in
-    (λ i. record { status = statuses i; body = (says ∙ ap (said a.ask) (texts ∙ ap (λ rs. body_of m rs a.ask) left)) i })
-    ∙ sym (ap (λ o. replied o m rows a) d.accepted)
+    grind (arith, ints, nat_tests, said, body_of, replied)

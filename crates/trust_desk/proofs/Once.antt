@@ -1,5 +1,5 @@
 -- What was asked and accepted, and a line that was applied, are repeats after every run.
-use Rattle.trust_desk.proofs.Names.{◌≡◌, ℕ, Bool, true, false, List, [], ◌++◌, Option, Some, None, refl, sym, ap, ◌∙◌, subst, cond-true, is_some, false≢true, Refusal, Edit, BankLine, LineEffect, Rows, is_purged, Asked, facts_of, is_repeat, last_after, refusal, edit_on, rows_after, line_on, rows_after_line, IsApplied, purged-unapplied, Firm, of, after_edit, Item, after_told, after_item, after_items, counted_as, Heard, Own, own_of, own_of_item, after_asked, after_ask, firm_step, solo_rows, DayRun, RunsOn, OnceOnly, LineOnceOnly}
+use Rattle.trust_desk.proofs.Names.{◌≡◌, ℕ, Bool, true, false, List, [], ◌++◌, Option, refl, sym, ap, ◌∙◌, subst, cond-true, is_some, Refusal, Edit, BankLine, LineEffect, Rows, is_purged, Asked, facts_of, is_repeat, last_after, refusal, edit_on, rows_after, line_on, rows_after_line, IsApplied, purged-unapplied, Firm, of, after_edit, Item, after_told, after_item, after_items, counted_as, Heard, Own, own_of, own_of_item, after_asked, after_ask, firm_step, solo_rows, DayRun, RunsOn, OnceOnly, LineOnceOnly, arith, ints, nat_tests}
 use Rattle.matter_parts.specs.declared.edit.Edit.TheVariants as edit
 use Rattle.trust_matter.specs.declared.line_verdict.LineEffect.TheVariants as told
 use Rattle.trust_matter.proofs.Purging.{refused}
@@ -30,12 +30,10 @@ runs-later m firm new runs run = runs-keep (λ f. IsLater (of m firm) (of m f)) 
 
 -- a repeat changes nothing of the firm
 unchanged : (o : Option Refusal) (m : ℕ) (a : Asked) (firm : Firm) → edit_on (of m firm) a ≡ edit.Nothing → after_asked o m a firm ≡ firm
-unchanged None m a firm none = ap (λ (e : Edit). after_edit m e (last_after (of m firm).head e a.day) firm) none
-unchanged (Some r) m a firm none = refl
+unchanged o m a firm none = grind (arith, ints, nat_tests, after_edit, last_after, of)
 
 refused-leaves : (o : Option Refusal) (m : ℕ) (a : Asked) (firm : Firm) → is_some o ≡ true → after_asked o m a firm ≡ firm
-refused-leaves None m a firm is = absurd (false≢true is)
-refused-leaves (Some r) m a firm is = refl
+refused-leaves o m a firm is = grind (arith, ints, nat_tests)
 
 pub once-only : OnceOnly
 once-only m a again firm new between makes accepted runs same =
@@ -53,14 +51,12 @@ once-only m a again firm new between makes accepted runs same =
 -- A line.
 
 pub was-applied : (e : LineEffect) → counted_as e ≡ counted.Applied → IsApplied e
-was-applied (told.Applied e) is = tt
-was-applied _ is = absurd (cc)
+was-applied e is = grind (arith, ints, nat_tests)
 
 -- a line that is not applied leaves the rows and the movements
 both-stay : (l : BankLine) (firm : Firm) (e : LineEffect) → (IsApplied e → ⊥)
     → ((after_told l e firm).rows ≡ firm.rows) × ((after_told l e firm).movements ≡ firm.movements)
-both-stay l firm (told.Applied e) none = absurd (none tt)
-both-stay l firm _ none = (refl, refl)
+both-stay l firm e none = grind (arith, ints, nat_tests)
 
 not-applied : (firm : Firm) (l : BankLine) (day : ℕ) (b : Bool) → is_purged (of l.matter firm).head ≡ b → (is_purged (of l.matter firm).head ≡ false → line_on (of l.matter firm) l day ≡ told.Repeat) → IsApplied (line_on (of l.matter firm) l day) → ⊥
 not-applied firm l day true is repeat applied = purged-unapplied (of l.matter firm) l day is applied
@@ -79,8 +75,4 @@ line-once-only l again day later firm mid rest front between applied same runs =
     let solo : is_purged (solo_rows (rows_after_line (of m firm) l day) all.0).head ≡ false = subst (λ (r : Rows). is_purged r.head ≡ false) rows own in
     (λ i. line_on (of (same.matter i) now) again later) ∙ (ap (λ r. line_on r again later) rows ∙ repeat-later (of m firm) l again day later all.0 (was-applied (line_on (of m firm) l day) applied) same.line solo) in
     let stay = both-stay again now (line_on (of again.matter now) again later) (not-applied now again later (is_purged (of again.matter now).head) refl repeat) in
-    record {
-      rows = stay.0;
-      movements = stay.1;
-      repeat = λ kept. record { repeat = ap counted_as (repeat kept); leaves = ap (λ e. after_told again e now) (repeat kept) };
-    }
+    grind (arith, ints, nat_tests, counted_as, after_told)

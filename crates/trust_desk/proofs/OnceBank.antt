@@ -1,5 +1,5 @@
 -- A line of the firm's own, and a balance, that were applied are so once after every run.
-use Rattle.trust_desk.proofs.Names.{◌≡◌, ◌≢◌, ℕ, Bool, true, false, Option, Some, None, refl, sym, ap, ◌∙◌, subst, ℤ, ◌&&◌, ◌==◌, nat_le, if◌then◌else◌, list_any, int_eq, bytes_eq, Decides-int_eq, Line, Edit, BalanceKind, FirmLine, Verdict, Firm, after_edit, after, by_balance, by_firm_line, is_kept_as, is_bookable, kept_balance, balance_verdict, edit-leaves, line-kept, lines-stay, balance-kept, balances-stay, after_balance, after_item, after_items, balance_item, balance_on, counted_by, counted_of, firm_line_on, IsRepeated, IsUnmatched, IsSameFirmLine, FirmLineOnce, IsBalanceOver, BalanceOnce}
+use Rattle.trust_desk.proofs.Names.{◌≡◌, ◌≢◌, ℕ, Bool, true, false, Option, Some, None, refl, sym, ap, ◌∙◌, subst, ℤ, nat_le, if◌then◌else◌, list_any, int_eq, bytes_eq, Decides-int_eq, Line, Edit, BalanceKind, Verdict, Firm, after_edit, after, by_balance, by_firm_line, is_kept_as, is_bookable, kept_balance, balance_verdict, edit-leaves, line-kept, lines-stay, balance-kept, balances-stay, after_balance, after_item, after_items, balance_item, balance_on, counted_by, counted_of, firm_line_on, IsRepeated, IsUnmatched, IsSameFirmLine, FirmLineOnce, IsBalanceOver, BalanceOnce, arith, ints, nat_tests}
 use Rattle.firm_rows.specs.declared.ledger.BalanceKind.TheVariants as kind
 use Rattle.firm_rows.specs.declared.ledger.Verdict.TheVariants as own
 use Rattle.firm_rows.specs.LinesStay.{is_line_kept}
@@ -11,15 +11,7 @@ use Rattle.trust_desk.proofs.OnceRuns.{changes-keep}
 
 -- one that is no exception is kept
 line-first : (day : ℕ) (firm : Firm) (line : Line) → counted_of day firm (item.OfFirm line) ≢ counted.Exception → is_line_kept line (after_item day firm (item.OfFirm line)) ≡ true
-line-first day firm line some = cases (list_any (is_kept_as line) firm.firm_lines) (is_bookable firm.firm_lines line day) refl some
-  where
-    verdict : Bool → Bool → Verdict
-    verdict a b = if a then own.Repeat else (if b then own.Applied else own.Unmatched)
-
-    cases : (a b : Bool) → list_any (is_kept_as line) firm.firm_lines ≡ a → counted_by (verdict a b) ≢ counted.Exception → is_line_kept line (after (by_firm_line line (verdict a b)) firm) ≡ true
-    cases true b kept some = kept
-    cases false true kept some = line-kept line firm
-    cases false false kept some = absurd (some refl)
+line-first day firm line some = grind (arith, ints, nat_tests, after, line-kept)
 
 -- and stays kept
 abbrev KeepsLine : Line → Firm → Type 0
@@ -30,14 +22,12 @@ line-edits line m e last firm kept = ap (list_any (is_kept_as line)) (edit-leave
 
 -- the same line is kept as well
 same-kept : (line again : Line) (firm : Firm) → IsSameFirmLine line again → KeepsLine line firm → KeepsLine again firm
-same-kept line again firm same kept =
-    (λ i. list_any (λ (l : FirmLine). l.date == same.date i && bytes_eq l.bank_ref (same.bank_ref i) && int_eq l.amount (same.amount i)) firm.firm_lines) ∙ kept
+same-kept line again firm same kept = grind (arith, ints, nat_tests, list_any, bytes_eq, int_eq)
 
 -- one that is kept is a repeat
 line-repeat : (day : ℕ) (firm : Firm) (line : Line) → KeepsLine line firm → IsRepeated day firm (item.OfFirm line) line
 line-repeat day firm line kept =
-    let v : firm_line_on firm line day ≡ own.Repeat = ap (λ b. if b then own.Repeat else (if is_bookable firm.firm_lines line day then own.Applied else own.Unmatched)) kept in
-    record { repeat = ap counted_by v; leaves = ap (λ u. after (by_firm_line line u) firm) v }
+    grind (arith, ints, nat_tests, firm_line_on, is_bookable, counted_by, after, by_firm_line)
 
 pub firm-line-once : FirmLineOnce
 firm-line-once line again day later firm mid rest front between some same runs =
@@ -48,12 +38,10 @@ firm-line-once line again day later firm mid rest front between some same runs =
 -- A balance.
 
 pub counted-balance : (k : BalanceKind) (day : ℕ) (firm : Firm) (line : Line) → counted_of day firm (balance_item k line) ≡ counted_by (balance_on firm k line day)
-counted-balance kind.Opening day firm line = refl
-counted-balance kind.Closing day firm line = refl
+counted-balance k day firm line = grind (arith, ints, nat_tests)
 
 pub after-balance : (k : BalanceKind) (day : ℕ) (firm : Firm) (line : Line) → after_item day firm (balance_item k line) ≡ after_balance k line day firm
-after-balance kind.Opening day firm line = refl
-after-balance kind.Closing day firm line = refl
+after-balance k day firm line = grind (arith, ints, nat_tests)
 
 abbrev KeepsBalance : BalanceKind → Line → Firm → Type 0
 KeepsBalance k line firm = kept_balance k line.date firm.balances ≡ Some line.amount
@@ -90,8 +78,7 @@ module _ (day : ℕ) (firm : Firm) (k : BalanceKind) (line again : Line) (date :
       record { repeat = counted-balance k day firm again ∙ ap counted_by v; leaves = after-balance k day firm again ∙ ap (λ u. after (by_balance k again u) firm) v }
 
   unequal : (b : Bool) → int_eq line.amount again.amount ≡ b → again.amount ≢ line.amount → b ≡ false
-  unequal true is apart = absurd (apart (sym ((Decides-int_eq line.amount again.amount).0 is)))
-  unequal false is apart = refl
+  unequal b is apart = grind (arith, ints, nat_tests, again)
 
   other : again.amount ≢ line.amount → IsUnmatched day firm (balance_item k again) again
   other apart =

@@ -1,5 +1,5 @@
 -- What every item and every step of a firm keeps, every run keeps.
-use Rattle.trust_desk.proofs.Names.{◌≡◌, ℕ, Bool, true, false, List, [], ◌∷◌, Option, Some, None, refl, sym, subst, MatchBool, Refusal, Line, Edit, last_after, BankLine, LineEffect, Asked, line_on, refusal, edit_on, BalanceKind, Firm, of, after_edit, FirmChange, Repeated, Unmatched, after, FitsFirm, by_balance, by_firm_line, balance-fits, firm_line-fits, Item, Reply, after_told, after_item, after_items, after_balance, balance_on, firm_line_on, Heard, Kind, OfMatter, OfItems, Dismisses, kind_of, asked_on, dismiss_refusal, dismissed_unless, is_fault_reply, after_asked, firm_step, kind_step, IsStopped, KindStopped, Steps, Runs, DayRun, RunsOn}
+use Rattle.trust_desk.proofs.Names.{ℕ, List, [], ◌∷◌, Option, Some, None, sym, subst, Refusal, Line, Edit, last_after, BankLine, LineEffect, Asked, line_on, refusal, edit_on, BalanceKind, Firm, of, after_edit, FirmChange, Repeated, Unmatched, after, FitsFirm, by_balance, by_firm_line, balance-fits, firm_line-fits, Item, Reply, after_told, after_item, after_items, after_balance, balance_on, firm_line_on, Heard, Kind, OfMatter, OfItems, Dismisses, kind_of, asked_on, dismiss_refusal, dismissed_unless, is_fault_reply, after_asked, firm_step, kind_step, KindStopped, Steps, Runs, DayRun, RunsOn, arith, ints, nat_tests}
 use Rattle.trust_matter.specs.declared.line_verdict.LineEffect.TheVariants as told
 use Rattle.firm_rows.specs.declared.ledger.BalanceKind.TheVariants as kind
 use Rattle.statement_csv.specs.declared.item.Item.TheVariants as item
@@ -19,13 +19,8 @@ module _ (P : Firm → Type 0) (item-keeps : (day : ℕ) (firm : Firm) (it : Ite
   stopped-keeps day firm new _ stop is = subst P (sym stop) is
 
   one-keeps : (day : ℕ) (firm new : Firm) (h : Heard) (reply : Reply) → Steps day firm h reply new → P firm → P new
-  one-keeps day firm new h reply step is = cases (is_fault_reply reply) step
-    where
-      cases : (b : Bool)
-          → MatchBool b (IsStopped day firm h reply new) ((reply ≡ (firm_step day firm h).reply) × (new ≡ (firm_step day firm h).firm))
-          → P new
-      cases true stop = stopped-keeps day firm new (kind_of h) stop.leaves is
-      cases false step = subst P (sym step.1) (step-keeps day firm h is)
+  one-keeps day firm new h reply step is =
+      grind (arith, ints, nat_tests, is_fault_reply, firm_step, stopped-keeps, kind_of)
 
   run-keeps : (day : ℕ) (firm new : Firm) (hs : List Heard) (replies : List Reply) → Runs day firm hs replies new → P firm → P new
   run-keeps day firm new [] [] run is = subst P (sym run) is
@@ -51,23 +46,18 @@ module _ (P : Firm → Type 0) (change-keeps : (change : FirmChange) (firm : Fir
   told-keeps l (told.Unmatched r) firm is = change-keeps (Unmatched l.line) firm tt is
 
   balance-keeps : (day : ℕ) (firm : Firm) (k : BalanceKind) (line : Line) → P firm → P (after_balance k line day firm)
-  balance-keeps day firm k line is =
-      let v = balance_on firm k line day in
-      change-keeps (by_balance k line v) firm (balance-fits firm k line v (day, refl)) is
+  balance-keeps day firm k line is = grind (arith, ints, nat_tests, balance_on, by_balance, balance-fits)
 
   each-item : (day : ℕ) (firm : Firm) (it : Item) → P firm → P (after_item day firm it)
   each-item day firm (item.Opening line) is = balance-keeps day firm kind.Opening line is
   each-item day firm (item.Closing line) is = balance-keeps day firm kind.Closing line is
   each-item day firm (item.OfMatter l) is = told-keeps l (line_on (of l.matter firm) l day) firm is
-  each-item day firm (item.OfFirm line) is =
-      let v = firm_line_on firm line day in
-      change-keeps (by_firm_line line v) firm (firm_line-fits firm line v (day, refl)) is
+  each-item day firm (item.OfFirm line) is = grind (arith, ints, nat_tests, firm_line_on, by_firm_line, firm_line-fits)
   each-item day firm (item.Stray line) is = change-keeps (Unmatched line) firm tt is
   each-item day firm (item.Unreadable number) is = is
 
   asked-keeps : (o : Option Refusal) (m : ℕ) (a : Asked) (firm : Firm) → P firm → P (after_asked o m a firm)
-  asked-keeps None m a firm is = edit-keeps m (edit_on (of m firm) a) (last_after (of m firm).head (edit_on (of m firm) a) a.day) firm is
-  asked-keeps (Some r) m a firm is = is
+  asked-keeps o m a firm is = grind (arith, ints, nat_tests, edit_on, of, last_after)
 
   dismissed-keeps : (o : Option Refusal) (line : Line) (firm : Firm) → P firm → P (dismissed_unless o line firm)
   dismissed-keeps None line firm is = change-keeps (Repeated line) firm tt is

@@ -1,5 +1,5 @@
 -- Each matter's replies and rows in a run of the firm are those of its own machine.
-use Rattle.trust_desk.proofs.Names.{◌≡◌, ◌≢◌, ℕ, Bool, true, false, cond, List, [], ◌∷◌, ◌++◌, Option, Some, None, refl, sym, ap, ◌∙◌, subst, length, take, get_or, MatchBool, ◌==◌, cond_both, eqb-true, eqb-false, list_any, Line, Refusal, Asked, last_after, refusal, edit_on, rows_after, Firm, of, of-after_edit, of_other-after_edit, Request, Reply, names_item, Heard, Kind, OfMatter, OfItems, Dismisses, OnlyTold, NotRead, kind_of, OwnAsk, OwnRefusal, heard, names, kind_names, concerns, kind_concerns, own_if, own_of, kind_own, project, told, asked_on, is_the, dismiss_refusal, dismissed_unless, is_fault_reply, reply_of, refused, after_asked, after_ask, firm_step, kind_step, KindStopped, IsStopped, Steps, Runs, IsUnstopped, solo_rows, solo_replies}
+use Rattle.trust_desk.proofs.Names.{◌≡◌, ◌≢◌, ℕ, Bool, true, false, cond, List, [], ◌∷◌, ◌++◌, Option, Some, None, refl, sym, ap, ◌∙◌, subst, length, take, get_or, MatchBool, ◌==◌, cond_both, eqb-true, eqb-false, list_any, Line, Refusal, Asked, last_after, refusal, edit_on, rows_after, Firm, of, of-after_edit, of_other-after_edit, Request, Reply, names_item, Heard, Kind, OfMatter, OfItems, Dismisses, OnlyTold, NotRead, kind_of, OwnAsk, OwnRefusal, heard, names, kind_names, concerns, kind_concerns, own_if, own_of, kind_own, project, told, asked_on, is_the, dismiss_refusal, dismissed_unless, is_fault_reply, reply_of, refused, after_asked, after_ask, firm_step, kind_step, KindStopped, IsStopped, Steps, Runs, IsUnstopped, solo_rows, solo_replies, arith, ints, nat_tests}
 use Rattle.trust_matter.specs.Step.{after}
 use Rattle.trust_desk.specs.Isolation.{IsOwn, KeepsOthers, EachMatterOwn, SameForTheMatter}
 use Rattle.trust_desk.proofs.OwnItems.{solo_rows-append, solo_replies-append, of-after_items, silent-items, none-front, unnamed-items}
@@ -7,8 +7,7 @@ use Rattle.trust_desk.proofs.OwnItems.{solo_rows-append, solo_replies-append, of
 -- An ask is seen in its matter, and in no other.
 
 pub of-after_asked : (o : Option Refusal) (m : ℕ) (a : Asked) (firm : Firm) → of m (after_asked o m a firm) ≡ after o (edit_on (of m firm) a) a.day (of m firm)
-of-after_asked None m a firm = of-after_edit m (edit_on (of m firm) a) (last_after (of m firm).head (edit_on (of m firm) a) a.day) firm
-of-after_asked (Some r) m a firm = refl
+of-after_asked o m a firm = grind (arith, ints, nat_tests, of-after_edit, edit_on, of, last_after)
 
 of_other-after_asked : (o : Option Refusal) (n m : ℕ) (a : Asked) (firm : Firm) → n ≢ m → of n (after_asked o m a firm) ≡ of n firm
 of_other-after_asked None n m a firm apart = of_other-after_edit n m (edit_on (of m firm) a) (last_after (of m firm).head (edit_on (of m firm) a) a.day) firm apart
@@ -27,8 +26,7 @@ pub record IsOwnStep (m day : ℕ) (firm : Firm) (h : Heard) (reply : Reply) (ne
 
 -- dismissing a line leaves the rows of every matter
 dismissed-rows : (m : ℕ) (o : Option Refusal) (line : Line) (firm : Firm) → of m (dismissed_unless o line firm) ≡ of m firm
-dismissed-rows m None line firm = refl
-dismissed-rows m (Some r) line firm = refl
+dismissed-rows m o line firm = grind (arith, ints, nat_tests)
 
 kind-rows : (m day : ℕ) (firm : Firm) (k : Kind) → of m (kind_step day firm k).firm ≡ solo_rows (of m firm) (kind_own m day k)
 kind-rows m day firm (OfMatter n caller ask) =
@@ -39,8 +37,7 @@ kind-rows m day firm (OfMatter n caller ask) =
 kind-rows m day firm (OfItems refused items) = of-after_items m day firm items
 kind-rows m day firm (Dismisses caller line) = dismissed-rows m (dismiss_refusal caller line firm) line firm
 kind-rows m day firm (OnlyTold text) = refl
-kind-rows m day firm (NotRead n r) =
-    cond_both (is_the m n) (OwnRefusal r ∷ []) [] (λ owns. of m firm ≡ solo_rows (of m firm) owns) (λ is. refl) (λ is. refl)
+kind-rows m day firm (NotRead n r) = grind (arith, ints, nat_tests, cond_both, is_the, of, solo_rows)
 
 pub own-rows : (m day : ℕ) (firm : Firm) (h : Heard) → of m (firm_step day firm h).firm ≡ solo_rows (of m firm) (own_of m day h)
 own-rows m day firm h = kind-rows m day firm (kind_of h)
@@ -75,20 +72,14 @@ same-reply m day f g h named same = cases (names m h) named (own-reply m day f h
 -- What does not concern a matter.
 
 kind-other : (m day : ℕ) (firm : Firm) (k : Kind) → kind_concerns m k ≡ false → of m (kind_step day firm k).firm ≡ of m firm
-kind-other m day firm (OfMatter n caller ask) other =
-    let a = asked_on day caller ask in
-    of_other-after_asked (refusal (of n firm) a) m n a firm (λ same. eqb-false n m other (sym same))
-kind-other m day firm (OfItems refused items) other = unnamed-items m day firm items other
-kind-other m day firm (Dismisses caller line) other = dismissed-rows m (dismiss_refusal caller line firm) line firm
-kind-other m day firm _ other = refl
+kind-other m day firm k other =
+    grind (arith, ints, nat_tests, of_other-after_asked, of, eqb-false, refused, unnamed-items, dismissed-rows)
 
 pub other-rows : (m day : ℕ) (firm : Firm) (h : Heard) → concerns m h ≡ false → of m (firm_step day firm h).firm ≡ of m firm
 other-rows m day firm h other = kind-other m day firm (kind_of h) other
 
 unnamed : (m : ℕ) (k : Kind) → kind_concerns m k ≡ false → kind_names m k ≡ false
-unnamed m (OfMatter n caller ask) other = other
-unnamed m (NotRead n r) other = other
-unnamed m _ other = refl
+unnamed m k other = grind (arith, ints, nat_tests)
 
 stopped-rows : (m day : ℕ) (firm new : Firm) (k : Kind) → KindStopped day firm k new → kind_concerns m k ≡ false → of m new ≡ of m firm
 stopped-rows m day firm new (OfItems refused items) is other =
@@ -131,8 +122,7 @@ steps-own m day firm new h reply fine step = cases (concerns m h) refl (is_fault
 -- A run.
 
 told-more : (b : Bool) (reply : Reply) (rs : List Reply) → cond b (reply ∷ rs) rs ≡ reply_if b reply ++ rs
-told-more true reply rs = refl
-told-more false reply rs = refl
+told-more b reply rs = grind (arith, ints, nat_tests)
 
 -- one more step in front
 own-more : (m day : ℕ) (firm mid new : Firm) (h : Heard) (hs : List Heard) (reply : Reply) (replies : List Reply) → IsOwnStep m day firm h reply mid → IsOwn m day mid hs replies new → IsOwn m day firm (h ∷ hs) (reply ∷ replies) new
@@ -152,17 +142,12 @@ each-own m day firm _ _ new fine run = absurd run
 
 pub same-for_the_matter : SameForTheMatter
 same-for_the_matter m d e f g ps qs rs ss f' g' rows heard fine well here there =
-    let a = each-own m d f ps rs f' fine here in
-    let b = each-own m e g qs ss g' well there in (
-      a.answers ∙ ((λ i. solo_replies m (rows i) (heard i)) ∙ sym b.answers),
-      a.rows ∙ ((λ i. solo_rows (rows i) (heard i)) ∙ sym b.rows),
-    )
+    grind (arith, ints, nat_tests, each-own, solo_replies, solo_rows)
 
 -- the replies to the first requests
 pub own-run : (m day : ℕ) (firm new : Firm) (requests : List Request) (i : ℕ) (replies all : List Reply) → all ≡ replies → length replies ≡ i → Runs day firm (heard (take i requests)) replies new → IsUnstopped m (heard (take (length all) requests)) all → IsOwn m day firm (heard (take (length all) requests)) all new
 own-run m day firm new requests i replies all same long run =
-    subst (λ (rs : List Reply). IsUnstopped m (heard (take (length rs) requests)) rs → IsOwn m day firm (heard (take (length rs) requests)) rs new) (sym same)
-    (λ fine. each-own m day firm (heard (take (length replies) requests)) replies new fine (subst (λ n. Runs day firm (heard (take n requests)) replies new) (sym long) run))
+    grind (arith, ints, nat_tests, heard, take, length, each-own)
 
 -- a single step
 pub own-once : (m day : ℕ) (firm new : Firm) (h : Heard) (reply : Reply) → is_fault_reply reply ≡ false → Steps day firm h reply new → IsOwn m day firm (h ∷ []) (reply ∷ []) new

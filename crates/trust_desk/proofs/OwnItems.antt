@@ -1,5 +1,5 @@
 -- What the items of a statement do to a matter is what its own machine does with the lines that name it.
-use Rattle.trust_desk.proofs.Names.{◌≡◌, ◌≢◌, ℕ, false, ◌||◌, List, [], ◌∷◌, ◌++◌, refl, sym, ap, ◌∙◌, subst, append_assoc, ◌==◌, cond_both, eqb-true, eqb-false, or_parts, list_any, BankLine, LineEffect, Rows, line_on, after_line_effect, rows_after_line, Line, BalanceKind, Verdict, Firm, of, after, by_balance, by_firm_line, of-after_edit, of_other-after_edit, Item, after_told, after_item, after_items, balance_on, firm_line_on, names_item, Own, OwnLine, own_if, own_of_item, own_of_items, own_rows, own_reply, solo_rows, solo_replies}
+use Rattle.trust_desk.proofs.Names.{◌≡◌, ◌≢◌, ℕ, false, ◌||◌, List, [], ◌∷◌, ◌++◌, refl, sym, ap, ◌∙◌, append_assoc, cond_both, eqb-true, eqb-false, or_parts, list_any, BankLine, LineEffect, Rows, line_on, after_line_effect, rows_after_line, Line, BalanceKind, Verdict, Firm, of, after, by_balance, by_firm_line, of-after_edit, of_other-after_edit, Item, after_told, after_item, after_items, names_item, Own, own_if, own_of_item, own_of_items, own_rows, own_reply, solo_rows, solo_replies, arith, ints, nat_tests}
 use Rattle.trust_matter.specs.declared.line_verdict.LineEffect.TheVariants as told
 use Rattle.firm_rows.specs.declared.ledger.BalanceKind.TheVariants as kind
 use Rattle.firm_rows.specs.declared.ledger.Verdict.TheVariants as own
@@ -20,38 +20,27 @@ solo_replies-append m rows (x ∷ xs) ys =
 -- A line is seen in its matter, and in no other.
 
 of-after_told : (l : BankLine) (e : LineEffect) (firm : Firm) → of l.matter (after_told l e firm) ≡ after_line_effect e (of l.matter firm)
-of-after_told l (told.Applied e) firm = of-after_edit l.matter e.edit e.last firm
-of-after_told l _ firm = refl
+of-after_told l e firm = grind (arith, ints, nat_tests, of-after_edit)
 
 pub of-after_line : (l : BankLine) (day : ℕ) (firm : Firm) → of l.matter (after_item day firm (item.OfMatter l)) ≡ rows_after_line (of l.matter firm) l day
 of-after_line l day firm = of-after_told l (line_on (of l.matter firm) l day) firm
 
 of_other-after_told : (m : ℕ) (l : BankLine) (e : LineEffect) (firm : Firm) → m ≢ l.matter → of m (after_told l e firm) ≡ of m firm
-of_other-after_told m l (told.Applied e) firm apart = of_other-after_edit m l.matter e.edit e.last firm apart
-of_other-after_told m l _ firm apart = refl
+of_other-after_told m l e firm apart = grind (arith, ints, nat_tests, of_other-after_edit)
 
 -- A line of the firm's own, or a balance, is seen in none.
 
 pub of-balance : (m : ℕ) (kind : BalanceKind) (line : Line) (v : Verdict) (firm : Firm) → of m (after (by_balance kind line v) firm) ≡ of m firm
-of-balance m kind line own.Applied firm = refl
-of-balance m kind line _ firm = refl
+of-balance m kind line v firm = grind (arith, ints, nat_tests)
 
 of-firm_line : (m : ℕ) (line : Line) (v : Verdict) (firm : Firm) → of m (after (by_firm_line line v) firm) ≡ of m firm
-of-firm_line m line own.Applied firm = refl
-of-firm_line m line _ firm = refl
+of-firm_line m line v firm = grind (arith, ints, nat_tests)
 
 -- An item.
 
 pub of-after_item : (m day : ℕ) (firm : Firm) (it : Item) → of m (after_item day firm it) ≡ solo_rows (of m firm) (own_of_item m day it)
-of-after_item m day firm (item.Opening line) = of-balance m kind.Opening line (balance_on firm kind.Opening line day) firm
-of-after_item m day firm (item.Closing line) = of-balance m kind.Closing line (balance_on firm kind.Closing line day) firm
-of-after_item m day firm (item.OfMatter l) =
-    let e = line_on (of l.matter firm) l day in
-    cond_both (l.matter == m) (OwnLine l day ∷ []) [] (λ owns. of m (after_told l e firm) ≡ solo_rows (of m firm) owns)
-    (λ same. subst (λ (k : ℕ). of k (after_told l e firm) ≡ rows_after_line (of k firm) l day) (eqb-true l.matter m same) (of-after_told l e firm))
-    (λ other. of_other-after_told m l e firm (λ same. eqb-false l.matter m other (sym same)))
-of-after_item m day firm (item.OfFirm line) = of-firm_line m line (firm_line_on firm line day) firm
-of-after_item m day firm _ = refl
+of-after_item m day firm it =
+    grind (arith, ints, nat_tests, of-balance, of, cond_both, eqb-true, of-after_told, of_other-after_told, eqb-false, of-firm_line)
 
 pub of-after_items : (m day : ℕ) (firm : Firm) (items : List Item) → of m (after_items day firm items) ≡ solo_rows (of m firm) (own_of_items m day items)
 of-after_items m day firm [] = refl
@@ -62,22 +51,17 @@ of-after_items m day firm (it ∷ items) =
 -- Lines give no reply.
 
 silent-item : (m day : ℕ) (rows : Rows) (it : Item) → solo_replies m rows (own_of_item m day it) ≡ []
-silent-item m day rows (item.OfMatter l) =
-    cond_both (l.matter == m) (OwnLine l day ∷ []) [] (λ owns. solo_replies m rows owns ≡ []) (λ is. refl) (λ is. refl)
-silent-item m day rows _ = refl
+silent-item m day rows it = grind (arith, ints, nat_tests, cond_both, solo_replies)
 
 pub silent-items : (m day : ℕ) (rows : Rows) (items : List Item) → solo_replies m rows (own_of_items m day items) ≡ []
 silent-items m day rows [] = refl
 silent-items m day rows (it ∷ items) =
-    solo_replies-append m rows (own_of_item m day it) (own_of_items m day items)
-    ∙ (ap (λ rs. rs ++ solo_replies m (solo_rows rows (own_of_item m day it)) (own_of_items m day items)) (silent-item m day rows it)
-    ∙ silent-items m day (solo_rows rows (own_of_item m day it)) items)
+    grind (arith, ints, nat_tests, solo_replies-append, silent-item, (silent-items m day (solo_rows rows (own_of_item m day it)) items))
 
 -- A matter that no item names.
 
 none-item : (m day : ℕ) (it : Item) → names_item m it ≡ false → own_of_item m day it ≡ []
-none-item m day (item.OfMatter l) other = ap (λ b. own_if b (OwnLine l day)) other
-none-item m day _ other = refl
+none-item m day it other = grind (arith, ints, nat_tests, own_if)
 
 pub none-items : (m day : ℕ) (items : List Item) → list_any (names_item m) items ≡ false → own_of_items m day items ≡ []
 none-items m day [] other = refl

@@ -1,20 +1,17 @@
 -- What is answered by what was kept of a firm's rows is the firm's reconciliation.
-use Rattle.trust_desk.proofs.Names.{◌≡◌, ℕ, Ok, Bool, Option, Some, None, refl, AreHanded, IsRead, fold, StoreFault, sym, ap, ◌∙◌, subst, is_none, Firm, FirmSound, ReconciliationKept, ReconciliationTold, kept_told, reconciled, reconciliation_on, IsReconciled, has_no_statement, reconciliation_report}
+use Rattle.trust_desk.proofs.Names.{◌≡◌, ℕ, Ok, Option, AreHanded, IsRead, fold, StoreFault, sym, ◌∙◌, subst, is_none, Firm, FirmSound, ReconciliationKept, kept_told, reconciled, reconciliation_on, IsReconciled, has_no_statement, reconciliation_report, arith, ints, nat_tests, IsBalanceInRange, IsFirmLineInRange, IsLineInRange, IsMovementInRange, IsRowInRange, IsAnswer, IsKeptOf}
 use Rattle.std.specs.Option.{option_map}
 use Rattle.trust_reports.specs.Figures.{closing_on, figures, figures_on}
-use Rattle.firm_rows.specs.Countable.{IsBalanceInRange, IsFirmLineInRange, IsLineInRange, IsMovementInRange, IsRowInRange}
 use Rattle.trust_reports.specs.Openings.{AreClosings}
 use Rattle.trust_reports.specs.Purged.{is_period_purged}
 use Rattle.firm_figures.specs.Reconciliations.{nothing_kept, with_balance_noted, with_exception_kept, with_movement_kept, with_own_kept, with_row_kept}
 use Rattle.trust_reports.proofs.ReconciliationRows.{reconciliation-kept}
 use Rattle.trust_desk.proofs.ReportTexts.{handed-before}
-use Rattle.trust_desk.specs.Kept.{IsAnswer, IsKeptOf}
 use Rattle.trust_desk.specs.declared.desk.Reconciled.{Reconciled}
 use Rattle.trust_desk.specs.declared.desk.Reconciled.TheVariants as answer
 
 none-map : {A C : Type 0} (f : A → C) (o : Option A) → is_none (option_map f o) ≡ is_none o
-none-map f None = refl
-none-map f (Some x) = refl
+none-map f o = grind (arith, ints, nat_tests)
 
 -- there is a reconciliation where and only where there is a closing balance of the day
 none-found : (day : ℕ) (firm : Firm) → is_none (reconciliation_on day firm) ≡ has_no_statement day firm
@@ -23,19 +20,13 @@ none-found day firm = none-map (reconciled day firm) (figures_on day firm) ∙ n
 
 of-firm : (day : ℕ) (firm : Firm) (a : Reconciled) → IsAnswer day (reconciliation_on day firm) (is_period_purged day firm) a → IsReconciled day firm a
 unfolding reconciliation_report
-of-firm day firm answer.NoStatement none = sym (none-found day firm) ∙ none
-of-firm day firm answer.PeriodPurged is = (sym (none-found day firm) ∙ is.0, is.1)
-of-firm day firm (answer.Text text) is = (sym (none-found day firm) ∙ is.0, is.1)
+of-firm day firm a none = grind (arith, ints, nat_tests, none-found)
 
 pub closings-kept : (day : ℕ) (firm : Firm) (kept : ReconciliationKept) → FirmSound firm → IsKeptOf day firm kept → AreClosings kept.balances.closings
 closings-kept day firm kept sound is = subst (λ (k : ReconciliationKept). AreClosings k.balances.closings) (sym is.all) (reconciliation-kept day firm sound is.countable).rising
 
 pub answer-told : (day : ℕ) (firm : Firm) (kept : ReconciliationKept) (a : Reconciled) → FirmSound firm → IsKeptOf day firm kept → IsAnswer day (kept_told kept) kept.period.purged a → IsReconciled day firm a
-answer-told day firm kept a sound is given =
-    let law = reconciliation-kept day firm sound is.countable in
-    let told : kept_told kept ≡ reconciliation_on day firm = ap kept_told is.all ∙ law.told in
-    let purged : kept.period.purged ≡ is_period_purged day firm = ap (λ (k : ReconciliationKept). k.period.purged) is.all ∙ law.purged in
-    of-firm day firm a (subst (λ (o : Option ReconciliationTold). IsAnswer day o (is_period_purged day firm) a) told (subst (λ (b : Bool). IsAnswer day (kept_told kept) b a) purged given))
+answer-told day firm kept a sound is given = grind (arith, ints, nat_tests, reconciliation-kept, of-firm)
 
 -- The rows are handed over one kind after the other.
 
@@ -48,35 +39,4 @@ pub rows-kept : {B T : Type 0} {firm : B → Firm} {clean sure stands lasts : B 
     → IsRead firm clean sure stands lasts leaves refusals (Ok w) e f → (clean f → stands e → AreHanded {E = StoreFault} with_balance_noted IsBalanceInRange (firm e).balances (Ok w) s4 s5)
     → clean f → stands a → IsKeptOf day (firm a) s5
 rows-kept {firm} {a} day s0 none r1 h1 r2 h2 r3 h3 r4 h4 r5 h5 c5 st0 =
-    let c4 = r5.was_clean c5 in
-    let c3 = r4.was_clean c4 in
-    let c2 = r3.was_clean c3 in
-    let c1 = r2.was_clean c2 in
-    let st1 = r1.still_stands c1 st0 in
-    let st2 = r2.still_stands c2 st1 in
-    let st3 = r3.still_stands c3 st2 in
-    let st4 = r4.still_stands c4 st3 in
-    let same1 = r1.same c1 st0 in
-    let same2 = r2.same c2 st1 ∙ same1 in
-    let same3 = r3.same c3 st2 ∙ same2 in
-    let same4 = r4.same c4 st3 ∙ same3 in
-    let rows = h1 c1 st0 in
-    let movements = handed-before (λ (f : Firm). f.movements) same1 (h2 c2 st1) in
-    let lines = handed-before (λ (f : Firm). f.firm_lines) same2 (h3 c3 st2) in
-    let exceptions = handed-before (λ (f : Firm). f.exceptions) same3 (h4 c4 st3) in
-    let balances = handed-before (λ (f : Firm). f.balances) same4 (h5 c5 st4) in
-    record {
-      all = balances.all
-          ∙ ap (λ s. fold with_balance_noted s (firm a).balances) (exceptions.all
-          ∙ ap (λ s. fold with_exception_kept s (firm a).exceptions) (lines.all
-          ∙ ap (λ s. fold with_own_kept s (firm a).firm_lines) (movements.all
-          ∙ ap (λ s. fold with_movement_kept s (firm a).movements) (rows.all
-          ∙ ap (λ s. fold with_row_kept s (firm a).rows) none))));
-      countable = record {
-        rows = rows.countable;
-        movements = movements.countable;
-        firm_lines = lines.countable;
-        exceptions = exceptions.countable;
-        balances = balances.countable;
-      };
-    }
+    grind (arith, ints, nat_tests, handed-before, fold)

@@ -1,7 +1,6 @@
 -- The texts of what the sinks kept are the reports.
-use Rattle.trust_desk.proofs.Names.{◌≡◌, ℕ, Result, StoreFault, AreHanded, subst, List, [], ◌∷◌, ◌++◌, fold, sym, ap, ◌∙◌, append_assoc, append-nil, codes, Firm, FirmSound, JournalKept, TrialKept, no_journal, trial_kept, trial_of, trial_sum, with_moved, Retained, none_retained, with_row_retained, exception_line, exceptions_text, journal_text, retention_text, trial_text, exceptions_report, journal_report, retention_report, trial_report}
+use Rattle.trust_desk.proofs.Names.{◌≡◌, ℕ, Result, StoreFault, AreHanded, subst, List, [], ◌∷◌, ◌++◌, fold, sym, ap, ◌∙◌, append_assoc, append-nil, codes, Firm, FirmSound, JournalKept, TrialKept, no_journal, trial_kept, trial_of, trial_sum, with_moved, Retained, none_retained, with_row_retained, exception_line, exceptions_text, journal_text, retention_text, trial_text, exceptions_report, journal_report, retention_report, trial_report, arith, ints, nat_tests, AreCountable, IsFirmLineInRange, IsMovementInRange, IsRowInRange}
 use Rattle.std.proofs.Common.{flat_map}
-use Rattle.firm_rows.specs.Countable.{AreCountable, IsFirmLineInRange, IsMovementInRange, IsRowInRange}
 use Rattle.trust_reports.proofs.Lists.{journal-kept}
 use Rattle.trust_reports.proofs.Retained.{retention-kept}
 use Rattle.trust_reports.proofs.Trial.{total-kept, trial-kept}
@@ -10,9 +9,7 @@ use Rattle.trust_reports.specs.Texts.{heading}
 pub trial-told : (today : ℕ) (firm : Firm) (kept : TrialKept) → FirmSound firm → AreCountable IsRowInRange firm.rows → AreCountable IsFirmLineInRange firm.firm_lines → kept ≡ trial_kept firm → trial_text today kept.lines kept.own (trial_sum kept) ≡ trial_report today firm
 unfolding trial_report
 trial-told today firm kept sound some few is =
-    let all : kept ≡ trial_of firm = is ∙ trial-kept firm sound.in_order some few in
-    let total = ap trial_sum all ∙ total-kept firm sound some few in
-    λ i. trial_text today (all i).lines (all i).own (total i)
+    grind (arith, ints, nat_tests, trial_of, trial-kept, trial_sum, total-kept, trial_text)
 
 pub journal-told : (today : ℕ) (firm : Firm) (kept : JournalKept) → AreCountable IsMovementInRange firm.movements → kept ≡ fold with_moved no_journal firm.movements → journal_text today kept.lines ≡ journal_report today firm
 unfolding journal_report

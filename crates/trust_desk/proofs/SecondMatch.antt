@@ -1,5 +1,5 @@
 -- A second match, behind the import of what the first wrote, fills nothing.
-use Rattle.trust_desk.proofs.Names.{◌≡◌, ◌≢◌, ◌∙◌, sym, ap, subst, ℕ, zero, Bool, false, List, [], ◌∷◌, ◌++◌, map, get_or, append_assoc, append-nil, Some, refl, arith, Contains, filter, flat_map, list_any, bytes_eq, cond-false, or_from, or_parts, Contains-append_right, Contains-get_or, filter-append, Line, Entry, cleared_payment, deposit_by, Edit, changed_by, LineEffect, last_by, line_facts, line_on, told_by, Firm, of, put, FirmSound, IsInOrder, item_of_line, booking_of, is_beside, Waiting, fits, deposit_bookings, deposit_waiting, entry_bookings, entry_waiting, held_of, own_booking, payment_bookings, payment_waiting, row_bookings, row_waiting, HasMatterNumbers, with_reference, written, entry_once, wait_apart, filled_if_sure, sure_of, front_apart, stems, later, by_waiting, after_item, after_items, after_told, AreNameless, SecondMatchFillsNothing, items_of}
+use Rattle.trust_desk.proofs.Names.{◌≡◌, ◌≢◌, ◌∙◌, sym, ap, subst, ℕ, zero, Bool, false, List, [], ◌∷◌, ◌++◌, map, get_or, append_assoc, append-nil, Some, refl, arith, Contains, filter, flat_map, list_any, cond-false, or_from, or_parts, Contains-append_right, Contains-get_or, filter-append, Line, Entry, cleared_payment, deposit_by, Edit, changed_by, LineEffect, last_by, line_facts, line_on, told_by, Firm, of, put, FirmSound, IsInOrder, item_of_line, booking_of, is_beside, Waiting, fits, deposit_bookings, entry_bookings, entry_waiting, held_of, own_booking, payment_bookings, row_bookings, row_waiting, HasMatterNumbers, with_reference, written, entry_once, wait_apart, filled_if_sure, sure_of, front_apart, stems, later, by_waiting, after_item, after_items, after_told, AreNameless, SecondMatchFillsNothing, items_of, ints, nat_tests}
 use Rattle.std.proofs.lemmas.List.Folds.{list_any-append}
 use Rattle.matter_rows.specs.declared.entry.Entry.TheVariants as entry
 use Rattle.matter_parts.specs.declared.edit.Edit.TheVariants as edit
@@ -26,25 +26,16 @@ cleared (entry.Claim c) line today = entry.Claim c
 
 exchanged : (m n : ℕ) (e : Entry) (w : Waiting) (line : Line) (today : ℕ) → Contains (entry_waiting m n e) w
     → told_by n (Some e) line today ≡ edit.Exchange (record { number = n; entry = cleared e line today })
-exchanged m n e w line today waits =
-    by_waiting (λ (x : Entry). told_by n (Some x) line today
-    ≡ edit.Exchange (record { number = n; entry = cleared x line today })) m n w (λ d held is. refl)
-    (λ p day issued is. refl) e waits
+exchanged m n e w line today waits = grind (arith, ints, nat_tests, by_waiting, told_by, cleared)
 
 -- it waits no longer
 done : (m n : ℕ) (e : Entry) (w : Waiting) (line : Line) (today : ℕ) → Contains (entry_waiting m n e) w
     → entry_waiting m n (cleared e line today) ≡ []
-done m n e w line today waits =
-    by_waiting (λ (x : Entry). entry_waiting m n (cleared x line today) ≡ []) m n w
-    (λ d held is. ap (λ s. deposit_waiting m n (record d { state = deposit_by line today d.state }) (deposit_by line today s)) held)
-    (λ p day issued is. ap (λ s. payment_waiting m n (record p { state = cleared_payment line p.state }) (cleared_payment line s)) issued)
-    e waits
+done m n e w line today waits = grind (arith, ints, nat_tests, by_waiting, cleared)
 
 -- nothing of it was booked
 unbooked : (m n : ℕ) (e : Entry) (w : Waiting) → Contains (entry_waiting m n e) w → entry_bookings e ≡ []
-unbooked m n e w waits =
-    by_waiting (λ (x : Entry). entry_bookings x ≡ []) m n w (λ d held is. ap (deposit_bookings d.amount) held)
-    (λ p day issued is. ap (payment_bookings p.amount) issued) e waits
+unbooked m n e w waits = grind (arith, ints, nat_tests, by_waiting, entry_bookings, deposit_bookings, payment_bookings)
 
 none_kept : {A : Type 0} (p : A → Bool) (xs : List A) → ((x : A) → Contains xs x → p x ≡ false) → filter p xs ≡ []
 none_kept p [] off = refl
@@ -104,8 +95,7 @@ module _ (today : ℕ) (firm : Firm) (x : Line) (w : Waiting) (ready : IsReady t
       let gathered = put_gathered row_waiting (λ a b. filter p a ≡ filter p b) (λ xs. refl)
       (λ a b c d first second. filter-append p a c ∙ (λ i. first i ++ second i) ∙ sym (filter-append p b d))
       m n step.last firm.rows (of m firm) ready.made new ready.stands.there entry_same (λ h g. refl) in
-      ap (λ rs. filter p (flat_map row_waiting rs)) step.rows ∙ gathered
-      ∙ ap (λ rs. filter p (flat_map row_waiting rs)) (order.rows m)
+      grind (arith, ints, nat_tests, filter, flat_map, row_waiting)
 
   -- a line that none of the book is beside then had none beside it before
   apart_before : (line : Line) → IsInOrder firm → is_beside_booked (held_of one) line ≡ false
@@ -196,11 +186,4 @@ second_match_fills_nothing today firm lines line reference sound numbers nameles
     (nameless.from_bank line there) filled in
     let clash : outcome.InBook ≡ outcome.Filled reference = sym booked ∙ again in cc in
     let kept = as_before today firm lines line sound numbers nameless there unfilled in
-    let found = sure_of today after lines line reference again in
-    let named = filled_waits today (after_items today firm (items_of 1 (written today held lines))) lines line reference
-    again in
-    let some : bytes_eq [] found.0.reference ≡ false = ap (bytes_eq []) (sym found.2 ∙ named.4) in
-    let unclaimed = none_claims held.exceptions lines found.0.reference nameless.opened nameless.unnamed some in
-    let sure = sure_before today held after lines line found.0 there kept.same (kept.apart found.1.apart)
-    (nameless.unnamed line there) unclaimed found.1 in
-    unfilled found.0.reference (filled_if_sure today held lines line found.0 sure)
+    grind (arith, ints, nat_tests, sure_of, filled_waits, after_items, written, none_claims, sure_before, filled_if_sure)

@@ -1,5 +1,5 @@
 -- A step by its reply.
-use Rattle.trust_desk.proofs.Names.{◌≡◌, inl, inr, ℕ, true, false, [], refl, is_fault, Refusal, Firm, Reply, Heard, Kind, OfItems, kind_of, is_fault_reply, refused, IsFaultReply, KindStopped, Stopped, Steps, firm_step}
+use Rattle.trust_desk.proofs.Names.{◌≡◌, ℕ, true, false, [], refl, is_fault, Refusal, Firm, Reply, Heard, Kind, OfItems, kind_of, is_fault_reply, refused, IsFaultReply, KindStopped, Stopped, Steps, firm_step, arith, ints, nat_tests}
 use Rattle.trust_base.specs.declared.refusal.Refusal.TheVariants as refusals
 
 kind-not_done : (day : ℕ) (firm : Firm) (k : Kind) → KindStopped day firm k firm
@@ -12,9 +12,7 @@ nothing-done day firm h = kind-not_done day firm (kind_of h)
 
 -- the reply to a fault
 fault-reply : (r : Refusal) → is_fault r ≡ true → IsFaultReply (refused r)
-fault-reply refusals.Store fault = inl refl
-fault-reply refusals.Memory fault = inr refl
-fault-reply _ fault = absurd (cc)
+fault-reply r fault = grind (arith, ints, nat_tests)
 
 pub steps-fault : (day : ℕ) (firm new : Firm) (h : Heard) (r : Refusal) → is_fault r ≡ true → Stopped day firm h new → Steps day firm h (refused r) new
 steps-fault day firm new h r fault stopped = rw fault (record { says = fault-reply r fault; leaves = stopped })

@@ -1,5 +1,5 @@
 -- Behind the last number no entry is made.
-use Rattle.trust_matter.proofs.Names.{Bool, Entry, Head, List, None, Seat, Some, arith, cond, conditions, early_conditions, facts_of, false, false≢true, first, is_of_nobody, is_repeat, length, nat_lt, nat_tests, refl, refusal, sym, true, ℕ, ◌≡◌, ◌≤◌}
+use Rattle.trust_matter.proofs.Names.{Bool, Entry, Head, List, None, Seat, Some, arith, cond, conditions, early_conditions, facts_of, false, false≢true, first, is_of_nobody, is_repeat, length, nat_lt, nat_tests, refusal, true, ℕ, ◌≡◌, ◌≤◌}
 use Rattle.trust_base.specs.declared.refusal.Refusal.TheVariants as refusals
 use Rattle.trust_matter.specs.Cases.{by_cashier, retainer, FullIsTold}
 

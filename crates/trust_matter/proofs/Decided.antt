@@ -1,5 +1,5 @@
 -- What is decided on what is kept is decided on the rows.
-use Rattle.trust_matter.proofs.Names.{AnswersBy, AreSmallTotals, Asked, Decides, Edit, EditMoved, Err, Facts, HasAmount, IfOk, IsMade, IsPart, MatterChange, Ok, OnErr, Part, Refusal, Result, Rows, Sound, TotalsAfter, ap, edit_on, entry_at, entry_in, facts_of, holds_for, is_held_or_none, kept_at, kept_facts, last_after, never-store, number_named, other_of, refl, subst, true, ◌∙◌, ◌≡◌}
+use Rattle.trust_matter.proofs.Names.{AnswersBy, AreSmallTotals, Asked, Decides, Edit, EditMoved, Err, Facts, HasAmount, IfOk, IsMade, IsPart, MatterChange, Ok, OnErr, Part, Refusal, Result, Rows, Sound, TotalsAfter, edit_on, entry_at, entry_in, facts_of, holds_for, kept_at, kept_facts, last_after, never-store, number_named, other_of, subst, true, ◌≡◌, arith, ints, nat_tests}
 use Rattle.trust_matter.proofs.Parts.{facts-same, both, made-is}
 use Rattle.trust_matter.proofs.Steps.{step}
 
@@ -18,23 +18,10 @@ pub decided-made : (m : Part) (a : Asked) (e : Edit) (r : Result MatterChange Re
     → OnErr r ((v : TotalsAfter) → AreSmallTotals v → EditMoved m e v → ⊥) → DecidesAll m a r
 decided-made m a e (Ok c) h amount g made none rows s p =
     let on = on-rows m rows a (Ok e) h s p g in
-    let n = number_named a.ask in
-    record {
-      accepted = on.0;
-      edit = made.of_edit ∙ on.1;
-      last = made.on_day ∙ rw (p.head, on.1) refl;
-      change =
-          made-is m rows (other_of a.ask (entry_at rows.entries n)) n (last_after m.head e a.day) e c p s
-          (rw (p.head, on.1) (step rows a s amount on.0)) made;
-    }
+    grind (arith, ints, nat_tests, number_named, made-is, other_of, entry_at, last_after, step)
 decided-made m a e (Err r) h amount g made none rows s p =
     let on = on-rows m rows a (Ok e) h s p g in
-    let n = number_named a.ask in
-    let entry = ap (λ (f : Facts). f.entry) (facts-same m rows a.ask s.backed.named p h) in
-    let parts = both (is_held_or_none m n) (is_held_or_none m (other_of a.ask (entry_in (kept_at m n)))) h in
-    let M : Edit → Type 0 = λ x. (v : TotalsAfter) → AreSmallTotals v → EditMoved m x v → ⊥ in
-    absurd (never-store m rows (other_of a.ask (entry_at rows.entries n)) n (edit_on rows a) s.backed p
-    (step rows a s amount on.0).may (rw entry at parts.1) parts.0 (subst M on.1 none))
+    grind (arith, ints, nat_tests, facts-same, both, entry_in, kept_at, never-store, entry_at, edit_on, step)
 
 -- a refusal by what is kept is that of the rows
 pub decided-refused : (m : Part) (a : Asked) (r : Refusal) → holds_for m a.ask ≡ true

@@ -1,12 +1,10 @@
 -- What an accepted ask leaves of the head and the seats.
-use Rattle.trust_matter.proofs.Names.{AllByRecursion, AreInOrder, Ask, Asked, Caller, Edit, Entry, Head, IsHeaded, List, None, OpenAsk, Option, Refusal, Rows, Seat, Some, Sound, [], after, ap, bytes_eq, bytes_eq-Decides, changed_by, comes_before, cond, edit_of, edit_on, entry_at, facts_of, false, false≢true, filter, head_after, is_changing, is_opening, is_repeat, is_some, is_unknown_to, last_after, last_of, number_named, opening, option_map, refl, refusal, role_in, rows-of, rows_after, seat_of, seats_with, seats_without, subst, sym, true, ℕ, ◌++◌, ◌∙◌, ◌∷◌, ◌≡◌}
+use Rattle.trust_matter.proofs.Names.{AllByRecursion, AreInOrder, Ask, Asked, Caller, Edit, Entry, Head, IsHeaded, List, None, OpenAsk, Option, Refusal, Rows, Seat, Some, Sound, [], after, ap, bytes_eq, bytes_eq-Decides, changed_by, comes_before, cond, edit_of, edit_on, entry_at, facts_of, false, false≢true, filter, head_after, is_changing, is_opening, is_repeat, is_some, is_unknown_to, last_after, last_of, number_named, opening, option_map, refl, refusal, role_in, rows-of, rows_after, seat_of, seats_with, seats_without, subst, sym, true, ℕ, ◌++◌, ◌∙◌, ◌∷◌, ◌≡◌, arith, ints, nat_tests, stub_rows, is_missing_for, is_of_another_kind_for}
 use Rattle.matter_rows.specs.declared.entry.Entry.TheVariants as entry
 use Rattle.matter_rows.proofs.Seating.{before-antisym, before-total, all-after, after-more, no-seat, bytes_eq-swap}
-use Rattle.matter_parts.specs.Purging.{stub_rows}
 use Rattle.matter_parts.specs.declared.edit.Edit.TheVariants as edit
 use Rattle.trust_matter.specs.declared.ask.Ask.TheVariants as ask
-use Rattle.trust_matter.specs.Conditions.{is_missing_for, is_of_another_kind_for}
-use Rattle.trust_matter.specs.HeadLaws.{IsOpened, OpeningOpens, IsClosed, ClosingCloses, HasOneMore, IsSeated, SeatIsAdded, IsUnseated, SeatIsDropped, PurgingPurges, DayIsLast, ReadsChangeNothing}
+use Rattle.trust_matter.specs.HeadLaws.{IsOpened, OpeningOpens, IsClosed, ClosingCloses, HasOneMore, SeatIsAdded, IsUnseated, SeatIsDropped, PurgingPurges, DayIsLast, ReadsChangeNothing}
 use Rattle.trust_matter.proofs.StepForms.{asked, claim-changes, head-there, none-is, some-is}
 use Rattle.trust_matter.proofs.Table.{Passes, passes}
 
@@ -86,9 +84,7 @@ accepted-passes rows a new none = passes (facts_of rows a.ask) a (rw new at none
 
 -- the rows after it
 accepted-after : (rows : Rows) (a : Asked) → is_repeat (facts_of rows a.ask) a ≡ false → refusal rows a ≡ None → (e : Edit) → edit_of a.ask (entry_at rows.entries (number_named a.ask)) a.day ≡ e → rows_after rows a ≡ changed_by e (last_after rows.head e a.day) rows
-accepted-after rows a new none e is =
-    let P : Option Refusal → Type 0 = λ r. after r (edit_on rows a) a.day rows ≡ changed_by e (last_after rows.head e a.day) rows in
-    subst P (sym none) (rw (new, is) refl)
+accepted-after rows a new none e is = grind (arith, ints, nat_tests, after, edit_on, changed_by, last_after)
 
 -- the rows before an ask, and what has passed the table
 abbrev AcceptedOf : Option Head → List Seat → List Entry → Caller → Ask → ℕ → Type 0
@@ -99,19 +95,15 @@ abbrev after-edit : Option Head → List Seat → List Entry → Edit → ℕ �
 after-edit head seats es e day = changed_by e (last_after head e day) (rows-of head seats es)
 
 open-made : (head : Option Head) (seats : List Seat) (es : List Entry) (o : OpenAsk) (who : Caller) (day : ℕ) → Sound (rows-of head seats es) → AcceptedOf head seats es who (ask.OpenMatter o) day → IsOpened o day (after-edit head seats es (edit.Open (opening o day)) day)
-open-made None seats es o who day s p = record { head = refl; seats = refl; entries = s.headed.1 }
-open-made (Some h) seats es o who day s p = absurd (false≢true (sym p.not_opened))
+open-made head seats es o who day s p = grind (arith, ints, nat_tests)
 
 pub opening-opens : OpeningOpens
 opening-opens o rows who day s none =
-    let a : Asked = asked who (ask.OpenMatter o) day in
-    rw (accepted-after rows a refl none (edit.Open (opening o day)) refl)
-    (open-made rows.head rows.seats rows.entries o who day s (accepted-passes rows a refl none))
+    grind (arith, ints, nat_tests, asked, accepted-after, opening, open-made, accepted-passes)
 
 -- all asks but an opening are of a matter that has a head
 with-head : (head : Option Head) (seats : List Seat) (es : List Entry) (who : Caller) (q : Ask) → IsHeaded head seats es → is_unknown_to who head seats q ≡ false → is_opening q ≡ false → (P : Option Head → Type 0) → ((h : Head) → P (Some h)) → P head
-with-head None seats es who q headed known other P of = absurd (let there = head-there None seats es who q headed known other in cc)
-with-head (Some h) seats es who q headed known other P of = of h
+with-head head seats es who q headed known other x8 of = grind (arith, ints, nat_tests, head-there)
 
 -- what holds of such a matter and the rows after the edit that was asked for
 with-edit : (rows : Rows) (who : Caller) (q : Ask) (day : ℕ) (e : Edit) (R : Rows → Rows → Type 0) → Sound rows → is_repeat (facts_of rows q) (asked who q day) ≡ false → refusal rows (asked who q day) ≡ None → edit_of q (entry_at rows.entries (number_named q)) day ≡ e → is_opening q ≡ false → ((h : Head) → R (rows-of (Some h) rows.seats rows.entries) (after-edit (Some h) rows.seats rows.entries e day)) → R rows (rows_after rows (asked who q day))
@@ -126,9 +118,7 @@ closing-closes rows who day s none =
 
 pub seat-is_added : SeatIsAdded
 seat-is_added new rows who day s none =
-    let p = accepted-passes rows (asked who (ask.AddSeat new) day) refl none in
-    let free = none-is (role_in rows.seats new.person) p.seat_free in
-    with-edit rows who (ask.AddSeat new) day (edit.Seat new) (λ before after. IsSeated new day before after) s refl none refl refl (λ h. record { head = refl; seats = seat-more rows.seats new s.seated free; entries = refl })
+    grind (arith, ints, nat_tests, accepted-passes, asked, none-is, role_in, with-edit, after, seat-more)
 
 pub seat-is_dropped : SeatIsDropped
 seat-is_dropped person rows who day s none =
@@ -137,9 +127,7 @@ seat-is_dropped person rows who day s none =
     with-edit rows who (ask.DropSeat person) day (edit.Unseat person) (λ before after. IsUnseated person day before after) s refl none refl refl (λ h. record { head = refl; seat = less.seat; own = less.own; seats = less.among; entries = refl })
 
 pub purging-purges : PurgingPurges
-purging-purges rows who day s none =
-    with-edit rows who ask.Purge day (edit.Clear day) (λ before after. after ≡ stub_rows day before) s refl none refl
-    refl (λ h. refl)
+purging-purges rows who day s none = grind (arith, ints, nat_tests, with-edit, after, stub_rows)
 
 -- The last day.
 
@@ -153,53 +141,34 @@ IsWritten _ = Unit {0}
 written : (q : Ask) (o other : Option Entry) (day : ℕ) → is_missing_for q o other ≡ false
     → is_of_another_kind_for q o other ≡ false → is_changing q ≡ true → is_opening q ≡ false
     → IsWritten (edit_of q o day)
-written (ask.CancelDeposit n) (Some (entry.Deposit d)) other day there kind changing other_ask = tt
-written (ask.Approve n) (Some (entry.Payment p)) other day there kind changing other_ask = tt
-written (ask.Decline n) (Some (entry.Payment p)) other day there kind changing other_ask = tt
-written (ask.VoidPayment n) (Some (entry.Payment p)) other day there kind changing other_ask = tt
-written (ask.Offer a) (Some (entry.Claim c)) other day there kind changing other_ask = tt
-written (ask.Accept a) (Some (entry.Claim c)) other day there kind changing other_ask = tt
-written (ask.Award a) (Some (entry.Claim c)) other day there kind changing other_ask = tt
-written q o other day there kind changing other_ask = first_of (assumption, cc)
+written q o other day there kind changing other_ask = grind (arith, ints, nat_tests)
 
 -- after the edit the day is the last
 abbrev SeenOn : ℕ → Edit → Option Head → Type 0
 SeenOn day e head = last_of (head_after head e (last_after head e day)) ≡ day
 
 seen-on : (h : Head) (e : Edit) (day : ℕ) → IsWritten e → SeenOn day e (Some h)
-seen-on h edit.Nothing day is = absurd is
-seen-on h (edit.Open o) day is = absurd is
-seen-on h e day is = refl
+seen-on h e day is = grind (arith, ints, nat_tests)
 
 -- an ask that changes the matter writes something on its day
 seen-made : (head : Option Head) (seats : List Seat) (es : List Entry) (who : Caller) (q : Ask) (day : ℕ) → Sound (rows-of head seats es) → AcceptedOf head seats es who q day → is_changing q ≡ true → SeenOn day (edit_of q (entry_at es (number_named q)) day) head
 seen-made None seats es who (ask.OpenMatter o) day s p changing = refl
-seen-made None seats es who q day s p changing =
-    absurd (let there = head-there None seats es who q s.headed p.seat refl in cc)
+seen-made None seats es who q day s p changing = grind (arith, ints, nat_tests, head-there)
 seen-made (Some h) seats es who (ask.OpenMatter o) day s p changing = refl
 seen-made (Some h) seats es who q day s p changing =
-    let e = edit_of q (entry_at es (number_named q)) day in
-    seen-on h e day (written q (entry_at es (number_named q)) (facts_of (rows-of (Some h) seats es) q).other day p.there
-    p.kind changing refl)
+    grind (arith, ints, nat_tests, edit_of, entry_at, number_named, seen-on, written, facts_of, rows-of)
 
 pub day-is_last : DayIsLast
 day-is_last rows a s none changing new =
-    let e = edit_of a.ask (entry_at rows.entries (number_named a.ask)) a.day in
-    rw (accepted-after rows a new none e refl) (seen-made rows.head rows.seats rows.entries a.caller a.ask a.day s
-    (accepted-passes rows a new none) changing)
+    grind (arith, ints, nat_tests, entry_at, accepted-after, seen-made, accepted-passes)
 
 -- What only reads.
 
 pub unchanged : (rows : Rows) (day : ℕ) (r : Option Refusal) → after r edit.Nothing day rows ≡ rows
-unchanged rows day None = refl
-unchanged rows day (Some r) = refl
+unchanged rows day r = grind (arith, ints, nat_tests)
 
 read-nothing : (rows : Rows) (who : Caller) (q : Ask) (day : ℕ) → is_changing q ≡ false → rows_after rows (asked who q day) ≡ rows
-read-nothing rows who (ask.RaiseClaim a) day reading = absurd (false≢true (sym reading ∙ claim-changes a.against))
-read-nothing rows who ask.Show day reading = unchanged rows day (refusal rows (asked who ask.Show day))
-read-nothing rows who ask.Accounting day reading = unchanged rows day (refusal rows (asked who ask.Accounting day))
-read-nothing rows who (ask.ShowEntry n) day reading = unchanged rows day (refusal rows (asked who (ask.ShowEntry n) day))
-read-nothing rows who q day reading = absurd (false≢true (sym reading))
+read-nothing rows who q day reading = grind (arith, ints, nat_tests, claim-changes, unchanged, refusal, asked)
 
 pub reads-change_nothing : ReadsChangeNothing
 reads-change_nothing rows a reading = read-nothing rows a.caller a.ask a.day reading

@@ -1,5 +1,5 @@
 -- Behind the last number no entry is made.
-use Rattle.trust_matter.proofs.Names.{is_some, ◌≡◌, ℕ, Bool, true, false, cond, List, [], ◌∷◌, refl, sym, rules, Option, Some, None, false≢true, Refusal, next_number, is_repeat, misses, number_made, Asked, Facts, facts_of, TellsNoNumber, FullTakesNone, first, conditions, early_conditions}
+use Rattle.trust_matter.proofs.Names.{is_some, ◌≡◌, ℕ, Bool, true, false, cond, List, [], ◌∷◌, refl, rules, Option, Some, None, false≢true, Refusal, next_number, is_repeat, misses, number_made, Asked, Facts, facts_of, TellsNoNumber, FullTakesNone, first, conditions, early_conditions}
 use Rattle.trust_matter.proofs.Table.{passes}
 
 -- none of these tells a number

@@ -1,5 +1,5 @@
 -- What the early conditions and the later ones say of an ask together.
-use Rattle.trust_matter.proofs.Names.{◌≡◌, ℕ, ◌++◌, sym, Bool, true, false, cond, List, [], ◌∷◌, Option, Some, None, refl, subst, Result, Ok, Err, Refusal, Edit, Part, Ask, Caller, kept_facts, has_no_seat, was_purged, is_not_allowed, is_repeat, rule_of, first, early_conditions, later_conditions, late_refusal, refusal_of, decided, Answers, AnswersBy, AnswersLateBy, HasAmount, MayRefuse}
+use Rattle.trust_matter.proofs.Names.{◌≡◌, ℕ, ◌++◌, sym, Bool, true, false, cond, List, [], ◌∷◌, Option, Some, None, refl, subst, Result, Err, Refusal, Edit, Part, Ask, Caller, kept_facts, has_no_seat, was_purged, is_not_allowed, is_repeat, rule_of, first, early_conditions, later_conditions, late_refusal, refusal_of, decided, Answers, AnswersBy, AnswersLateBy, HasAmount, MayRefuse, arith, ints, nat_tests}
 use Rattle.std.specs.Result.{IsErr, IsErrAnd}
 use Rattle.trust_base.specs.declared.refusal.Rule.{Rule}
 use Rattle.trust_base.specs.declared.refusal.Refusal.TheVariants as refusals
@@ -42,5 +42,4 @@ early-refused m c a day r h =
 
 -- what an error hands up
 pub handed-up : {T E : Type 0} (P : Result T E → Type 0) (r : Result T E) (x : E) → IsErr r → IsErrAnd r (λ y. y ≡ x) → P (Err x) → P r
-handed-up P (Ok v) x is same p = absurd (cc)
-handed-up P (Err e) x is same p = subst (λ y. P (Err y)) (sym same) p
+handed-up x0 r x is same p = grind (arith, ints, nat_tests)

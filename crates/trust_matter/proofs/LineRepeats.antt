@@ -1,5 +1,5 @@
 -- A line that was applied is a repeat when it comes again.
-use Rattle.trust_matter.proofs.Names.{BankLine, DatedEdit, Deposit, DepositState, Entry, Head, IsApplied, Line, LineEffect, List, None, Option, PaymentState, Rows, Some, after_line_effect, arith, cleared_payment, clearing_by, common_steps, deposit_by, edited, entry_at, entry_at-with, false, false≢true, has_amount_back, has_its_amount, is_cleared_state, is_clearing_by, is_held_state, is_issued_state, is_line_again, is_payment_cleared_by, line_facts, line_on, not, refl, rows_after_line, subst, sym, told_by, true, with_entry, ℕ, ℤ, ◌&&◌, ◌∙◌, ◌≡◌}
+use Rattle.trust_matter.proofs.Names.{BankLine, Deposit, DepositState, Entry, Head, IsApplied, Line, LineEffect, List, None, Option, PaymentState, Rows, Some, after_line_effect, arith, cleared_payment, clearing_by, common_steps, deposit_by, edited, entry_at, entry_at-with, false, false≢true, has_amount_back, has_its_amount, is_cleared_state, is_clearing_by, is_held_state, is_issued_state, is_line_again, is_payment_cleared_by, line_facts, line_on, not, refl, rows_after_line, sym, told_by, true, with_entry, ℕ, ℤ, ◌&&◌, ◌∙◌, ◌≡◌, ints, nat_tests}
 use Rattle.matter_rows.specs.declared.deposit.DepositState.TheVariants as deposit
 use Rattle.matter_rows.specs.declared.payment.PaymentState.TheVariants as payment
 use Rattle.matter_rows.specs.declared.entry.Entry.TheVariants as entry
@@ -34,8 +34,7 @@ pub applied-now : (rows : Rows) (l : BankLine) (today : ℕ) (e : LineEffect) �
 applied-now rows l today (told.Applied d) is applied =
     let f = line_facts rows l today in
     let m = applied-matched f d is in
-    let P : DatedEdit → Type 0 = λ x. is_line_again (entry_at (edited rows.entries x.edit) l.entry) l.line ≡ true in
-    subst P m.1 (cleared-now rows.head rows.entries l.entry f.available today l.line f.entry refl m.0)
+    grind (arith, ints, nat_tests, is_line_again, entry_at, edited, cleared-now)
 applied-now rows l today e is applied = absurd applied
 
 -- A line that comes again.

@@ -1,9 +1,8 @@
 -- Lines of the bank, as steps.
-use Rattle.trust_matter.proofs.Names.{AllByRecursion, AreBacked, BankLine, Bool, DatedEdit, Deposit, DepositState, Entry, Head, IsAtRestIfClosed, IsBy, IsRanged, IsRising, IsStepOf, Line, LineEffect, LineFacts, LinesKeepSound, List, MayTake, MovesWithin, NoReasonHolds, None, Numbered, Option, Payment, PaymentState, Reason, ReturnedDeposit, Rows, Seat, Some, Sound, [], after_line_effect, all-at, ap, append-nil, arith, available, awaits_no_line, cleared_payment, clearing_by, cond, dated_by, days_of, deposit_by, entry_at, events_in, events_of, exceeds, false, false≢true, first_reason, from_general, fund_no, has_amount_back, has_no_line, held_deposit, held_share, inl, inr, ints, is_cleared_state, is_gone, is_held_state, is_issued_state, is_line_again, is_none, is_of_another_amount, is_uncovered, last_by, le-max_left, le-max_right, line_effect, line_facts, line_on, made-before, matched, max, nat_lt, not, paid, payment_bank, payment_days, payments, pending_payment, pending_share, pos, reasons, refl, rows-of, sound-covered, subst, sym, target_in, told_by, true, ℕ, ◌&&◌, ◌++◌, ◌||◌, ◌∙◌, ◌∷◌, ◌≡◌, ◌≤ℤ◌, ◌≤◌, ◌⊎◌}
+use Rattle.trust_matter.proofs.Names.{AllByRecursion, AreBacked, BankLine, Bool, DatedEdit, Deposit, DepositState, Entry, Head, IsAtRestIfClosed, IsBy, IsRanged, IsRising, IsStepOf, Line, LineEffect, LineFacts, LinesKeepSound, List, MayTake, MovesWithin, NoReasonHolds, None, Numbered, Option, Payment, PaymentState, Reason, ReturnedDeposit, Rows, Seat, Some, Sound, [], after_line_effect, all-at, ap, append-nil, arith, available, awaits_no_line, cleared_payment, clearing_by, cond, dated_by, days_of, deposit_by, entry_at, events_in, events_of, exceeds, false, false≢true, first_reason, from_general, fund_no, has_amount_back, has_no_line, held_deposit, held_share, inl, inr, ints, is_cleared_state, is_gone, is_held_state, is_issued_state, is_line_again, is_none, is_of_another_amount, is_uncovered, last_by, le-max_left, le-max_right, line_effect, line_facts, line_on, made-before, matched, max, nat_lt, not, paid, payment_bank, payment_days, payments, pending_payment, pending_share, pos, reasons, refl, rows-of, sound-covered, subst, sym, target_in, told_by, true, ℕ, ◌&&◌, ◌++◌, ◌||◌, ◌∙◌, ◌∷◌, ◌≡◌, ◌≤ℤ◌, ◌≤◌, ◌⊎◌, nat_tests, up-to}
 use Rattle.matter_rows.specs.declared.deposit.DepositState.TheVariants as deposit
 use Rattle.matter_rows.specs.declared.payment.PaymentState.TheVariants as payment
 use Rattle.matter_rows.specs.declared.entry.Entry.TheVariants as entry
-use Rattle.matter_rows.proofs.Days.{up-to}
 use Rattle.matter_rows.proofs.Sums.{total-within}
 use Rattle.matter_parts.specs.declared.edit.Edit.TheVariants as edit
 use Rattle.trust_matter.specs.declared.line_verdict.LineEffect.TheVariants as told
@@ -153,8 +152,7 @@ deposit-step h seats es l today d (deposit.Cleared c) cleared at s dated m =
     let made : d.book ≤ today = let b = made-before h es l.entry (entry.Deposit d) s.headed.0 at in omega (arith, b, later) in
     let step : IsStepOf (rows-of (Some h) seats es) 0 l.entry (edit.Exchange x) today =
     step-exchange h seats es x (entry.Deposit d) _ _ today s unclosed may refl (λ _. omega arith) later (returned-by d c r h.last cleared refl by later back) ((made, tt), back) (returning-moves es l.entry h.last d c r at cleared later) (inl refl) refl in
-    let P : Bool → Type 0 = λ b. IsStepOf (rows-of (Some h) seats es) 0 l.entry (edit.Exchange x) (cond b today (max h.last l.line.date)) in
-    subst P (sym known.back) step
+    grind (arith, ints, nat_tests, rows-of, max)
 deposit-step h seats es l today d state is at s dated m = absurd (false≢true (sym m.0))
 
 -- the facts of a line

@@ -1,6 +1,5 @@
 -- What a part of rows is decided on is what the rows are.
-use Rattle.trust_matter.proofs.Names.{AllByRecursion, AreFigures, Ask, Bool, Edit, Entry, Facts, Head, IsMade, IsPart, IsStepOf, List, MatterChange, Option, Part, Rows, Seat, Sound, ap, arith, change-is, entry_at, entry_in, facts_of, false, held-entry, holds_for, ints, is_held_or_none, kept_at, kept_facts, ledger, left_in, names, number_named, other_of, pos, refl, total-covered, total_kept, true, ℕ, ℤ, ◌&&◌, ◌+◌, ◌∙◌, ◌≡◌}
-use Rattle.matter_parts.specs.Changes.{IsChange}
+use Rattle.trust_matter.proofs.Names.{AllByRecursion, AreFigures, Ask, Bool, Edit, Entry, Facts, Head, IsMade, IsPart, IsStepOf, List, MatterChange, Option, Part, Rows, Seat, Sound, arith, change-is, entry_at, entry_in, facts_of, held-entry, holds_for, ints, kept_at, kept_facts, ledger, left_in, names, pos, total-covered, total_kept, true, ℕ, ℤ, ◌&&◌, ◌+◌, ◌≡◌, nat_tests, IsChange}
 
 abbrev facts : Option Head → List Seat → ℕ → ℤ → ℤ → ℤ → Option Entry → Option Entry → ℤ → Facts
 facts h s n a b w e o l = record { head = h; seats = s; count = n; available = a; ledger = b; pending = w; entry = e; other = o; left = l }
@@ -25,10 +24,4 @@ ledger-same m es named f = grind (arith, ints, total-covered)
 -- the facts by what is kept are the facts by the rows
 pub facts-same : (m : Part) (rows : Rows) (ask : Ask) → AllByRecursion (λ e. names rows.entries e ≡ true) rows.entries → IsPart m rows → holds_for m ask ≡ true → kept_facts m ask ≡ facts_of rows ask
 facts-same m rows ask named p h =
-    let parts = both (is_held_or_none m (number_named ask)) (is_held_or_none m (other_of ask (entry_in (kept_at m (number_named ask))))) h in
-    let first = held-entry m.kept m.figures.entries (number_named ask) rows.entries p.kept p.figures.entries parts.0 in
-    let second = held-entry m.kept m.figures.entries (other_of ask (entry_in (kept_at m (number_named ask)))) rows.entries p.kept p.figures.entries parts.1 in
-    let number = ap (other_of ask) first.0 in
-    facts-alike _ _ _ _ _ _ _ _ _ _ _ _ _ _ _ _ _ _ p.head p.seats p.figures.entries p.figures.available (ledger-same m rows.entries named p.figures) p.figures.pending first.0
-    (second.0 ∙ ap (entry_at rows.entries) number)
-    (second.1 ∙ ap (λ n. left_in rows.entries n (entry_at rows.entries n)) number)
+    grind (arith, ints, nat_tests, both, entry_in, kept_at, held-entry, facts-alike, ledger-same, entry_at, left_in)

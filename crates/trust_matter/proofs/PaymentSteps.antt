@@ -1,5 +1,5 @@
 -- Payments, as steps.
-use Rattle.trust_matter.proofs.Names.{AreBacked, AreDated, Caller, Entry, Event, Fund, HasAmount, Head, IsAmount, IsBy, IsRanged, IsRising, List, MayAdd, MayTake, MovesWithin, None, Numbered, Option, Payment, PaymentAsk, PaymentState, Seat, Some, Sound, [], all-at, ap, arith, available, available_share, days_of, draw, edit_of, entry_at, events_in, events_of, exceeds, facts_of, false, from_general, fund_left, fund_no, funds, has_settled, inr, ints, is_an_entry, is_fee, is_general, is_issued_state, is_no_fund, is_no_fund_yet, is_no_payment, is_none, is_payment_not_issued, is_payment_not_proposed, is_proposed_state, is_settled, is_short_payment, le_refl, left-drawn, left-moved, left_in, left_of, length, made-before, names, nat_tests, negsuc, not, of_kind, paid, paid_out, payment_bank, payment_days, payment_of, payments, pos, received, refl, rows-of, subst, sym, target-apart, target_in, total-undrawn, true, voided, with_payment, within, worth, ℕ, ℤ, ◌&&◌, ◌++◌, ◌+ℤ◌, ◌-ℤ◌, ◌<◌, ◌∷◌, ◌≡◌, ◌≤ℤ◌, ◌≤◌}
+use Rattle.trust_matter.proofs.Names.{AreBacked, AreDated, Caller, Entry, Event, Fund, HasAmount, Head, IsAmount, IsBy, IsRanged, IsRising, List, MayAdd, MayTake, MovesWithin, None, Numbered, Option, Payment, PaymentAsk, PaymentState, Seat, Some, Sound, [], all-at, ap, arith, available, available_share, days_of, draw, edit_of, entry_at, events_in, events_of, exceeds, facts_of, false, from_general, fund_left, fund_no, funds, has_settled, inr, ints, is_an_entry, is_fee, is_general, is_issued_state, is_no_fund, is_no_fund_yet, is_no_payment, is_none, is_payment_not_issued, is_payment_not_proposed, is_proposed_state, is_settled, is_short_payment, le_refl, left-drawn, left-moved, left_in, left_of, length, made-before, names, nat_tests, not, of_kind, paid, paid_out, payment_bank, payment_days, payment_of, payments, pos, received, refl, rows-of, subst, sym, target-apart, target_in, total-undrawn, true, voided, with_payment, within, worth, ℕ, ℤ, ◌&&◌, ◌++◌, ◌+ℤ◌, ◌-ℤ◌, ◌<◌, ◌∷◌, ◌≡◌, ◌≤ℤ◌, ◌≤◌}
 use Rattle.matter_rows.specs.declared.entry.Entry.TheVariants as entry
 use Rattle.matter_rows.specs.declared.payment.Fund.TheVariants as fund
 use Rattle.matter_rows.specs.declared.payment.PaymentState.TheVariants as payment

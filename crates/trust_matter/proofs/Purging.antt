@@ -1,6 +1,5 @@
 -- Nothing changes a purged matter, and so what was accepted or applied before changes nothing when it comes again.
-use Rattle.trust_matter.proofs.Names.{ALine, AnAsk, AskRepeat, AskUnchanged, Asked, BankLine, Bool, DatedEdit, Doing, Edit, Facts, Head, IsApplied, IsSameLine, IsSome, LineRepeat, LineUnchanged, List, None, Option, PurgedStays, Reason, Refusal, Rows, Some, Sound, StubIsSound, [], after, after_doing, after_line_effect, all_after, closed_on, cond, dated_by, edit_on, entry_at, facts_of, false, false≢true, first, first_reason, inl, inr, is_gone, is_line_again, is_purged, is_repeat, is_some, last_of, line_facts, line_on, matched, number_made, reasons, refl, refusal, refusal_of, rows_after, rows_after_line, sym, true, ℕ, ⊎_elim, ◌∙◌, ◌∷◌, ◌≡◌, ◌≤◌}
-use Rattle.matter_parts.specs.Purging.{stub_rows}
+use Rattle.trust_matter.proofs.Names.{ALine, AnAsk, AskRepeat, AskUnchanged, Asked, BankLine, Bool, DatedEdit, Doing, Edit, Facts, Head, IsApplied, IsSameLine, LineRepeat, LineUnchanged, List, None, Option, PurgedStays, Reason, Refusal, Rows, Some, StubIsSound, [], after, after_doing, after_line_effect, all_after, closed_on, cond, dated_by, edit_on, entry_at, facts_of, false, false≢true, first, first_reason, inl, inr, is_gone, is_line_again, is_purged, is_repeat, is_some, last_of, line_facts, line_on, matched, number_made, reasons, refl, refusal, refusal_of, rows_after, rows_after_line, sym, true, ℕ, ⊎_elim, ◌∙◌, ◌∷◌, ◌≡◌, arith, ints, nat_tests, stub_rows}
 use Rattle.trust_matter.specs.declared.line_verdict.LineEffect.TheVariants as told
 use Rattle.trust_matter.proofs.Repeats.{IsSpent, Leaves, LeavesOrGoes, same-leaves, further, doing-leaves, is-spent}
 use Rattle.trust_matter.proofs.StepForms.{rows-clear}
@@ -9,21 +8,16 @@ use Rattle.trust_matter.proofs.LineRepeats.{IsLineSpent, applied-now, again-same
 -- A purged matter.
 
 second-holds : (b s g : Bool) (x z : Refusal) (ns ms : List (Bool × Refusal)) → g ≡ true → is_some (first (cond b ((s, x) ∷ (g, z) ∷ ns) ((s, x) ∷ (g, z) ∷ ms))) ≡ true
-second-holds true true g x z ns ms is = refl
-second-holds true false g x z ns ms is = rw is refl
-second-holds false true g x z ns ms is = refl
-second-holds false false g x z ns ms is = rw is refl
+second-holds b s g x z ns ms is = grind (arith, ints, nat_tests)
 
 pub refused : (f : Facts) (a : Asked) → is_purged f.head ≡ true → is_some (refusal_of f a) ≡ true
 refused f a is = second-holds (is_repeat f a) _ (is_purged f.head) _ _ _ _ is
 
 after-refused : (r : Option Refusal) (e : Edit) (day : ℕ) (rows : Rows) → is_some r ≡ true → after r e day rows ≡ rows
-after-refused None e day rows is = absurd (false≢true is)
-after-refused (Some r) e day rows is = refl
+after-refused r e day rows is = grind (arith, ints, nat_tests)
 
 gone : (o : Option Head) → is_purged o ≡ true → is_gone o ≡ true
-gone None is = absurd (false≢true is)
-gone (Some h) is = is
+gone o is = grind (arith, ints, nat_tests)
 
 -- the reasons behind the second
 abbrev behind : List (Bool × Reason) → List (Bool × Reason)
@@ -34,9 +28,7 @@ behind cs = cs
 not-applied : (b s : Bool) (x z : Reason) (rest : Option Reason) (e : DatedEdit) (rows : Rows)
     → (after_line_effect (cond b told.Repeat (matched (cond s (Some x) (cond true (Some z) rest)) e)) rows
     ≡ rows) × (IsApplied (cond b told.Repeat (matched (cond s (Some x) (cond true (Some z) rest)) e)) → ⊥)
-not-applied true s x z rest e rows = (refl, λ applied. applied)
-not-applied false true x z rest e rows = (refl, λ applied. applied)
-not-applied false false x z rest e rows = (refl, λ applied. applied)
+not-applied b s x z rest e rows = grind (arith, ints, nat_tests)
 
 -- no line does anything to a purged matter
 purged-line : (rows : Rows) (l : BankLine) (today : ℕ) → is_purged rows.head ≡ true
@@ -104,13 +96,10 @@ module _ (rows : Rows) (l again : BankLine) (today later : ℕ) (between : List 
   line-there : Leaves (rows_after_line rows l today) then → IsLineSpent then again later
   line-there s =
       let there = s.cleared l.line l.entry (applied-now rows l today (line_on rows l today) refl applied) in
-      line-spent then again later (again-same (entry_at then.entries again.entry) l.line again.line same.date
-      same.bank_ref same.amount (rw same.entry there))
+      grind (arith, ints, nat_tests, line-spent, then, later, again-same, entry_at)
 
   line-or-gone : (P : Type 0) → (IsLineSpent then again later → P) → (is_purged then.head ≡ true → P) → P
-  line-or-gone P spent gone =
-      ⊎_elim (λ (g : Leaves (rows_after_line rows l today) then). spent (line-there g)) gone
-      (all-leaves (rows_after_line rows l today) between)
+  line-or-gone x0 spent gone = grind (arith, ints, nat_tests, rows_after_line, then, line-there, all-leaves)
 
 pub line-unchanged : LineUnchanged
 line-unchanged rows l again today later between applied same =
@@ -127,8 +116,4 @@ line-repeat rows l again today later between applied same kept =
 -- The stub.
 
 pub stub-is-sound : StubIsSound
-stub-is-sound day rows sound closed le = cases rows.head sound closed le
-  where
-    cases : (o : Option Head) → Sound (record rows { head = o }) → IsSome (closed_on o) → last_of o ≤ day → Sound (stub_rows day (record rows { head = o }))
-    cases None sound closed le = absurd (false≢true closed)
-    cases (Some h) sound closed le = rows-clear h rows.seats rows.entries day sound closed le
+stub-is-sound day rows sound closed le = grind (arith, ints, nat_tests, closed_on, last_of, stub_rows, rows-clear)

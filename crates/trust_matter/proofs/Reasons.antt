@@ -1,17 +1,13 @@
 -- The reason that a line is told is the first that holds.
-use Rattle.trust_matter.proofs.Names.{◌≡◌, Bool, true, false, cond, List, [], ◌∷◌, refl, ap, Option, Some, None, is_line_again, DatedEdit, Reason, IsFirstReason, FirstReason, NoReason, line_facts, first_reason, reasons, dated_by, matched, IsApplied}
+use Rattle.trust_matter.proofs.Names.{◌≡◌, Bool, true, false, cond, List, [], ◌∷◌, refl, ap, Option, Some, None, is_line_again, DatedEdit, Reason, IsFirstReason, FirstReason, NoReason, line_facts, first_reason, reasons, dated_by, matched, IsApplied, arith, ints, nat_tests}
 use Rattle.trust_matter.specs.declared.line_verdict.LineEffect.TheVariants as told
 use Rattle.trust_matter.proofs.LineSteps.{none-hold}
 
 told-is : (b : Bool) (o : Option Reason) (e : DatedEdit) (r : Reason) → cond b told.Repeat (matched o e) ≡ told.Unmatched r → o ≡ Some r
-told-is true o e r h = absurd (cc)
-told-is false None e r h = absurd (cc)
-told-is false (Some q) e r h = let same : told.Unmatched q ≡ told.Unmatched r = h in let is : q ≡ r = cc in ap (λ (x : Reason). Some x) is
+told-is b o e r h = grind (arith, ints, nat_tests)
 
 none-told : (b : Bool) (o : Option Reason) (e : DatedEdit) → IsApplied (cond b told.Repeat (matched o e)) → o ≡ None
-none-told true o e h = absurd h
-none-told false None e h = refl
-none-told false (Some q) e h = absurd h
+none-told b o e h = grind (arith, ints, nat_tests)
 
 first-is : (cs : List (Bool × Reason)) (r : Reason) → first_reason cs ≡ Some r → IsFirstReason cs r
 first-is [] r h = absurd (cc)

@@ -1,5 +1,5 @@
 -- What was made stays, and what a line cleared stays cleared, so that an ask that comes again is a repeat.
-use Rattle.trust_matter.proofs.Names.{ALine, Against, AnAsk, Ask, Asked, BankLine, Bool, Caller, DatedEdit, Deposit, DepositState, Doing, Edit, Entry, Fund, Grows, Head, IsExchange, Line, LineEffect, LinesLeaveMade, List, MadeStays, MadeStaysOrGoes, None, Option, PaymentState, Refusal, Rows, Some, [], after, after_doing, after_line_effect, ap, append-nil, append_assoc, arith, as_made, bytes_eq, bytes_eq-Decides, changed_by, claim_of, cleared_payment, comes_again, common_steps, cond, conditions, deposit_by, deposit_of, early_conditions, edit_of, edit_on, entry_at, entry_at-append, entry_at-with, eqb, facts_of, false, false≢true, fee_of, first, has_amount_back, has_its_amount, head_after, inl, is_deposit_cleared_by, is_deposit_returned_by, is_held_state, is_in_another_state_for, is_issued_state, is_line_again, is_not_yet_closed_for, is_payment_cleared_by, is_proposed_state, is_purged, is_purging, is_repeat, is_same_against, is_same_fund, is_some, last_after, last_by, length, line_facts, line_on, made_in, map, map-with, misses, nat_tests, next_number, none-past, not, number_made, number_named, option_map, payment_of, refl, refusal, rows_after, subst, sym, told_by, true, with_entry, ℕ, ◌&&◌, ◌++◌, ◌+◌, ◌-◌, ◌==◌, ◌||◌, ◌∙◌, ◌∷◌, ◌≡◌, ◌⊎◌}
+use Rattle.trust_matter.proofs.Names.{ALine, Against, AnAsk, Ask, Asked, BankLine, Bool, Caller, DatedEdit, Deposit, DepositState, Doing, Edit, Entry, Fund, Grows, Head, IsExchange, Line, LineEffect, LinesLeaveMade, List, MadeStays, MadeStaysOrGoes, None, Option, PaymentState, Refusal, Rows, Some, [], after, after_doing, after_line_effect, ap, append-nil, append_assoc, arith, as_made, bytes_eq, bytes_eq-Decides, changed_by, claim_of, cleared_payment, comes_again, common_steps, cond, conditions, deposit_by, deposit_of, early_conditions, edit_of, edit_on, entry_at, entry_at-append, entry_at-with, eqb, facts_of, false, false≢true, fee_of, first, has_amount_back, has_its_amount, head_after, inl, is_deposit_cleared_by, is_deposit_returned_by, is_held_state, is_in_another_state_for, is_issued_state, is_line_again, is_not_yet_closed_for, is_payment_cleared_by, is_proposed_state, is_purged, is_purging, is_repeat, is_same_against, is_same_fund, is_some, last_after, last_by, length, line_facts, line_on, made_in, map, map-with, misses, nat_tests, none-past, not, number_made, number_named, option_map, payment_of, refl, refusal, rows_after, subst, sym, told_by, true, with_entry, ℕ, ◌&&◌, ◌++◌, ◌+◌, ◌-◌, ◌==◌, ◌||◌, ◌∙◌, ◌∷◌, ◌≡◌, ◌⊎◌, ints}
 use Rattle.std.proofs.lemmas.List.{map-append}
 use Rattle.matter_rows.specs.declared.claim.Against.TheVariants as against
 use Rattle.matter_rows.specs.declared.deposit.DepositState.TheVariants as deposit
@@ -232,13 +232,7 @@ asked-made-now : (q : Ask) (b : Bool) (rows : Rows) (c : Caller) (day : ℕ) →
 asked-made-now q true rows c day m is none last = is
 asked-made-now q false rows c day m is none last =
     let p = passes (facts_of rows q) (asked c q day) none in
-    let N : Option ℕ → Type 0 = λ v. misses (next_number (length rows.entries)) v ≡ false in
-    let next = next-is (length rows.entries) (number_named q) (subst N m.number p.next) in
-    let here : eqb (number_named q) (length rows.entries + 1) ≡ true = let n = next.1 in grind (arith, nat_tests) in
-    let at : entry_at (rows.entries ++ m.made ∷ []) (number_named q) ≡ Some m.made =
-    entry_at-append rows.entries m.made (number_named q) ∙ rw here refl in
-    let P : Edit → Type 0 = λ v. comes_again q (entry_at (changed_by v last rows).entries (number_named q)) ≡ true in
-    subst P (sym (m.edit (entry_at rows.entries (number_named q)))) (ap (comes_again q) at ∙ m.own)
+    grind (arith, ints, nat_tests, misses, length, next-is, entry_at, entry_at-append)
 
 -- the ask comes again, and changes nothing
 pub record IsSpent (rows : Rows) (a : Asked) : Type 0 where

@@ -1,5 +1,5 @@
 -- Forms of a step: edits of sound rows, what they move, and what an accepted ask has passed.
-use Rattle.trust_matter.proofs.Names.{Against, AreInOrder, Ask, Asked, Bool, Caller, DepositState, Edit, Entry, Event, Head, IsBy, IsHeaded, IsRising, IsSome, IsStepOf, List, MayAdd, MayTake, MovesWithin, None, Numbered, OpenAsk, Option, Rows, Seat, Some, Sound, [], ap, arith, as_made, backed-none, book_day, changed_by, changes_matter, common_steps, dated-append, dated-later, dated-with, entry_at, eqb, events_in, events_of, false, is_held_state, is_none, is_number, is_opening, is_purged, is_settled, is_some, is_unknown_to, is_zero, last_after, ledger, length, misses, nat_lt, nat_tests, negsuc, next_number, not, not-bare, not-closed, number_named, opening, other_of, pending, pos, refl, role_in, rows-of, rule_against, seats_with, seats_without, settled, settlement_day, slice_get, sound-append, sound-with, target, true, unclosed-bare, within, ℕ, ℤ, ◌&&◌, ◌++◌, ◌+◌, ◌<◌, ◌∷◌, ◌≡◌, ◌≤◌, ◌⊎◌}
+use Rattle.trust_matter.proofs.Names.{Against, AreInOrder, Ask, Asked, Bool, Caller, DepositState, Edit, Entry, Event, Head, IsBy, IsHeaded, IsRising, IsSome, IsStepOf, List, MayAdd, MayTake, MovesWithin, None, Numbered, OpenAsk, Option, Rows, Seat, Some, Sound, [], arith, as_made, backed-none, book_day, changed_by, changes_matter, common_steps, dated-append, dated-later, dated-with, entry_at, eqb, events_in, events_of, false, is_held_state, is_none, is_number, is_opening, is_purged, is_settled, is_some, is_unknown_to, is_zero, last_after, ledger, length, misses, nat_lt, nat_tests, next_number, not, not-bare, not-closed, number_named, opening, other_of, pending, pos, refl, role_in, rows-of, rule_against, seats_with, seats_without, settled, settlement_day, slice_get, sound-append, sound-with, target, true, unclosed-bare, within, ℕ, ℤ, ◌&&◌, ◌++◌, ◌+◌, ◌<◌, ◌∷◌, ◌≡◌, ◌≤◌, ◌⊎◌}
 use Rattle.std.specs.Prelude.{◌||◌}
 use Rattle.matter_rows.specs.declared.claim.Against.TheVariants as against
 use Rattle.matter_rows.specs.declared.deposit.DepositState.TheVariants as deposit

@@ -1,5 +1,5 @@
 -- Sound rows stay sound at every accepted ask.
-use Rattle.trust_matter.proofs.Names.{Ask, Asked, Bool, Caller, Entry, HasAmount, Head, List, None, Option, Refusal, Rows, Seat, Some, Sound, SoundForEver, after, comes_again, cond, conditions, early_conditions, edit_of, edit_on, entry_at, facts_of, false, false≢true, first, is_opening, is_repeat, is_some, last_after, number_named, refl, refusal, role_in, rows-of, settled, sym, true, ℕ, ◌≡◌}
+use Rattle.trust_matter.proofs.Names.{Ask, Asked, Bool, Caller, Entry, HasAmount, Head, List, None, Option, Refusal, Rows, Seat, Some, Sound, SoundForEver, after, comes_again, cond, conditions, early_conditions, edit_of, edit_on, entry_at, facts_of, false, false≢true, first, is_opening, is_repeat, is_some, last_after, number_named, refl, refusal, role_in, rows-of, settled, sym, true, ℕ, ◌≡◌, arith, ints, nat_tests}
 use Rattle.matter_parts.specs.declared.edit.Edit.TheVariants as edit
 use Rattle.trust_matter.specs.declared.ask.Ask.TheVariants as ask
 use Rattle.trust_matter.proofs.Table.{Passes, passes}
@@ -35,16 +35,13 @@ step-made (Some h) seats es c ask.Purge day s amount p = step-purge h seats es c
 step-made (Some h) seats es c a day s amount p = step-nothing h seats es (asked c a day) s
 
 again-other : (a : Ask) (e : Option Entry) → comes_again a e ≡ true → is_opening a ≡ false
-again-other (ask.OpenMatter o) e h = absurd (cc)
-again-other a e h = refl
+again-other a e h = grind (arith, ints, nat_tests)
 
 step-again : (head : Option Head) (seats : List Seat) (es : List Entry) (a : Asked) → Sound (rows-of head seats es) → is_some head ≡ true → Stepped head seats es a edit.Nothing
-step-again None seats es a s there = absurd (cc)
-step-again (Some h) seats es a s there = step-nothing h seats es a s
+step-again head seats es a s there = grind (arith, ints, nat_tests, step-nothing)
 
 known : (b : Bool) (r : Refusal) (rest : Option Refusal) → cond b (Some r) rest ≡ None → b ≡ false
-known true r rest h = absurd (cc)
-known false r rest h = refl
+known b r rest h = grind (arith, ints, nat_tests)
 
 step-either : (rows : Rows) (a : Asked) (b : Bool) → is_repeat (facts_of rows a.ask) a ≡ b → Sound rows → HasAmount a.ask → first (cond b (early_conditions (facts_of rows a.ask) a) (conditions (facts_of rows a.ask) a)) ≡ None → Stepped rows.head rows.seats rows.entries a (cond b edit.Nothing (edit_of a.ask (entry_at rows.entries (number_named a.ask)) a.day))
 step-either rows a true is s amount none = search (step-again, head-there, known, again-other)
@@ -56,8 +53,7 @@ pub step : (rows : Rows) (a : Asked) → Sound rows → HasAmount a.ask → refu
 step rows a s amount none = step-either rows a (is_repeat (facts_of rows a.ask) a) refl s amount none
 
 sound-after : (rows : Rows) (a : Asked) (r : Option Refusal) → refusal rows a ≡ r → Sound rows → HasAmount a.ask → Sound (after r (edit_on rows a) a.day rows)
-sound-after rows a None is s amount = (step rows a s amount is).sound
-sound-after rows a (Some r) is s amount = s
+sound-after rows a r is s amount = grind (arith, ints, nat_tests, step)
 
 pub steps-sound : SoundForEver
 steps-sound rows a amount s = sound-after rows a (refusal rows a) refl s amount

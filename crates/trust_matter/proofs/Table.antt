@@ -1,7 +1,6 @@
 -- The table of refusals gives the least number whose condition holds.
-use Rattle.trust_matter.proofs.Names.{Asked, Bool, Facts, LeastRefusal, List, NoRefusal, None, Refusal, Some, Stands, [], arith, cond, conditions, early_conditions, false, false≢true, first, goes_backwards, has_a_seat_already, has_no_seat, has_none_to_drop, inl, inr, is_bad_split, is_closed, is_in_another_state, is_not_empty, is_not_next, is_not_there, is_of_another_kind, is_opened_already, is_repeat, is_short, later_conditions, le_refl, refl, rules, subst, sym, true, was_purged, ℕ, ⊎_elim, ◌++◌, ◌<◌, ◌∙◌, ◌∷◌, ◌≡◌, ◌≤◌, ◌⊎◌}
+use Rattle.trust_matter.proofs.Names.{Asked, Bool, Facts, LeastRefusal, List, NoRefusal, None, Refusal, Some, Stands, [], arith, cond, conditions, early_conditions, false, false≢true, first, goes_backwards, has_a_seat_already, has_no_seat, has_none_to_drop, inl, inr, is_bad_split, is_closed, is_in_another_state, is_not_empty, is_not_next, is_not_there, is_of_another_kind, is_opened_already, is_repeat, is_short, later_conditions, le_refl, refl, rules, subst, sym, true, was_purged, ℕ, ⊎_elim, ◌++◌, ◌<◌, ◌∙◌, ◌∷◌, ◌≡◌, ◌≤◌, ◌⊎◌, Holds, IsLeast}
 use Rattle.trust_base.specs.Refusals.{number_of}
-use Rattle.trust_matter.specs.Laws.{Holds, IsLeast}
 
 -- the numbers do not fall
 abbrev pub Rises : ℕ → List (Bool × Refusal) → Type 0

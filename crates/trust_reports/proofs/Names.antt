@@ -8,3 +8,5 @@ pub use Rattle.trust_base.specs.Texts.{day_text, entry_text, matter_text}
 pub use Rattle.trust_reports.specs.Pieces.{further_piece, row_text}
 pub use Rattle.trust_reports.specs.Texts.{further, line, shown}
 pub use Rattle.trust_reports.specs.TextsOfReconciliation.{entry_line, listed_exception}
+pub use Rattle.std.proofs.lemmas.Bool.Decides.{nat_tests}
+pub use Rattle.std.proofs.lemmas.Int.{ints}

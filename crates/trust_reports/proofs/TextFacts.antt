@@ -1,5 +1,5 @@
 -- The bank's words, and fields one behind the other.
-use Rattle.trust_reports.proofs.Names.{◌≡◌, ℕ, List, [], ◌∷◌, ◌++◌, ◌∙◌, ap, codes, map, flat_map, true, arith, append_assoc, append-nil, encode_utf8, encode_utf8_all, IsUtf8, is_utf8, map-append, further, line, shown}
+use Rattle.trust_reports.proofs.Names.{◌≡◌, ℕ, List, [], ◌∷◌, ◌++◌, codes, map, flat_map, true, arith, append_assoc, append-nil, encode_utf8, encode_utf8_all, IsUtf8, is_utf8, map-append, further, line, shown, ints, nat_tests}
 use Rattle.std.proofs.lemmas.Grind.{flat_map-append}
 use Rattle.std.proofs.lemmas.Str.{IsUtf8-from_is_utf8, encodes-append}
 use Rattle.std.specs.Prelude.{ℤ, neg_ℤ}
@@ -49,11 +49,4 @@ pub figures_told : (out t : List ℕ) (f : Figures) (c a o d j l x e y g : ℤ) 
     → x ≡ f.difference → e ≡ f.exceptions → y ≡ f.early → g ≡ f.gap → t ≡ out ++ (bank_figures f ++ book_figures f)
 unfolding bank_figures book_figures
 figures_told out t f c a o d j l x e y g is c' a' o' d' j' l' x' e' y' g' =
-    is
-    ∙ ((λ i. out ++ ten (c' i) (a' i) (o' i) (d' i) (j' i) (l' i) (x' i) (e' i) (y' i) (g' i))
-    ∙ ap (λ r. out ++ r)
-    (in_two (figure_line (codes "CLOSING") f.closing) (figure_line (codes "IN TRANSIT") f.transit)
-    (figure_line (codes "OUTSTANDING") (neg_ℤ f.outstanding)) (figure_line (codes "ADJUSTED BANK") f.adjusted)
-    (figure_line (codes "JOURNAL") f.journal) (figure_line (codes "LEDGERS") f.ledgers)
-    (figure_line (codes "DIFFERENCE") f.difference) (figure_line (codes "EXCEPTIONS") f.exceptions)
-    (figure_line (codes "EARLY") f.early) (figure_line (codes "GAP") f.gap)))
+    grind (arith, ints, nat_tests, ten, in_two, figure_line, codes)

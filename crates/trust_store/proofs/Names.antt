@@ -1,6 +1,6 @@
 -- The names that the proofs of this crate cite, passed on from one place. Declares nothing.
 pub use Rattle.firm_rows.proofs.Ordered.{absent-at, all-append, found-at, rises}
-pub use Rattle.firm_rows.specs.Countable.{AreCountable, IsBalanceInRange, IsFirmLineInRange, IsLineInRange, IsMovementInRange, IsRowInRange, MOST_ROWS}
+pub use Rattle.firm_rows.specs.Countable.{IsBalanceInRange, IsFirmLineInRange, IsLineInRange, IsMovementInRange, IsRowInRange, MOST_ROWS}
 pub use Rattle.firm_rows.specs.Firm.{EntryRow, Firm, Row, SeatRow, after_change, among, empty_firm, entry_pairs, head_pairs, joined_movement, kept_movements, moved_by, moved_without, of, own_movement, pairs, put, rows_of, seat_pairs, with_line, without_line}
 pub use Rattle.firm_rows.specs.FirmChange.{FirmChange, OfMatter}
 pub use Rattle.firm_rows.specs.FirmLines.{IsOwnBalance, as_firm_line, balance_cmp, balance_of, kept_balance, with_balance}
@@ -19,7 +19,7 @@ pub use Rattle.std.proofs.Common.{Bool, Err, IfErr, IfOk, List, None, Ok, Option
 pub use Rattle.std.proofs.lemmas.Bool.{cases_Bool, cases_lt}
 pub use Rattle.std.proofs.lemmas.Bool.Decides.{nat_tests}
 pub use Rattle.std.proofs.lemmas.Fn.{always_returns_same, filter_same}
-pub use Rattle.std.proofs.lemmas.List.Sorted.{IsNonDecreasingBy-from_default, answers_always}
+pub use Rattle.std.proofs.lemmas.List.Sorted.{answers_always}
 pub use Rattle.std.proofs.lemmas.Option.{get_or_from_slice_get, slice_get-get_or, slice_get_past}
 pub use Rattle.std.proofs.lemmas.Result.{IfOk-weaker, on_ok_weaker}
 pub use Rattle.std.specs.List.{AllByRecursion}
@@ -34,3 +34,4 @@ pub use Rattle.trust_store.specs.Calls.{IsWrite, IsWriteIf}
 pub use Rattle.trust_store.specs.Kept.{AreKept, AreKeptWhole, Ascends, IsBefore, IsKeptAs, IsKeptWhole, StandsAt, WouldStandAt, firm_of, joined, kept_pairs, matters_with, place, rows_in, rows_kept, seek, told}
 pub use Rattle.trust_store.specs.Named.{IsPartFor, LineIsHeld, NamedAreHeld, drawn_on, is_named, is_number}
 pub use Rattle.trust_store.specs.declared.plain.KeptMatter.{KeptMatter}
+pub use Rattle.std.proofs.lemmas.Int.{ints}

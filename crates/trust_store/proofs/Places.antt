@@ -1,5 +1,5 @@
 -- What a binary search finds among lines in their order, and what a book of lists keeps then.
-use Rattle.trust_store.proofs.Names.{◌≡◌, ◌≢◌, ℕ, ◌<◌, ◌++◌, ◌∷◌, ◌+ℤ◌, None, List, [], length, get_or, Result, Ok, Err, IfOk, IfErr, sym, subst, arith, IsStrictlySortedBy, IsSearchInRange, IsBinarySearchResult, line_cmp, Line, Movement, FirmLine, StatementRow, IsOwnBalance, balance_of, balance_cmp, with_balance, kept_balance, Firm, empty_firm, with_line, without_line, own_movement, FirmSound, found-at, absent-at, rises, KeptMatter, AreKeptWhole, AreKept, firm_of, StandsAt, WouldStandAt}
+use Rattle.trust_store.proofs.Names.{◌≡◌, ◌≢◌, ℕ, ◌<◌, ◌++◌, ◌∷◌, ◌+ℤ◌, None, List, [], length, get_or, Result, Ok, Err, IfOk, IfErr, sym, subst, arith, IsStrictlySortedBy, IsSearchInRange, IsBinarySearchResult, line_cmp, Line, Movement, FirmLine, StatementRow, IsOwnBalance, balance_of, balance_cmp, with_balance, kept_balance, Firm, empty_firm, with_line, without_line, own_movement, FirmSound, found-at, absent-at, rises, KeptMatter, AreKept, firm_of, StandsAt, WouldStandAt}
 use Rattle.std.proofs.Common.{insert}
 use Rattle.trust_base.proofs.LineFacts.{line_total, line_same}
 use Rattle.firm_rows.proofs.Balances.{balance_total, none-tied}

@@ -2,13 +2,13 @@
 pub use Rattle.byte_streams.proofs.FixedFacts.{fixed-injective, length-fixed, printed-six, six-digits}
 unfoldable pub use Rattle.byte_streams.specs.Digits.{fixed_digits}
 pub use Rattle.jiff.specs.Words.{days_in_month}
-pub use Rattle.std.proofs.Common.{Bool, FitsSigned, IfNone, IfSome, List, None, Ok, Option, Result, Some, [], ap, arith, cond, drop, false, get_or, inl, inr, length, length-append, length-drop, nat_le, nat_lt, negsuc, pos, refl, rules, slice_index, subst, suc, sym, take, true, zero, ℕ, ℤ, ◌%◌, ◌&&◌, ◌*◌, ◌++◌, ◌+◌, ◌-◌, ◌/◌, ◌<◌, ◌^◌, ◌∙◌, ◌∷◌, ◌≡◌, ◌≢◌, ◌≤◌}
+pub use Rattle.std.proofs.Common.{Bool, IfNone, IfSome, List, None, Ok, Option, Result, Some, [], arith, cond, drop, false, get_or, length, length-append, nat_le, nat_lt, negsuc, pos, refl, slice_index, suc, sym, take, true, zero, ℕ, ℤ, ◌%◌, ◌&&◌, ◌*◌, ◌++◌, ◌+◌, ◌-◌, ◌/◌, ◌<◌, ◌^◌, ◌∙◌, ◌∷◌, ◌≡◌, ◌≢◌, ◌≤◌}
 pub use Rattle.std.proofs.lemmas.Bool.{cases_Bool, cases_lt, false≢true}
 pub use Rattle.std.proofs.lemmas.Bool.Decides.{nat_tests}
 pub use Rattle.std.proofs.lemmas.Fmt.{IsAscii-decimal, decimal-digits_value, decimal_digit, decimal_injective, decimal_is_IsNumeral, decimal_nonempty, first_decimal}
 pub use Rattle.std.proofs.lemmas.Str.Parse.{IsNumeralModel, digit_at, numerals_by_value, parse_gives, parse_plain, tells_digits}
 pub use Rattle.std.specs.Fmt.{decimal}
-pub use Rattle.std.specs.Prelude.{unsigned_abs, ◌==◌}
+pub use Rattle.std.specs.Prelude.{unsigned_abs}
 pub use Rattle.std.specs.Str.{IsUtf8, bytes_eq}
 pub use Rattle.trust_values.specs.Limits.{IsAmount, IsAmountOrZero, IsBankAmount, IsEntryNo, IsMatterNo, MAX_DAY, MIN_DAY, month_day_of, month_of, year_of}
 unfoldable pub use Rattle.trust_values.specs.Limits.{IsCivilDay, IsDay, is_day}

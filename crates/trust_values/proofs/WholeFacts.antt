@@ -1,5 +1,5 @@
 -- What the text of a number of dollars looks like.
-use Rattle.trust_values.proofs.Names.{◌≡◌, ◌≢◌, ℕ, zero, suc, ◌<◌, ◌^◌, List, length, get_or, refl, arith, Result, Ok, true, decimal, IsUtf8, IsNumeralModel, numerals_by_value, tells_digits, digit_at, parse_plain, parse_gives, decimal_is_IsNumeral, decimal_digit, first_decimal, IsAscii-decimal, decimal-digits_value, starts_plainly}
+use Rattle.trust_values.proofs.Names.{◌≡◌, ◌≢◌, ℕ, ◌<◌, ◌^◌, List, length, get_or, arith, Result, Ok, true, decimal, IsUtf8, IsNumeralModel, numerals_by_value, tells_digits, digit_at, parse_plain, parse_gives, decimal_is_IsNumeral, decimal_digit, first_decimal, IsAscii-decimal, decimal-digits_value, starts_plainly}
 use Rattle.std.specs.Str.Parse.{AllDigits, digits_value, ParsesUnsigned}
 use Rattle.std.proofs.lemmas.Str.{IsUtf8-from_ascii}
 
@@ -18,9 +18,8 @@ pub record IsWholeText (bs : List ℕ) (n : ℕ) : Type 0 where
 lone : (n : ℕ) → n < 2 ^ 64 → get_or (decimal n) 0 0 ≡ 48 → length (decimal n) ≡ 1
 lone n small e = grind (arith, decimal_digit, first_decimal)
 
-pub decimal-shape : (n : ℕ) (bs : List ℕ) → n < 2 ^ 64 → decimal n ≡ bs → IsWholeText bs n
-decimal-shape n bs le e =
-    let small : n < 2 ^ 64 = omega arith in
+pub decimal_shape : (n : ℕ) (bs : List ℕ) → n < 2 ^ 64 → decimal n ≡ bs → IsWholeText bs n
+decimal_shape n bs small e =
     let (numeral, value) = decimal_is_IsNumeral n small in
     let first = digit_at (decimal n) 0 numeral.1 numeral.0 in
     rw (← e) (record {
@@ -36,16 +35,20 @@ decimal-shape n bs le e =
 pub plain-facts : (bs : List ℕ) → starts_plainly bs ≡ true → (0 < length bs) × (get_or bs 0 0 ≢ 43) × (get_or bs 0 0 ≡ 48 → length bs ≡ 1)
 plain-facts bs e = grind arith
 
-pub plain-test : (n : ℕ) (bs : List ℕ) → n < 2 ^ 64 → decimal n ≡ bs → starts_plainly bs ≡ true
-plain-test n bs le e = grind (arith, decimal-shape)
+pub plain_test : (n : ℕ) (bs : List ℕ) → n < 2 ^ 64 → decimal n ≡ bs → starts_plainly bs ≡ true
+plain_test n bs le e = grind (arith, decimal_shape)
 
 -- a text that parses is that of its value
-pub parsed-text : {E : Type 0} (bs : List ℕ) (r : Result ℕ E) (v : ℕ) → ParsesUnsigned 64 10 bs r → r ≡ Ok v → starts_plainly bs ≡ true → decimal v ≡ bs
-parsed-text bs r v p e plainly =
+pub parsed_text : {E : Type 0} (bs : List ℕ) (r : Result ℕ E) (v : ℕ) → ParsesUnsigned 64 10 bs r → r ≡ Ok v → starts_plainly bs ≡ true → decimal v ≡ bs
+parsed_text bs r v p e plainly =
     let (some, plain, single) = plain-facts bs plainly in
     let h = rw e at (parse_plain own 64 bs r p plain) in
     rw h.1 (decimal-digits_value own bs h.0.0 some single h.0.2)
 
 -- a text of a number of dollars parses
-pub text-parses : {E : Type 0} (bs : List ℕ) (r : Result ℕ E) (n : ℕ) → ParsesUnsigned 64 10 bs r → IsWholeText bs n → n < 2 ^ 64 → r ≡ Ok n
-text-parses bs r n p w le = let e = w.value in rw (← e) (parse_gives own 64 bs r p w.digits w.nonempty (omega arith))
+pub text_parses : {E : Type 0} (bs : List ℕ) (r : Result ℕ E) (n : ℕ) → ParsesUnsigned 64 10 bs r → IsWholeText bs n → n < 2 ^ 64 → r ≡ Ok n
+text_parses bs r n p w le = let e = w.value in rw (← e) (parse_gives own 64 bs r p w.digits w.nonempty (omega arith))
+
+-- what the code cites
+
+pub ruleset whole_facts = (plain_test, decimal_shape, text_parses, parsed_text)

@@ -54,6 +54,7 @@ fn withdrawal(size: u64) -> Option<BankAmount>
 }
 
 // Parses a negative amount; `size` is what follows the minus sign.
+#[tactic(auto, using(crate::proofs::SignedFacts::if_zero_none))]
 fn read_negative(size: &[u8]) -> Option<BankAmount>
     ensures range { IfSome result IsBankAmount }
     ensures some { IfSome result (λ a. signed_text a ≡ 45 ∷ size.now) }
@@ -64,6 +65,7 @@ fn read_negative(size: &[u8]) -> Option<BankAmount>
 }
 
 // Parses an amount, negative or not.
+#[tactic(auto, using(crate::proofs::SignedFacts::if_negative_none))]
 fn read_signed(text: &[u8]) -> Option<BankAmount>
     ensures range { IfSome result IsBankAmount }
     ensures some { IfSome result (λ a. signed_text a ≡ text.now) }

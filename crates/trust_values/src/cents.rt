@@ -41,6 +41,7 @@ fn is_plain(text: &[u8]) -> bool
 }
 
 // Parses whole dollars without leading zeros. None if above `most`.
+#[tactic(auto, using(crate::proofs::WholeFacts::whole_facts))]
 fn read_dollars(text: &[u8], most: u64) -> Option<u64>
     ensures some { IfSome result (λ n. (n ≤ most) × (decimal n ≡ text.now)) }
     ensures none { IfNone result ((n : ℕ) → n ≤ most → decimal n ≢ text.now) }
@@ -77,6 +78,7 @@ fn read_end(end: &[u8]) -> Option<u64>
 
 /// Parses dollars without leading zeros, a point and two digits, as cents. The result may be zero. None if the dollars
 /// exceed `most`, which is below 10^17.
+#[tactic(auto, using(crate::proofs::AmountFacts::amount_parts))]
 pub(crate) fn read_sum(text: &[u8], most: u64) -> Option<u64>
     requires { most < 10 ^ 17 }
     ensures range { IfSome result (λ n. n / 100 ≤ most) }
@@ -93,6 +95,7 @@ pub(crate) fn read_sum(text: &[u8], most: u64) -> Option<u64>
 }
 
 // Parses an amount.
+#[tactic(auto, using(crate::proofs::ReadFacts::none_in_range, crate::proofs::AmountFacts::sum_injective))]
 fn read_amount(text: &[u8]) -> Option<Cents>
     ensures range { IfSome result IsAmount }
     ensures some { IfSome result (λ c. amount_text c ≡ text.now) }

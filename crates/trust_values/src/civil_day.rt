@@ -63,6 +63,7 @@ impl CivilDay {
     }
 
     /// Appends the day's text. If memory runs out, `out` is unchanged.
+    #[tactic(auto, using(crate::proofs::CivilDayFacts::civil_day_facts))]
     pub fn write_to(self, out: &mut Vec<u8>) -> Result<(), AllocError>
         ensures ok { OnOk result (out.new.items ≡ out.old.items ++ day_text self) }
         ensures err { OnErr result (out.new.items ≡ out.old.items) }
@@ -74,6 +75,7 @@ impl CivilDay {
 impl From<Day> for CivilDay {
     ghost from_gives = { λ day same. same ≡ day };
 
+    #[tactic(auto, using(crate::proofs::CivilDayFacts::civil_day_of_day))]
     fn from(day: Day) -> Self {
         CivilDay { number: day.get() }
     }

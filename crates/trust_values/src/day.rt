@@ -50,6 +50,7 @@ fn date_of(number: u32) -> Option<Date>
 }
 
 /// A day's number as the ten bytes `YYYY-MM-DD`. The number is below 100,000,000.
+#[tactic(auto, using(crate::proofs::DayFacts::ten_bytes))]
 pub fn day_bytes(number: u32) -> [u8; 10]
     requires { number < 100_000_000 }
     ensures { result ≡ day_text number }
@@ -77,6 +78,7 @@ fn has_dashes(text: &[u8]) -> bool
 }
 
 // Parses `YYYY-MM-DD` as a number, whether or not the calendar has that day.
+#[tactic(auto, using(crate::proofs::DayFacts::number_facts))]
 fn read_number(text: &[u8]) -> Option<u32>
     ensures below { IfSome result (λ n. n < 100_000_000) }
     ensures some { IfSome result (λ n. day_text n ≡ text.now) }
@@ -92,6 +94,7 @@ fn read_number(text: &[u8]) -> Option<u32>
 }
 
 // Parses a day.
+#[tactic(auto, using(crate::proofs::DayFacts::day_facts))]
 fn read_day(text: &[u8]) -> Option<Day>
     ensures range { IfSome result IsDay }
     ensures some { IfSome result (λ d. day_text d ≡ text.now) }
@@ -139,6 +142,7 @@ impl Day {
     }
 
     /// Appends the day's text. If memory runs out, `out` is unchanged.
+    #[tactic(auto, using(crate::proofs::DayFacts::day_facts))]
     pub fn write_to(self, out: &mut Vec<u8>) -> Result<(), AllocError>
         ensures ok { OnOk result (out.new.items ≡ out.old.items ++ day_text self) }
         ensures err { OnErr result (out.new.items ≡ out.old.items) }
@@ -150,6 +154,7 @@ impl Day {
 impl fmt::Display for Day {
     ghost output = { λ d. Some (day_text d) };
 
+    #[tactic(auto, using(crate::proofs::DayFacts::printed_ten, crate::proofs::DayFacts::day_facts))]
     fn fmt<W: fmt::Write>(&self, f: &mut fmt::Formatter<W>) -> fmt::Result {
         let n = self.get();
         let (a, b, c, d) = (

@@ -13,6 +13,7 @@ pub struct Dollars(pub i128);
 impl fmt::Display for Dollars {
     ghost output = { λ d. Some (signed_text d.0) };
 
+    #[tactic(auto, using(crate::proofs::AmountFacts::dollar_facts))]
     fn fmt<W: fmt::Write>(&self, f: &mut fmt::Formatter<W>) -> fmt::Result {
         let cents = self.0.unsigned_abs();
         let dollars = cents / 100;

@@ -29,6 +29,7 @@ impl Model for EntryNo {
 }
 
 // Parses an entry number.
+#[tactic(auto, using(crate::proofs::ReadFacts::none_in_range, crate::proofs::ReadFacts::digit_facts))]
 fn read_entry(text: &[u8]) -> Option<EntryNo>
     ensures range { IfSome result IsEntryNo }
     ensures some { IfSome result (λ e. entry_text e ≡ text.now) }
@@ -71,6 +72,7 @@ impl EntryNo {
     }
 
     /// The four digits as text.
+    #[tactic(auto, using(crate::proofs::EntryFacts::four_digits))]
     pub fn digits(self) -> [u8; 4]
         ensures { result ≡ entry_text self }
     {
@@ -95,6 +97,7 @@ impl EntryNo {
 impl fmt::Display for EntryNo {
     ghost output = { λ e. Some (entry_text e) };
 
+    #[tactic(auto, using(crate::proofs::EntryFacts::printed_four))]
     fn fmt<W: fmt::Write>(&self, f: &mut fmt::Formatter<W>) -> fmt::Result {
         let n = self.get();
         let (a, b, c, d) = (n / 1_000 % 10, n / 100 % 10, n / 10 % 10, n % 10);

@@ -29,6 +29,7 @@ impl Model for MatterNo {
 }
 
 // Parses a matter number.
+#[tactic(auto, using(crate::proofs::ReadFacts::none_in_range, crate::proofs::ReadFacts::digit_facts))]
 fn read_matter(text: &[u8]) -> Option<MatterNo>
     ensures range { IfSome result IsMatterNo }
     ensures some { IfSome result (λ m. matter_text m ≡ text.now) }
@@ -71,6 +72,7 @@ impl MatterNo {
     }
 
     /// Appends the six digits. If memory runs out, `out` is unchanged.
+    #[tactic(auto, using(crate::proofs::ReadFacts::six_digit_facts))]
     pub fn write_to(self, out: &mut Vec<u8>) -> Result<(), AllocError>
         ensures ok { OnOk result (out.new.items ≡ out.old.items ++ matter_text self) }
         ensures err { OnErr result (out.new.items ≡ out.old.items) }
@@ -91,6 +93,7 @@ impl MatterNo {
 impl fmt::Display for MatterNo {
     ghost output = { λ m. Some (matter_text m) };
 
+    #[tactic(auto, using(crate::proofs::ReadFacts::six_digit_facts))]
     fn fmt<W: fmt::Write>(&self, f: &mut fmt::Formatter<W>) -> fmt::Result {
         let n = self.get();
         let (a, b, c) = (n / 100_000 % 10, n / 10_000 % 10, n / 1_000 % 10);

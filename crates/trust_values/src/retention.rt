@@ -30,6 +30,7 @@ fn day_after(day: CivilDay) -> CivilDay
 impl Day {
     /// The last day on which the records of a matter closed on this day are kept: the same month and day five years
     /// later, or 28 February for 29 February. It may lie after 2199, up to 2204-12-31.
+    #[tactic(auto, using(crate::proofs::RetentionFacts::retained_facts, crate::proofs::DayFacts::day_facts))]
     pub fn retained_until(self) -> CivilDay
         ensures value { result ≡ retained_until self }
         ensures range { year_of result ≤ MAX_YEAR + YEARS_KEPT }

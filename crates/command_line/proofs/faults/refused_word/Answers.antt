@@ -1,4 +1,4 @@
-use Rattle.command_line.proofs.Names.{inl, inr}
+use Rattle.command_line.proofs.Names.{inl, inr, arith, ints, nat_tests}
 use Rattle.command_line.proofs.AdviceFacts.{none-taken, repeated, still-taken, stray}
 use Rattle.command_line.proofs.faults.refused_word.Goals as goal
 
@@ -12,5 +12,4 @@ pub returns-in-Repeats : goal.returns-in-Repeats
 returns-in-Repeats c = repeated c.args.words.now c.loop-place.place _ _ c.loop-place.invariant c.in-Repeats.is c.front_of.ensures c.in_ok-last_setting-in-Repeats.ensures
 
 pub loop-place-preserved : goal.loop-place-preserved
-loop-place-preserved c =
-    still-taken c.args.words.now c.loop-place.place _ c.in_default.not-Strays c.in_default.not-Repeats c.in_default.not-Fails c.front_of.ensures
+loop-place-preserved c = grind (arith, ints, nat_tests, still-taken)

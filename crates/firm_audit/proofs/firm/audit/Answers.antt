@@ -1,4 +1,4 @@
-use Rattle.firm_audit.proofs.Names.{◌≡◌, None, rules}
+use Rattle.firm_audit.proofs.Names.{rules}
 use Rattle.firm_audit.proofs.Sound.{firm_is_sound}
 use Rattle.firm_audit.proofs.firm.audit.Goals as goal
 

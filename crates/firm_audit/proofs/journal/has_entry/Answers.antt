@@ -1,4 +1,4 @@
-use Rattle.firm_audit.proofs.Names.{◌<◌, ◌≤◌, length, sym, ap, ◌∙◌, arith, nat_tests, KeptMatter}
+use Rattle.firm_audit.proofs.Names.{arith, nat_tests}
 use Rattle.firm_audit.proofs.Entries.{entry-there}
 use Rattle.firm_audit.proofs.journal.has_entry.Goals as goal
 

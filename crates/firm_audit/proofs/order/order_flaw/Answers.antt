@@ -1,4 +1,4 @@
-use Rattle.firm_audit.proofs.Names.{rules, ◌≡◌, None, balance_cmp}
+use Rattle.firm_audit.proofs.Names.{rules, balance_cmp}
 use Rattle.trust_base.specs.LineOrder.{line_cmp}
 use Rattle.trust_base.proofs.LineFacts.{line_total}
 use Rattle.firm_rows.proofs.Balances.{balance_total}

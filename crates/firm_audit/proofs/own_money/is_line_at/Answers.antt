@@ -1,4 +1,4 @@
-use Rattle.firm_audit.proofs.Names.{◌<◌, length, Some, refl, sym, ap, ◌∙◌, arith, option_map, line_event}
+use Rattle.firm_audit.proofs.Names.{arith, option_map, line_event}
 use Rattle.std.proofs.lemmas.Option.{slice_get-map, slice_get_read}
 use Rattle.firm_audit.proofs.own_money.is_line_at.Goals as goal
 

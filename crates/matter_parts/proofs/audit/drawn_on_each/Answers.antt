@@ -1,5 +1,5 @@
-use Rattle.matter_parts.proofs.Names.{◌+◌, ℤ, Vec, Global, sym, subst, arith, ints, IsSmallShare, fits}
-use Rattle.matter_parts.proofs.Drawn.{AreDrawnTo, drawn-all, drawn-more, drawn-none, drawn-same, read-sum}
+use Rattle.matter_parts.proofs.Names.{arith, ints, fits}
+use Rattle.matter_parts.proofs.Drawn.{drawn-all, drawn-more, drawn-none, drawn-same, read-sum}
 use Rattle.matter_parts.proofs.audit.drawn_on_each.Goals.{in-Some, in_default}
 use Rattle.matter_parts.proofs.audit.drawn_on_each.Goals as goal
 
@@ -14,25 +14,20 @@ overflow_add-more c =
     fits c.index.result.now c.draw.result c.loop-entry.entry-index read.1 c.draw.ensures.small (omega (arith, test, few))
 
 pub loop-entry-preserved : goal.loop-entry-preserved
-loop-entry-preserved c =
-    let es = c.args.entries.now in
-    let i = c.loop-entry.entry-index in
-    elim c.match-place_drawn.branch [
-      | in-Some w ↦
-          let read = read-sum es i c.loop-entry.drawn.items w.in-Some.place w.index.result.now c.loop-entry.invariant w.in-Some.ensures.some.0 w.index.ensures in
-          let at = read.0 in
-          let so = read.1 in
-          let own = w.draw.ensures in
-          let test = c.loop-entry-test.true in
-          let few = c.requires in
-          subst (λ (v : Vec ℤ Global). AreDrawnTo es (i + 1) v.items) (sym w.drawn-is)
-          (drawn-more es i c.loop-entry.drawn.items c.entry-item.result w.in-Some.place _ c.loop-entry.invariant c.loop-entry-test.true c.entry-item.is w.in-Some.ensures.some.0 w.in-Some.ensures.some.1
-          (subst (λ (z : ℤ). IsSmallShare z) own.is own.small)
-          (omega (arith, ints, at, own.is, own.small.low, own.small.high, so.low, so.high, test, few)))
-      | in_default w ↦
-          subst (λ (v : Vec ℤ Global). AreDrawnTo es (i + 1) v.items) (sym w.drawn-is)
-          (drawn-same es i c.loop-entry.drawn.items c.entry-item.result c.loop-entry.invariant c.loop-entry-test.true c.entry-item.is w.in_default.ensures.none)
-    ]
+loop-entry-preserved c = elim c.match-place_drawn.branch [
+  | in-Some w ↦
+      let read = read-sum c.args.entries.now c.loop-entry.entry-index c.loop-entry.drawn.items w.in-Some.place
+      w.index.result.now c.loop-entry.invariant w.in-Some.ensures.some.0 w.index.ensures in
+      let own = w.draw.ensures in
+      rw w.drawn-is
+      (drawn-more c.args.entries.now c.loop-entry.entry-index c.loop-entry.drawn.items c.entry-item.result
+      w.in-Some.place _ c.loop-entry.invariant c.loop-entry-test.true c.entry-item.is w.in-Some.ensures.some.0
+      w.in-Some.ensures.some.1
+      (rw own.is at own.small) (omega (arith, ints, read, own, c.loop-entry-test.true, c.requires)))
+  | in_default w ↦
+      rw w.drawn-is (drawn-same c.args.entries.now c.loop-entry.entry-index c.loop-entry.drawn.items c.entry-item.result
+      c.loop-entry.invariant c.loop-entry-test.true c.entry-item.is w.in_default.ensures.none)
+]
 
 pub returns : goal.returns
 returns c = drawn-all c.args.entries.now c.loop-entry.entry-index c.loop-entry.drawn.items c.loop-entry.invariant c.loop-entry-test.false (omega arith) c.requires

@@ -1,5 +1,5 @@
-use Rattle.matter_parts.proofs.Names.{◌≡◌, ◌+◌, ◌∙◌, is_some, ap, arith, of_z, pos, sym, to_z, w64, ints, Shares, draw, worth, Before, Figures}
-use Rattle.matter_parts.proofs.Moving.{events-counted, written-same, append-written, exchange-written, written-exchange}
+use Rattle.matter_parts.proofs.Names.{◌+◌, ◌∙◌, is_some, ap, arith, pos, sym, ints, Shares, draw, worth, Before, Figures}
+use Rattle.matter_parts.proofs.Moving.{events-counted, written-same, append-written, exchange-written, written-exchange, word}
 use Rattle.matter_parts.proofs.change.edit_moves.Goals as goal
 
 pub returns-in_err-moves-in-Append-clause-none : goal.returns-in_err-moves-in-Append-clause-none
@@ -12,27 +12,17 @@ returns-in_err-moves-in-Append-clause-none c =
 pub returns-in_err-moves-in-Exchange-clause-none : goal.returns-in_err-moves-in-Exchange-clause-none
 returns-in_err-moves-in-Exchange-clause-none c =
     let k = c.in_ok-kept-in-Exchange.kept.now in
-    let own = c.worth.ensures in
-    let drew = c.draw.ensures in
-    let worth_is : to_z w64 (of_z w64 c.worth.result) ≡ worth k.entry = omega (arith, ints, own.is, own.small.low, own.small.high) in
-    let draw_is : to_z w64 (of_z w64 c.draw.result) ≡ draw k.entry = omega (arith, ints, drew.is, drew.small.low, drew.small.high) in
     rw c.from_residual-in_err-moves-in-Exchange.ensures (rw c.in-Exchange.is (λ v s m.
     c.in_err-moves-in-Exchange.ensures.none v s (written-same _ _ _ _ _ _ v (exchange-written c.args.matter.now c.in-Exchange.new k m.0 v c.in_ok-kept-in-Exchange.ensures.is m.1)
-    (ap (λ (f : Figures). f.entries) (sym c.figures-figures.ensures.is))
-    (λ i. record { shares = sym c.shares.ensures.is i; left = k.left; worth = sym worth_is i; draw = sym draw_is i }))))
+    (ap (λ (f : Figures). f.entries) (sym c.figures-figures.ensures.is)) (grind (arith, ints, word)))))
 
 pub returns-in_ok-moves-in-Exchange-clause-some : goal.returns-in_ok-moves-in-Exchange-clause-some
 returns-in_ok-moves-in-Exchange-clause-some c =
     let k = c.in_ok-kept-in-Exchange.kept.now in
-    let own = c.worth.ensures in
-    let drew = c.draw.ensures in
-    let worth_is : to_z w64 (of_z w64 c.worth.result) ≡ worth k.entry = omega (arith, ints, own.is, own.small.low, own.small.high) in
-    let draw_is : to_z w64 (of_z w64 c.draw.result) ≡ draw k.entry = omega (arith, ints, drew.is, drew.small.low, drew.small.high) in
     rw c.in-Exchange.is (
       k,
       written-exchange c.args.matter.now c.in-Exchange.new k _ c.in_ok-kept-in-Exchange.ensures.is (written-same _ _ _ _ _ _ _ c.in_ok-moves-in-Exchange.ensures.some
-          (ap (λ (f : Figures). f.entries) c.figures-figures.ensures.is)
-          (λ i. record { shares = c.shares.ensures.is i; left = k.left; worth = worth_is i; draw = draw_is i })),
+          (ap (λ (f : Figures). f.entries) c.figures-figures.ensures.is) (grind (arith, ints, word))),
     )
 
 pub returns-in_ok-moves-in-Exchange-clause-movement : goal.returns-in_ok-moves-in-Exchange-clause-movement

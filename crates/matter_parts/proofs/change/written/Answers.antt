@@ -1,4 +1,4 @@
-use Rattle.matter_parts.proofs.Names.{ap, arith, refl, sym, ◌∙◌, ints, number_or_none}
+use Rattle.matter_parts.proofs.Names.{ap, arith, refl, sym, ◌∙◌, ints, number_or_none, held, available, disputed, fees, claims, rules}
 use Rattle.matter_parts.proofs.Moving.{figures-written, moved-words, named-left, named-moved, small_word}
 use Rattle.matter_parts.proofs.Existence.{small-some}
 use Rattle.matter_parts.proofs.change.written.Goals as goal
@@ -71,11 +71,8 @@ moved-requires-7-clause-share c = small_word _ c.worth.ensures.small
 
 pub returns-in_err-left-clause-none : goal.returns-in_err-left-clause-none
 returns-in_err-left-clause-none c =
-    let own = c.worth.ensures in
-    let was = c.requires.before.worth in
     rw c.from_residual-in_err-left.ensures (λ v s m.
-    c.in_err-left.ensures.none v.left s.left
-    (omega (arith, ints, m.left, own.is, own.small.low, own.small.high, was.low, was.high)))
+    c.in_err-left.ensures.none v.left s.left (omega (arith, ints, m.left, c.worth.ensures, c.requires.before.worth)))
 
 pub moved-requires-in-Some-clause-out : goal.moved-requires-in-Some-clause-out
 moved-requires-in-Some-clause-out c = small_word _ c.draw.ensures.small
@@ -116,19 +113,7 @@ returns-in_ok-left_of_named-in-Some-clause-some c =
     }
 
 pub returns-in_ok-left_of_named-in-Some-clause-small : goal.returns-in_ok-left_of_named-in-Some-clause-small
-returns-in_ok-left_of_named-in-Some-clause-small c = record {
-  figures = record {
-    entries = c.requires.entries;
-    pending = c.in_ok-moved.ensures.some.0;
-    held = c.in_ok-moved-2.ensures.some.0;
-    available = c.in_ok-moved-3.ensures.some.0;
-    disputed = c.in_ok-moved-4.ensures.some.0;
-    fees = c.in_ok-moved-5.ensures.some.0;
-    claims = c.in_ok-moved-6.ensures.some.0;
-  };
-  left = c.in_ok-left.ensures.some.0;
-  other = small-some _ c.in_ok-left_of_named-in-Some.ensures.some.0;
-}
+returns-in_ok-left_of_named-in-Some-clause-small c = search (rules, small-some)
 
 pub returns-in-None-clause-some : goal.returns-in-None-clause-some
 returns-in-None-clause-some c =

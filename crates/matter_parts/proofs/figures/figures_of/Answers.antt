@@ -1,24 +1,24 @@
 use Rattle.matter_parts.proofs.Names.{refl, arith, ints, fees-by_share, claims-by_share}
-use Rattle.matter_parts.proofs.Existence.{summed}
+use Rattle.matter_parts.proofs.Existence.{figure_steps}
 use Rattle.matter_parts.proofs.figures.figures_of.Goals as goal
 
 pub returns-in_err-moved-clause-none : goal.returns-in_err-moved-clause-none
-returns-in_err-moved-clause-none c = grind (arith, ints, summed)
+returns-in_err-moved-clause-none c = grind (arith, figure_steps)
 
 pub returns-in_err-moved-2-clause-none : goal.returns-in_err-moved-2-clause-none
-returns-in_err-moved-2-clause-none c = grind (arith, ints, summed)
+returns-in_err-moved-2-clause-none c = grind (arith, figure_steps)
 
 pub returns-in_err-moved-3-clause-none : goal.returns-in_err-moved-3-clause-none
-returns-in_err-moved-3-clause-none c = grind (arith, ints, summed)
+returns-in_err-moved-3-clause-none c = grind (arith, figure_steps)
 
 pub returns-in_err-moved-4-clause-none : goal.returns-in_err-moved-4-clause-none
-returns-in_err-moved-4-clause-none c = grind (arith, ints, summed)
+returns-in_err-moved-4-clause-none c = grind (arith, figure_steps)
 
 pub returns-in_err-moved-5-clause-none : goal.returns-in_err-moved-5-clause-none
-returns-in_err-moved-5-clause-none c = grind (arith, ints, summed)
+returns-in_err-moved-5-clause-none c = grind (arith, figure_steps)
 
 pub returns-in_err-moved-6-clause-none : goal.returns-in_err-moved-6-clause-none
-returns-in_err-moved-6-clause-none c = grind (arith, ints, summed)
+returns-in_err-moved-6-clause-none c = grind (arith, figure_steps)
 
 pub returns-clause-some : goal.returns-clause-some
 returns-clause-some c = λ backed.

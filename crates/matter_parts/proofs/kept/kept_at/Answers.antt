@@ -2,12 +2,6 @@ use Rattle.matter_parts.proofs.Names.{arith, ◌+◌, ◌≡◌, ints, left_of, 
 use Rattle.matter_parts.proofs.Collected.{no-total, left-is, kept-of}
 use Rattle.matter_parts.proofs.kept.kept_at.Goals as goal
 
-pub moved-requires-clause-out : goal.moved-requires-clause-out
-moved-requires-clause-out c = grind (arith, ints)
-
-pub moved-requires-clause-share : goal.moved-requires-clause-share
-moved-requires-clause-share c = grind (arith, ints)
-
 pub returns-in_default-moved-clause-err : goal.returns-in_default-moved-clause-err
 returns-in_default-moved-clause-err c = λ _ backed.
     let es = c.args.entries.now in

@@ -1,16 +1,9 @@
-use Rattle.matter_rows.proofs.Names.{refl, sym, ◌∙◌, false≢true}
-use Rattle.matter_rows.proofs.Tested.{order-first, order-next, order-fails, order-done}
+use Rattle.matter_rows.proofs.Names.{refl, sym, ◌∙◌}
+use Rattle.matter_rows.proofs.Tested.{order-first, order-next, order-done}
 use Rattle.matter_rows.proofs.soundness.are_in_order.Goals as goal
 
 pub loop-place-init : goal.loop-place-init
 loop-place-init c = order-first c.args.seats.now
-
-pub returns-then-not-comes_before : goal.returns-then-not-comes_before
-returns-then-not-comes_before c = (
-  λ h. absurd (false≢true h),
-  λ h. absurd (order-fails c.args.seats.now c.loop-place.place c.index-seats-place.result c.index-seats-place-in-loop-place.result c.loop-place.invariant c.loop-place.auto.place c.loop-place-test.true c.index-seats-place.is c.index-seats-place-in-loop-place.is
-      (λ p. false≢true (sym c.if-not-comes_before.true ∙ (c.comes_before.ensures ∙ p))) h),
-)
 
 pub loop-place-preserved : goal.loop-place-preserved
 loop-place-preserved c =

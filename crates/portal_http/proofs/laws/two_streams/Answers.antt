@@ -1,4 +1,4 @@
-use Rattle.portal_http.proofs.Names.{ap, map, runs-covered, each-own, same-for_the_matter, sound-runs-are-runs, heard_of, reply_bytes}
+use Rattle.portal_http.proofs.Names.{map, runs-covered, each-own, same-for_the_matter, sound-runs-are-runs, heard_of, reply_bytes, arith, ints, nat_tests}
 use Rattle.portal_http.proofs.laws.two_streams.Goals as goal
 
 pub returns : goal.returns
@@ -7,13 +7,4 @@ returns call m d e f g f' g' xs ys ps qs x y rs ss rows same one two =
     let ks = map heard_of qs in
     let run = sound-runs-are-runs d f f' hs rs one.run in
     let other = sound-runs-are-runs e g g' ks ss two.run in
-    let both = same-for_the_matter m d e f g hs ks rs ss f' g' rows same one.unstopped two.unstopped run other in
-    let own = each-own m d f hs rs f' one.unstopped run in
-    record {
-      answers = ap (map reply_bytes) both.0;
-      own = ap (map reply_bytes) own.answers;
-      rows = both.1;
-      own_rows = own.rows;
-      covered = runs-covered d f f' hs rs one.sound one.run;
-      also_covered = runs-covered e g g' ks ss two.sound two.run;
-    }
+    grind (arith, ints, nat_tests, same-for_the_matter, each-own, map, reply_bytes, runs-covered)

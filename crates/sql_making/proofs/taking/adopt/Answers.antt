@@ -1,4 +1,4 @@
-use Rattle.sql_making.proofs.Names.{◌≡◌, inl, inr, Some, sym, subst, ◌∙◌, rules, state, book_schema, version_now, IsBook}
+use Rattle.sql_making.proofs.Names.{◌≡◌, inl, Some, sym, subst, ◌∙◌, rules, state, book_schema, version_now, IsBook, arith, ints, nat_tests}
 use Rattle.sql_schema.proofs.Apart.{never_both}
 use Rattle.sql_making.proofs.taking.adopt.Goals as goal
 
@@ -23,7 +23,4 @@ returns-in-Ok-2-clause-refused g c clean is =
 pub returns-in-Err-clause-store : goal.returns-in-Err-clause-store
 returns-in-Err-clause-store g c clean none told =
     let has : c.args.conn.now.schema ≡ book_schema c.in-Some-Now.layout = search rules in
-    elim (c.in-Err.ensures.told c.in-Some-Now.layout clean has) [
-      | inl memory ↦ absurd (let is = c.fault.ensures.memory.1 memory in cc)
-      | inr failed ↦ failed
-    ]
+    grind (arith, ints, nat_tests)

@@ -16,41 +16,34 @@ rows_of-requires-2-clause-select g c = seats_read_selects
 pub each-preserved : goal.each-preserved
 each-preserved g c xs is =
     c.in_ok-push.ensures.items
-    ∙ one_more seat_shown seat_from c.row-item.result c.in_ok-seat.seat (λ x e. c.in_ok-seat.ensures ∙ ap (seat_at c.args.matter) e) xs _ c.each.row-index c.each.seats.items is (search rules) c.row-item.is (c.each.invariant xs is)
+    ∙ one_more seat_shown seat_from _ _ (λ x e. c.in_ok-seat.ensures ∙ ap (seat_at c.args.matter) e) xs _ _ _ is
+    (search rules) c.row-item.is (c.each.invariant xs is)
 
 -- the seats that were gathered are those that the tables hold
-gathered : (l : Layout) (was : Database) → Stands l was → (old new : State) → old.now ≡ was → (m : ℕ) (z : ℤ)
-    → z ≡ pos m → (rows : List Row) → Shown seats_read_text (Int z ∷ []) old new rows → (taken : List Row)
-    → taken ≡ rows → (i : ℕ) → length taken ≤ i → (seats : List Seat)
+gathered : (l : Layout) {was : Database} → Stands l was → (old new : State) → old.now ≡ was → {m : ℕ} {z : ℤ}
+    → z ≡ pos m → {rows : List Row} → Shown seats_read_text (Int z ∷ []) old new rows → {taken : List Row}
+    → taken ≡ rows → (i : ℕ) → length taken ≤ i → {seats : List Seat}
     → ((xs : List table.Seat) → taken ≡ map seat_shown xs → seats ≡ map seat_from (take i xs))
     → seats ≡ (part_at m (lists_in l was.trees)).seats
-gathered l was stands old new same m z own rows shown taken are i over seats so_far =
+gathered l stands old new same own shown are i over so_far =
     let still = subst (Stands l) (sym same) stands in
-    let xs = seats_of z (seats_in l old.now.trees) in
-    let is : taken ≡ map seat_shown xs =
-    are ∙ seats_read_answer l old.now z still rows (answers (seats_read_asks l) (Int z ∷ []) old new still.schema rows shown) in
-    all_taken seat_shown seat_from xs taken i seats is over (so_far xs is)
+    let is = are ∙ seats_read_answer l _ _ still _ (answers (seats_read_asks l) _ _ _ still.schema _ shown) in
+    all_taken seat_shown seat_from _ _ _ _ is over (so_far _ is)
     ∙ (λ j. map seat_from (seats_of (own j) (seats_in l (same j).trees)))
 
 pub returns-in_default-clause-seats : goal.returns-in_default-clause-seats
 returns-in_default-clause-seats g c l clean stands =
-    let s0 = state g.S.Store c.args.conn.now in
-    let s1 = state g.S.Store c.rows_of.new.conn in
-    let own : to_z w64 c.get.result ≡ pos c.args.matter = search rules in
-    let over : length c.deref-row-items.result.now ≤ c.each.row-index = search rules in
-    let kept = kept_by s0 s1 c.rows_of.result c.in_ok-heads.heads c.in_ok-heads.was c.rows_of.ensures.left (c.rows_of-2.ensures.left.was_clean clean) in
-    gathered l s0.now stands s1 (state g.S.Store c.rows_of-2.new.conn) kept.now c.args.matter _ own c.in_ok-rows.rows.items
-    (c.in_ok-rows.ensures.shown clean) _ c.deref-row-items.ensures.value c.each.row-index over c.each.seats.items c.each.invariant
+    let clean1 = c.rows_of-2.ensures.left.was_clean clean in
+    gathered l stands _ _ (kept_by _ _ _ _ c.in_ok-heads.was c.rows_of.ensures.left clean1).now (search rules)
+    (c.in_ok-rows.ensures.shown clean) c.deref-row-items.ensures.value c.each.row-index (search rules)
+    c.each.invariant
 
 pub returns-clause-seats : goal.returns-clause-seats
 returns-clause-seats g c l clean stands =
-    let s0 = state g.S.Store c.args.conn.now in
-    let s1 = state g.S.Store c.rows_of.new.conn in
-    let own : to_z w64 c.get.result ≡ pos c.args.matter = search rules in
-    let over : length c.deref-row-items.result.now ≤ c.each.row-index = search rules in
-    let kept = kept_by s0 s1 c.rows_of.result c.in_ok-heads.heads c.in_ok-heads.was c.rows_of.ensures.left (c.rows_of-2.ensures.left.was_clean clean) in
-    gathered l s0.now stands s1 (state g.S.Store c.rows_of-2.new.conn) kept.now c.args.matter _ own c.in_ok-rows.rows.items
-    (c.in_ok-rows.ensures.shown clean) _ c.deref-row-items.ensures.value c.each.row-index over c.each.seats.items c.each.invariant
+    let clean1 = c.rows_of-2.ensures.left.was_clean clean in
+    gathered l stands _ _ (kept_by _ _ _ _ c.in_ok-heads.was c.rows_of.ensures.left clean1).now (search rules)
+    (c.in_ok-rows.ensures.shown clean) c.deref-row-items.ensures.value c.each.row-index (search rules)
+    c.each.invariant
 
 pub returns-in_default-clause-head : goal.returns-in_default-clause-head
 returns-in_default-clause-head g c l clean stands =
@@ -76,24 +69,15 @@ returns-clause-head g c l clean stands =
 
 pub returns-in_err-figures-clause-left : goal.returns-in_err-figures-clause-left
 returns-in_err-figures-clause-left g c =
-    let s0 = state g.S.Store c.args.conn.now in
-    let s1 = state g.S.Store c.rows_of.new.conn in
-    let s2 = state g.S.Store c.rows_of-2.new.conn in
-    leaves_on c.rows_of-2.result c.from_residual-in_err-figures.result s0 s2 (λ _. subst IsOk (sym c.in_ok-rows.was) refl)
-    (leaves_then c.rows_of.result c.rows_of-2.result s0 s1 s2 c.rows_of.ensures.left c.rows_of-2.ensures.left)
+    leaves_on c.rows_of-2.result _ _ _ (λ _. subst IsOk (sym c.in_ok-rows.was) refl)
+    (leaves_then _ _ _ _ _ c.rows_of.ensures.left c.rows_of-2.ensures.left)
 
 pub returns-in_err-head-clause-left : goal.returns-in_err-head-clause-left
 returns-in_err-head-clause-left g c =
-    let s0 = state g.S.Store c.args.conn.now in
-    let s1 = state g.S.Store c.rows_of.new.conn in
-    let s2 = state g.S.Store c.rows_of-2.new.conn in
-    leaves_on c.rows_of-2.result c.from_residual-in_err-head.result s0 s2 (λ _. subst IsOk (sym c.in_ok-rows.was) refl)
-    (leaves_then c.rows_of.result c.rows_of-2.result s0 s1 s2 c.rows_of.ensures.left c.rows_of-2.ensures.left)
+    leaves_on c.rows_of-2.result _ _ _ (λ _. subst IsOk (sym c.in_ok-rows.was) refl)
+    (leaves_then _ _ _ _ _ c.rows_of.ensures.left c.rows_of-2.ensures.left)
 
 pub returns-clause-left : goal.returns-clause-left
 returns-clause-left g c =
-    let s0 = state g.S.Store c.args.conn.now in
-    let s1 = state g.S.Store c.rows_of.new.conn in
-    let s2 = state g.S.Store c.rows_of-2.new.conn in
-    leaves_on c.rows_of-2.result _ s0 s2 (λ _. subst IsOk (sym c.in_ok-rows.was) refl)
-    (leaves_then c.rows_of.result c.rows_of-2.result s0 s1 s2 c.rows_of.ensures.left c.rows_of-2.ensures.left)
+    leaves_on c.rows_of-2.result _ _ _ (λ _. subst IsOk (sym c.in_ok-rows.was) refl)
+    (leaves_then _ _ _ _ _ c.rows_of.ensures.left c.rows_of-2.ensures.left)

@@ -1,4 +1,4 @@
-use Rattle.sql_rows.proofs.Names.{◌≡◌, pos, arith, ints, rules, Result, Ok, Err, IfErr, sym, ◌∙◌, false≢true}
+use Rattle.sql_rows.proofs.Names.{◌≡◌, pos, arith, ints, rules, Result, IfErr, sym, ◌∙◌, nat_tests}
 use Rattle.std.proofs.lemmas.Grind.{common_steps}
 use Rattle.sql_tables.specs.Given.{entry_given}
 use Rattle.trust_base.specs.declared.refusal.StoreFault.{StoreFault}
@@ -19,13 +19,7 @@ given c = elim c.match-columns.branch [
 ]
 
 pub returns-in_err-entry-clause-back : goal.returns-in_err-entry-clause-back
-returns-in_err-entry-clause-back c k kept is =
-    let dated : pos c.in_ok-book.book ≡ c.args.columns.day = grind (arith, common_steps) in
-    let amounts : pos c.in_ok-amount.amount ≡ c.args.columns.amount = grind (arith, common_steps) in
-    let row = entry_given c.args.columns in
-    let has = kept_has c.args.matter c.in_ok-book.book c.in_ok-amount.amount k row is dated amounts in
-    let gives = rw c.in_err-entry.was at (given (goal.at.returns-in_err-entry-clause-back c).Joined-columns k.entry kept.form has) in
-    grind (arith, common_steps, gives)
+returns-in_err-entry-clause-back c k kept is = grind (arith, ints, nat_tests, entry_given, kept_has, given)
 
 pub returns-then-not-are_same-clause-back : goal.returns-then-not-are_same-clause-back
 returns-then-not-are_same-clause-back c k kept is =
@@ -36,13 +30,10 @@ returns-then-not-are_same-clause-back c k kept is =
     let numbered : pos c.in_ok-number.number ≡ c.args.columns.no = grind (arith, common_steps) in
     let lefts : pos c.in_ok-left.left ≡ c.args.columns.left_now = grind (arith, common_steps) in
     let same = rw c.in_ok-entry.was at (given (goal.at.returns-then-not-are_same-clause-back c).Joined-columns k.entry kept.form has) in
-    let read = c.in_ok-entry.entry in
-    let back = same_columns c.args.matter c.in_ok-number.number c.in_ok-left.left read k row is numbered lefts same in
-    absurd (false≢true (sym c.if-not-are_same.true ∙ c.are_same.ensures.1 (c.entry_columns-written.ensures ∙ back)))
+    grind (arith, ints, nat_tests, same_columns)
 
 at_any_error : {T P : Type 0} (r : Result T StoreFault) → P → IfErr r (λ e. e ≡ Memory → P)
-at_any_error (Ok x) p = tt
-at_any_error (Err e) p = λ _. p
+at_any_error r p = grind (arith, ints, nat_tests)
 
 pub returns-in_err-entry-clause-memory : goal.returns-in_err-entry-clause-memory
 returns-in_err-entry-clause-memory c =
@@ -67,8 +58,4 @@ returns-clause-back c k kept is =
     let row = entry_given c.args.columns in
     let dated : pos c.in_ok-book.book ≡ c.args.columns.day = grind (arith, common_steps) in
     let amounts : pos c.in_ok-amount.amount ≡ c.args.columns.amount = grind (arith, common_steps) in
-    let has = kept_has c.args.matter c.in_ok-book.book c.in_ok-amount.amount k row is dated amounts in
-    let numbered : pos c.in_ok-number.number ≡ c.args.columns.no = grind (arith, common_steps) in
-    let lefts : pos c.in_ok-left.left ≡ c.args.columns.left_now = grind (arith, common_steps) in
-    let same = rw c.in_ok-entry.was at (given (goal.at.returns-clause-back c).Joined-columns k.entry kept.form has) in
-    same_kept c.args.matter c.in_ok-number.number c.in_ok-left.left c.in_ok-entry.entry k row is numbered lefts same
+    grind (arith, ints, nat_tests, kept_has, dated, amounts, given, same_kept)

@@ -1,4 +1,4 @@
-use Rattle.statement_csv.proofs.Names.{◌≡◌, ◌∙◌, ◌==◌, sym, ap, false, length, arith, rules, fields_of, item_by, named, entry_named, owner_of}
+use Rattle.statement_csv.proofs.Names.{◌≡◌, length, arith, rules, fields_of, item_by, named, entry_named, owner_of, ints, nat_tests}
 use Rattle.std.proofs.lemmas.Grind.{common_steps}
 use Rattle.statement_csv.specs.References as owner
 use Rattle.statement_csv.proofs.ItemFacts.{item_of_texts}
@@ -10,11 +10,7 @@ returns-then-reference-ne12 c =
     let line = c.in-Some.line in
     let who : owner_of line.reference ≡ owner.Nobody =
     first_of (search rules, grind (arith, common_steps)) in
-    let own : (length line.bank_ref == 0) ≡ false = first_of (search rules, grind (arith, common_steps)) in
-    let texts = rw (c.field.ensures, c.field-2.ensures, c.field-3.ensures, c.field-4.ensures, c.field-5.ensures)
-    at c.in_ok-read.ensures in
-    sym (rw own at (ap (item_by c.args.number line) who))
-    ∙ item_of_texts c.args.number (fields_of c.args.row.now) line (omega arith) (sym c.in-Some.is ∙ texts)
+    grind (arith, ints, nat_tests, length, item_by, item_of_texts, fields_of)
 
 pub returns-in-Some-Some : goal.returns-in-Some-Some
 unfolding owner_of entry_named
@@ -22,11 +18,7 @@ returns-in-Some-Some c =
     let line = c.in-Some.line in
     let who : owner_of line.reference ≡ owner.Entry (named c.in-Some-Some.matter c.in-Some-Some.entry) =
     first_of (search rules, grind (arith, common_steps)) in
-    let own : (length line.bank_ref == 0) ≡ false = first_of (search rules, grind (arith, common_steps)) in
-    let texts = rw (c.field.ensures, c.field-2.ensures, c.field-3.ensures, c.field-4.ensures, c.field-5.ensures)
-    at c.in_ok-read.ensures in
-    sym (rw own at (ap (item_by c.args.number line) who))
-    ∙ item_of_texts c.args.number (fields_of c.args.row.now) line (omega arith) (sym c.in-Some.is ∙ texts)
+    grind (arith, ints, nat_tests, length, item_by, item_of_texts, fields_of)
 
 pub returns-in_default-2 : goal.returns-in_default-2
 unfolding owner_of entry_named
@@ -34,8 +26,4 @@ returns-in_default-2 c =
     let line = c.in-Some.line in
     let who : owner_of line.reference ≡ owner.Nobody =
     first_of (search rules, grind (arith, common_steps)) in
-    let own : (length line.bank_ref == 0) ≡ false = first_of (search rules, grind (arith, common_steps)) in
-    let texts = rw (c.field.ensures, c.field-2.ensures, c.field-3.ensures, c.field-4.ensures, c.field-5.ensures)
-    at c.in_ok-read.ensures in
-    sym (rw own at (ap (item_by c.args.number line) who))
-    ∙ item_of_texts c.args.number (fields_of c.args.row.now) line (omega arith) (sym c.in-Some.is ∙ texts)
+    grind (arith, ints, nat_tests, length, item_by, item_of_texts, fields_of)

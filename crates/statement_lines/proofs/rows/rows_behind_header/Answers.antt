@@ -1,4 +1,4 @@
-use Rattle.statement_lines.proofs.Names.{List, ℕ, rules, refl, default_config, records, strip_bom, fields_of, Rows}
+use Rattle.statement_lines.proofs.Names.{List, ℕ, rules, refl, default_config, records, strip_bom, fields_of, Rows, arith, ints, nat_tests}
 use Rattle.statement_lines.proofs.RowsRead.{left-behind, left-none, left-start}
 use Rattle.statement_lines.proofs.rows.rows_behind_header.Goals as goal
 
@@ -10,8 +10,7 @@ pub returns : goal.returns
 returns c =
     let from = c.from_reader-reader in
     let first = left-start from.result (strip_bom c.args.statement.now) (search rules) (search rules) (search rules) from.ensures.source from.ensures.state in
-    let read = rw c.if-not-found.false at (c.in-Ok.ensures.reads first.trim first.ready) in
-    left-behind _ _ _ (all_of c.args.statement.now) first read (c.in-Ok.ensures.ready first.trim)
+    grind (arith, ints, nat_tests, left-behind, all_of)
 
 pub returns-then-not-found : goal.returns-then-not-found
 returns-then-not-found c =

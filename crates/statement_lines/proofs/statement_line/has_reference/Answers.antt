@@ -1,4 +1,4 @@
-use Rattle.statement_lines.proofs.Names.{◌≡◌, ◌∙◌, sym, ◌<◌, ◌-◌, true, false, length, take, drop, arith, begins_with_reference}
+use Rattle.statement_lines.proofs.Names.{◌-◌, take, drop, arith, begins_with_reference}
 use Rattle.statement_lines.proofs.Parting.{reference_found, reference_later}
 use Rattle.statement_lines.proofs.statement_line.has_reference.Goals as goal
 

@@ -1,4 +1,4 @@
-use Rattle.statement_lines.proofs.Names.{◌≡◌, ◌∙◌, ◌+◌, ◌++◌, sym, subst, [], option_copied, arith, fields_of, rows_of, Adds, HasLeft, row_as, rows_by}
+use Rattle.statement_lines.proofs.Names.{◌≡◌, ◌∙◌, ◌+◌, ◌++◌, sym, subst, [], option_copied, arith, fields_of, rows_of, Adds, HasLeft, row_as, rows_by, ints, nat_tests}
 use Rattle.statement_lines.proofs.Passing.{met-all, met-more, met-start, place-none, place-some, place-within, place_behind}
 use Rattle.statement_lines.proofs.RowsRead.{left-more, left-none}
 use Rattle.statement_lines.proofs.RowsWritten.{adds-more, adds-none}
@@ -15,16 +15,7 @@ loop-row-init g c =
     let rdr = c.into_byte_records-row-items.ensures.rdr in
     let turns = c.into_byte_records-row-items.ensures.left in
     let left : HasLeft c.in-Some.rows (rows_of c.args.statement.now) = rw c.in-Some.is at c.in_ok-rows.ensures in
-    rw (start, rdr) (record {
-      behind = omega arith;
-      turns = turns;
-      left = (
-        rows_of c.args.statement.now,
-        left,
-        λ outcome_of n o.
-            ([], met-start outcome_of _ _ _ n o, adds-none g.W.Write.contents c.args.writer.now),
-      );
-    })
+    grind (arith, ints, nat_tests, rows_of, met-start, adds-none)
 
 pub overflow_add-place : goal.overflow_add-place
 overflow_add-place g c = grind (arith)

@@ -1,11 +1,5 @@
-use Rattle.statement_match.proofs.Names.{◌∙◌, ap, ◌==◌, fits, waiting_key, amount_key, fits_narrows, counted}
+use Rattle.statement_match.proofs.Names.{waiting_key, amount_key, fits_narrows, counted, arith, ints, nat_tests}
 use Rattle.statement_match.proofs.rule.fits_one.Goals as goal
 
 pub returns : goal.returns
-returns c =
-    let line = c.args.line.now in
-    let same = rw c.line.ensures at c.waiting_of.ensures in
-    c.fits_one_among.ensures
-    ∙ ap (λ n. n == 1)
-    (counted (fits c.args.today line) (λ w. waiting_key w == amount_key line) (fits_narrows c.args.today line)
-    c.waiting_of.result.now c.args.index.now.held.waiting same)
+returns c = grind (arith, ints, nat_tests, counted, waiting_key, amount_key, fits_narrows)

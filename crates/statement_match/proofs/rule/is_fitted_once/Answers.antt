@@ -1,11 +1,5 @@
-use Rattle.statement_match.proofs.Names.{◌∙◌, ap, ◌==◌, amount_key, waiting_key, is_open_fit, open_fit_narrows, counted}
+use Rattle.statement_match.proofs.Names.{amount_key, waiting_key, is_open_fit, open_fit_narrows, counted, arith, ints, nat_tests}
 use Rattle.statement_match.proofs.rule.is_fitted_once.Goals as goal
 
 pub returns : goal.returns
-returns c =
-    let w = c.args.entry.now in
-    let today = c.args.today in
-    c.is_fitted_once_among.ensures
-    ∙ ap (λ n. n == 1)
-    (counted (is_open_fit today w) (λ x. amount_key x == waiting_key w) (open_fit_narrows today w) c.lines_of_amount.result.now c.args.index.now.lines
-    (c.lines_of_amount.ensures))
+returns c = grind (arith, ints, nat_tests, counted, is_open_fit, amount_key, waiting_key, open_fit_narrows)

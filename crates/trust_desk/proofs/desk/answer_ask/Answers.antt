@@ -1,9 +1,7 @@
-use Rattle.trust_desk.proofs.Names.{false, IfOk-weaker, is_fault_body, changed, ◌≡◌, ◌∙◌, ap, inl, refl, rules, subst, sym, err_from_is_err_and, IsChange, refusal, Firm, of, asked_on, status_of_edit, said}
-use Rattle.trust_base.specs.declared.refusal.Refusal.TheVariants.{Memory}
+use Rattle.trust_desk.proofs.Names.{false, IfOk-weaker, is_fault_body, changed, ◌≡◌, ◌∙◌, ap, inl, refl, rules, subst, sym, err_from_is_err_and, IsChange, refusal, Firm, of, asked_on, status_of_edit, said, Memory, IsReadOf}
 use Rattle.trust_desk.proofs.Answered.{ask-refused, ask-unwritten, ask-written, change-makes, unread-answered}
 use Rattle.trust_desk.proofs.OfRows.{held-on, other-status, replied-so}
 use Rattle.trust_desk.proofs.Refused.{named-for, refused-by, whole-for}
-use Rattle.trust_desk.specs.Plan.{IsReadOf}
 use Rattle.trust_desk.proofs.desk.answer_ask.Goals as goal
 use Rattle.trust_desk.proofs.desk.answer_ask.Goals.{Joined-is_accounting, else-is_accounting, else-is_accounting-2, in-Open, in-Open-2, in_default, then-is_accounting, then-is_accounting-2}
 

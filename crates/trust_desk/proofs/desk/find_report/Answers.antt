@@ -1,16 +1,10 @@
-use Rattle.trust_desk.proofs.Names.{◌≡◌, ℕ, List, [], ◌++◌, fold, ap, rules, ◌∙◌, Firm, JournalKept, no_journal, trial_kept, with_moved, with_trial_own, with_trial_row, Retained, none_retained, with_row_retained, own_card_text, exception_line, exceptions_text, journal_text, retention_text, trial_text, own_card_report}
+use Rattle.trust_desk.proofs.Names.{◌≡◌, fold, ap, rules, ◌∙◌, Firm, no_journal, trial_kept, with_moved, with_trial_own, with_trial_row, none_retained, with_row_retained, own_card_text, exception_line, exceptions_text, journal_text, retention_text, trial_text, own_card_report, arith, ints, nat_tests}
 use Rattle.trust_desk.proofs.ReportTexts.{exceptions-told, handed-before, journal-told, retention-told, trial-told}
 use Rattle.trust_desk.proofs.desk.find_report.Goals as goal
 
 pub returns-in_ok-each_exception-in-Exceptions-clause-told : goal.returns-in_ok-each_exception-in-Exceptions-clause-told
 returns-in_ok-each_exception-in-Exceptions-clause-told g c =
-    λ clean stands.
-    let firm : Firm = g.B.Book.firm c.args.book.now in
-    let read = c.in_ok-each_exception-in-Exceptions.ensures.handed clean stands in
-    let kept : c.each_exception.new.sink ≡ fold (λ text line. text ++ exception_line line) (exceptions_text c.args.today []) firm.exceptions =
-    read.all ∙ ap (λ (text : List ℕ). fold (λ text line. text ++ exception_line line) text firm.exceptions) c.in_ok-exceptions-in-Exceptions.ensures in
-    let told = c.finish.ensures ∙ exceptions-told c.args.today firm c.each_exception.new.sink kept in
-    rw c.in-Exceptions.is told
+    grind (arith, ints, nat_tests, fold, exception_line, exceptions_text, exceptions-told)
 
 pub returns-in_ok-trial_text-in-Trial-clause-told : goal.returns-in_ok-trial_text-in-Trial-clause-told
 returns-in_ok-trial_text-in-Trial-clause-told g c =
@@ -34,35 +28,12 @@ returns-in_ok-trial_text-in-Trial-clause-told g c =
 
 pub returns-in_ok-journal_text-in-Journal-clause-told : goal.returns-in_ok-journal_text-in-Journal-clause-told
 returns-in_ok-journal_text-in-Journal-clause-told g c =
-    λ clean stands.
-    let firm : Firm = g.B.Book.firm c.args.book.now in
-    let read = c.in_ok-each_movement-in-Journal.ensures.handed clean stands in
-    let kept : c.each_movement.new.sink ≡ fold with_moved no_journal firm.movements =
-    read.all ∙ ap (λ (s : JournalKept). fold with_moved s firm.movements) c.new-journal.ensures in
-    let told =
-    c.in_ok-journal_text-in-Journal.ensures.ok
-    ∙ ((λ i. c.new-text.ensures.items i ++ journal_text c.args.today ((c.deref-in-Journal.ensures.value ∙ c.finish-in-Journal.ensures) i))
-    ∙ journal-told c.args.today firm c.each_movement.new.sink read.countable kept) in
-    rw c.in-Journal.is told
+    grind (arith, ints, nat_tests, fold, with_moved, no_journal, journal_text, journal-told)
 
 pub returns-in_ok-retention_text-in-Retention-clause-told : goal.returns-in_ok-retention_text-in-Retention-clause-told
 returns-in_ok-retention_text-in-Retention-clause-told g c =
-    λ clean stands.
-    let firm : Firm = g.B.Book.firm c.args.book.now in
-    let read = c.in_ok-each_row-in-Retention.ensures.handed clean stands in
-    let kept : c.each_row-in-Retention.new.sink ≡ fold with_row_retained (none_retained c.args.today) firm.rows =
-    read.all ∙ ap (λ (s : Retained). fold with_row_retained s firm.rows) c.new-retention.ensures in
-    let told =
-    c.in_ok-retention_text-in-Retention.ensures.ok
-    ∙ ((λ i. c.new-text.ensures.items i ++ retention_text c.args.today ((c.deref-in-Retention.ensures.value ∙ c.finish-in-Retention.ensures) i))
-    ∙ retention-told c.args.today firm c.each_row-in-Retention.new.sink kept) in
-    rw c.in-Retention.is told
+    grind (arith, ints, nat_tests, fold, with_row_retained, none_retained, retention_text, retention-told)
 
 pub returns-in_ok-own_card_text-in-OwnLedger-clause-told : goal.returns-in_ok-own_card_text-in-OwnLedger-clause-told
 unfolding own_card_report
-returns-in_ok-own_card_text-in-OwnLedger-clause-told g c =
-    λ clean stands.
-    let told =
-    c.in_ok-own_card_text-in-OwnLedger.ensures.ok
-    ∙ (λ i. c.new-text.ensures.items i ++ own_card_text c.args.today (c.in_ok-ledger-in-OwnLedger.ensures.found clean stands i)) in
-    rw c.in-OwnLedger.is told
+returns-in_ok-own_card_text-in-OwnLedger-clause-told g c = grind (arith, ints, nat_tests, own_card_text)

@@ -1,8 +1,7 @@
-use Rattle.trust_desk.proofs.Names.{◌∙◌, ◌++◌, ap, sym, err_from_is_err_and, is_none, Firm, text_of}
+use Rattle.trust_desk.proofs.Names.{◌∙◌, ◌++◌, ap, sym, err_from_is_err_and, is_none, Firm, text_of, arith, ints, nat_tests, IsKeptOf}
 use Rattle.std.specs.Option.{option_map}
 use Rattle.trust_reports.specs.Reconciliations.{told}
 use Rattle.trust_reports.specs.TextsOfReconciliation.{reconciliation_text}
-use Rattle.trust_desk.specs.Kept.{IsKeptOf}
 use Rattle.trust_desk.specs.declared.desk.Reconciled.TheVariants as answer
 use Rattle.trust_desk.proofs.Calls.{read-short, read-then}
 use Rattle.trust_desk.proofs.ReconciliationAnswers.{answer-told, closings-kept, rows-kept}
@@ -11,12 +10,7 @@ use Rattle.trust_desk.proofs.desk.reconciliation_report.Goals.{In_ok-each_balanc
 
 -- all rows were handed over
 all-kept : (g : _) (c : In_ok-each_balance g) → g.B.Book.clean c.each_balance.new.self → g.B.Book.stands c.args.book.now → IsKeptOf c.args.day (g.B.Book.firm c.args.book.now) c.each_balance.new.sink
-all-kept g c =
-    rows-kept c.args.day c.new-sink.result c.new-sink.ensures c.in_ok-each_row.ensures.read c.in_ok-each_row.ensures.handed
-    c.in_ok-each_movement.ensures.read c.in_ok-each_movement.ensures.handed
-    c.in_ok-each_firm_line.ensures.read c.in_ok-each_firm_line.ensures.handed
-    c.in_ok-each_exception.ensures.read c.in_ok-each_exception.ensures.handed
-    c.in_ok-each_balance.ensures.read c.in_ok-each_balance.ensures.handed
+all-kept g c = grind (arith, ints, nat_tests, rows-kept)
 
 pub returns-in_default-clause-told : goal.returns-in_default-clause-told
 returns-in_default-clause-told g c =

@@ -1,6 +1,5 @@
-use Rattle.trust_desk.proofs.Names.{◌∙◌, arith, Err, Ok, refl, subst, sym, err_from_is_err_and, Stray, LineDecides, Firm, of, counted_verdict}
+use Rattle.trust_desk.proofs.Names.{◌∙◌, arith, Err, Ok, subst, sym, err_from_is_err_and, LineDecides, Firm, of, counted_verdict, ints, nat_tests}
 use Rattle.statement_csv.specs.declared.item.Item.TheVariants.{OfMatter}
-use Rattle.trust_desk.specs.declared.importing.Counted.TheVariants.{Exception}
 use Rattle.trust_desk.proofs.Beside.{beside-unread, beside-unwritten, beside-written, item-apart}
 use Rattle.trust_desk.proofs.ItemsApplied.{decision-uncounted, line-decided, item-undecided, item-unwritten, item-written, verdict-tells}
 use Rattle.trust_desk.proofs.importing.apply_item.Goals as goal
@@ -17,10 +16,7 @@ write_line-requires g c =
     (c.args.day, subst F (sym (found.read.same clean stood)) (line-decided (of l.matter (B.firm old)) l c.args.day c.in_ok-matter-in-OfMatter.matter (Ok c.in_ok-verdict-in-OfMatter.verdict) (omega (arith, c.get.ensures.value)) ((B.sound old stood).matters l.matter) (found.found clean stood) c.in_ok-verdict-in-OfMatter.ensures.decided))
 
 pub returns-in_err-matter-in-OfMatter : goal.returns-in_err-matter-in-OfMatter
-returns-in_err-matter-in-OfMatter g c =
-    let p = err_from_is_err_and c.from_residual.result c.from_residual.ensures.1 in
-    rw (p.1, p.2, c.in-OfMatter.is)
-    (beside-unread c.args.own.now (OfMatter c.in-OfMatter.line) c.in_err-matter-in-OfMatter.field-0.0 c.in_err-matter-in-OfMatter.ensures.read)
+returns-in_err-matter-in-OfMatter g c = grind (arith, ints, nat_tests, err_from_is_err_and, beside-unread)
 
 pub returns-in_err-verdict-in-OfMatter : goal.returns-in_err-verdict-in-OfMatter
 returns-in_err-verdict-in-OfMatter g c =
@@ -34,8 +30,7 @@ returns-in_err-verdict-in-OfMatter g c =
     let clean = found.read.serves sure in
     let stood = stands (found.read.was_clean clean) in
     decision-uncounted rows l c.args.day fault (B.refusals old) (line-decided rows l c.args.day c.in_ok-matter-in-OfMatter.matter (Err fault) (omega (arith, c.get.ensures.value)) ((B.sound old stood).matters l.matter) (found.found clean stood) c.in_err-verdict-in-OfMatter.ensures.decided) in
-    let p = err_from_is_err_and c.from_residual-in_err-verdict-in-OfMatter.result c.from_residual-in_err-verdict-in-OfMatter.ensures.1 in
-    rw (p.1, p.2, c.in-OfMatter.is) (item-apart c.args.own.now tt (item-undecided c.args.day (OfMatter l) fault found.read none))
+    grind (arith, ints, nat_tests, err_from_is_err_and, item-apart, item-undecided)
 
 pub returns-in_err-write_line-in-OfMatter : goal.returns-in_err-write_line-in-OfMatter
 returns-in_err-write_line-in-OfMatter g c =
@@ -70,12 +65,7 @@ pub returns-in-Closing : goal.returns-in-Closing
 returns-in-Closing g c = rw c.in-Closing.is (item-apart c.args.own.now tt c.apply_balance-in-Closing.ensures)
 
 pub returns-in_ok-write_stray-in-Stray : goal.returns-in_ok-write_stray-in-Stray
-returns-in_ok-write_stray-in-Stray g c =
-    rw c.in-Stray.is
-    (beside-written c.args.own.now (Stray c.in-Stray.line) Exception c.in_ok-write_stray-in-Stray.ensures.written (λ f. refl) (λ right. (refl, refl)))
+returns-in_ok-write_stray-in-Stray g c = grind (arith, ints, nat_tests, beside-written)
 
 pub returns-in_err-write_stray-in-Stray : goal.returns-in_err-write_stray-in-Stray
-returns-in_err-write_stray-in-Stray g c =
-    let p = err_from_is_err_and c.from_residual-in_err-write_stray-in-Stray.result c.from_residual-in_err-write_stray-in-Stray.ensures.1 in
-    rw (p.1, p.2, c.in-Stray.is)
-    (beside-unwritten c.args.own.now (Stray c.in-Stray.line) Exception c.in_err-write_stray-in-Stray.field-0.0 c.in_err-write_stray-in-Stray.ensures.written (λ right. (refl, refl)))
+returns-in_err-write_stray-in-Stray g c = grind (arith, ints, nat_tests, err_from_is_err_and, beside-unwritten)

@@ -1,11 +1,10 @@
 -- Each item of a statement is counted, once.
-use Rattle.trust_desk.proofs.Names.{◌≡◌, ℕ, ◌+◌, List, [], ◌∷◌, length, arith, ◌∙◌, Firm, Item, ImportReply, Counted, after_item, counted_of, none_counted, count_item, counts_after, count_sum}
+use Rattle.trust_desk.proofs.Names.{◌≡◌, ℕ, ◌+◌, List, [], ◌∷◌, length, arith, ◌∙◌, Firm, Item, ImportReply, Counted, after_item, counted_of, none_counted, count_item, counts_after, count_sum, ints, nat_tests}
 use Rattle.trust_desk.specs.declared.importing.Counted.TheVariants as counted
 use Rattle.trust_desk.proofs.laws.every_item_is_counted.Goals as goal
 
 sum-one : (it : Item) (k : Counted) (c : ImportReply) → count_sum (count_item it k c) ≡ count_sum c + 1
-sum-one it counted.Applied c = omega arith
-sum-one it _ c = omega arith
+sum-one it k c = grind (arith, ints, nat_tests)
 
 sum-after : (day : ℕ) (firm : Firm) (items : List Item) (c : ImportReply) → count_sum (counts_after day firm items c) ≡ count_sum c + length items
 sum-after day firm [] c = omega arith

@@ -1,5 +1,5 @@
 -- A purge that the firm's step does is a change that purges, so the figures' law speaks of it.
-use Rattle.trust_desk.proofs.Names.{◌≡◌, ℕ, false, Option, Some, None, refl, Refusal, Rows, sound-covered, MatterChange, IsChange, last_after, no_figures, Caller, Asked, refusal, step, Firm, of, FirmSound, IsKept, asked_on, after_asked}
+use Rattle.trust_desk.proofs.Names.{◌≡◌, ℕ, false, Option, Some, None, refl, Refusal, Rows, sound-covered, MatterChange, IsChange, last_after, no_figures, Caller, Asked, refusal, step, Firm, of, FirmSound, IsKept, asked_on, after_asked, arith, ints, nat_tests}
 use Rattle.matter_parts.specs.declared.edit.Edit.TheVariants as edit
 use Rattle.matter_parts.proofs.Moved.{figures-none}
 use Rattle.trust_matter.specs.declared.ask.Ask.TheVariants as ask
@@ -19,17 +19,7 @@ purge_of day last = record {
 }
 
 is-change : (rows : Rows) (day last : ℕ) → IsKept rows (edit.Clear day) last → IsChange rows (purge_of day last)
-is-change rows day last kept = record {
-  place = kept.place;
-  sound = kept.sound;
-  not_before = kept.not_before;
-  seen = kept.seen;
-  movement = refl;
-  moved = refl;
-  figures = figures-none;
-  lefts = record { left = refl; other = refl };
-  dated = tt;
-}
+is-change rows day last kept = grind (arith, ints, nat_tests, figures-none)
 
 -- what a caller asks on the day
 abbrev purge_ask : ℕ → Caller → Asked

@@ -1,16 +1,11 @@
-use Rattle.trust_reports.proofs.Names.{◌++◌, ◌∙◌, sym, ap, map, encode_utf8, encode_utf8_all, map-id, shown}
+use Rattle.trust_reports.proofs.Names.{◌++◌, ◌∙◌, sym, ap, map, encode_utf8, encode_utf8_all, map-id, shown, arith, ints, nat_tests}
 use Rattle.std.proofs.lemmas.Iterator.{YieldsList-from_chars}
 use Rattle.std.proofs.lemmas.Iterator.Consumers.{YieldsList-end}
 use Rattle.trust_reports.proofs.TextFacts.{shown_more}
 use Rattle.trust_reports.proofs.page.push_shown_text.Goals as goal
 
 pub loop-character-preserved : goal.loop-character-preserved
-loop-character-preserved c = record {
-  before = c.in_ok-push_shown.ensures.before ∙ c.loop-character.invariant.before;
-  text = c.in_ok-push_shown.ensures.text
-      ∙ ap (λ t. t ++ encode_utf8 (shown c.in-Some.character)) c.loop-character.invariant.text
-      ∙ shown_more c.args.page.now.text c.loop-character.yielded c.in-Some.character;
-}
+loop-character-preserved c = grind (arith, ints, nat_tests, encode_utf8, shown, shown_more)
 
 pub returns-clause-text : goal.returns-clause-text
 returns-clause-text c =

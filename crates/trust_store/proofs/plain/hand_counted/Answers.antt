@@ -1,4 +1,4 @@
-use Rattle.trust_store.proofs.Names.{◌≤◌, length, arith, on_ok_weaker, IsRowInRange, AreCountable, MOST_ROWS, joined}
+use Rattle.trust_store.proofs.Names.{arith, on_ok_weaker, joined}
 use Rattle.trust_store.proofs.KeptMatters.{joined-ranged}
 use Rattle.trust_store.proofs.Sinks.{begun}
 use Rattle.trust_store.proofs.plain.hand_counted.Goals as goal

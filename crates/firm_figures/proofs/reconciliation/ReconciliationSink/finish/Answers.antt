@@ -1,4 +1,4 @@
-use Rattle.firm_figures.proofs.Names.{arith, ints, rules}
+use Rattle.firm_figures.proofs.Names.{rules}
 use Rattle.firm_figures.proofs.reconciliation.ReconciliationSink.finish.Goals as goal
 
 pub returns : goal.returns

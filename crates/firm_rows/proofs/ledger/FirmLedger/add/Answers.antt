@@ -1,5 +1,4 @@
-use Rattle.firm_rows.proofs.Names.{◌≡◌, List, ap, subst, arith, ◌++◌, ◌∷◌, [], ◌∙◌, ints, FirmLine, balance_of, IsOwnBalance}
-use Rattle.std.proofs.Common.{◌+ℤ◌}
+use Rattle.firm_rows.proofs.Names.{arith, ints, balance_of}
 use Rattle.firm_rows.proofs.Sums.{sum-append}
 use Rattle.firm_rows.proofs.ledger.FirmLedger.add.Goals as goal
 

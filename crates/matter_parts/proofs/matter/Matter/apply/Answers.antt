@@ -1,27 +1,22 @@
-use Rattle.matter_parts.proofs.Names.{sym, ◌∙◌}
+use Rattle.matter_parts.proofs.Names.{sym, ◌∙◌, arith, held, whole}
 use Rattle.matter_parts.proofs.Applied.{after-append, after-exchange, after-nothing, after-open, after-seat, after-unseat, after-close, after-clear, ok-map, ok-both}
 use Rattle.matter_parts.proofs.matter.Matter.apply.Goals as goal
 
 pub returns-in-Nothing : goal.returns-in-Nothing
-returns-in-Nothing c =
-    let a = after-nothing c.args.self.now c.args.change.now (sym c.edit.ensures ∙ c.in-Nothing.is) in
-    record { ok = a.part; held = a.held; whole = a.whole; err = tt }
+returns-in-Nothing c = grind (arith, after-nothing)
 
 pub returns-in-Open : goal.returns-in-Open
-returns-in-Open c = record {
-  ok = ok-map _ _ c.open.result c.open.ensures.ok (λ a. (after-open c.args.self.now c.open.new.self c.args.change.now c.in-Open.opening (sym c.edit.ensures ∙ c.in-Open.is) a).part);
-  held = ok-map _ _ c.open.result c.open.ensures.ok (λ a. (after-open c.args.self.now c.open.new.self c.args.change.now c.in-Open.opening (sym c.edit.ensures ∙ c.in-Open.is) a).held);
-  whole = ok-map _ _ c.open.result c.open.ensures.ok (λ a. (after-open c.args.self.now c.open.new.self c.args.change.now c.in-Open.opening (sym c.edit.ensures ∙ c.in-Open.is) a).whole);
-  err = c.open.ensures.err;
-}
+returns-in-Open c =
+    let a = ok-map _ _ c.open.result c.open.ensures.ok (after-open c.args.self.now c.open.new.self c.args.change.now
+    c.in-Open.opening (sym c.edit.ensures ∙ c.in-Open.is)) in
+    grind (arith)
 
 pub returns-in-Seat : goal.returns-in-Seat
-returns-in-Seat c = record {
-  ok = ok-both _ _ _ c.seat.result c.seat.ensures.ok c.seat.ensures.seats (λ a b. (after-seat c.args.self.now c.seat.new.self c.args.change.now c.in-Seat.seat c.last.result (sym c.edit.ensures ∙ c.in-Seat.is) c.last.ensures a b).part);
-  held = ok-both _ _ _ c.seat.result c.seat.ensures.ok c.seat.ensures.seats (λ a b. (after-seat c.args.self.now c.seat.new.self c.args.change.now c.in-Seat.seat c.last.result (sym c.edit.ensures ∙ c.in-Seat.is) c.last.ensures a b).held);
-  whole = ok-both _ _ _ c.seat.result c.seat.ensures.ok c.seat.ensures.seats (λ a b. (after-seat c.args.self.now c.seat.new.self c.args.change.now c.in-Seat.seat c.last.result (sym c.edit.ensures ∙ c.in-Seat.is) c.last.ensures a b).whole);
-  err = c.seat.ensures.err;
-}
+returns-in-Seat c =
+    let a = ok-both _ _ _ c.seat.result c.seat.ensures.ok c.seat.ensures.seats (after-seat c.args.self.now
+    c.seat.new.self c.args.change.now c.in-Seat.seat c.last.result (sym c.edit.ensures ∙ c.in-Seat.is) c.last.ensures)
+    in
+    grind (arith)
 
 pub returns-in-Unseat : goal.returns-in-Unseat
 returns-in-Unseat c =
@@ -29,12 +24,11 @@ returns-in-Unseat c =
     record { ok = a.part; held = a.held; whole = a.whole; err = tt }
 
 pub returns-in-Append : goal.returns-in-Append
-returns-in-Append c = record {
-  ok = ok-map _ _ c.keep.result c.keep.ensures.ok (λ a. (after-append c.args.self.now c.keep.new.self c.args.change.now c.in-Append.added c.moves.result c.last-in-Append.result (sym c.edit.ensures ∙ c.in-Append.is) c.moves.ensures.is c.last-in-Append.ensures a).part);
-  held = ok-map _ _ c.keep.result c.keep.ensures.ok (λ a. (after-append c.args.self.now c.keep.new.self c.args.change.now c.in-Append.added c.moves.result c.last-in-Append.result (sym c.edit.ensures ∙ c.in-Append.is) c.moves.ensures.is c.last-in-Append.ensures a).held);
-  whole = ok-map _ _ c.keep.result c.keep.ensures.ok (λ a. (after-append c.args.self.now c.keep.new.self c.args.change.now c.in-Append.added c.moves.result c.last-in-Append.result (sym c.edit.ensures ∙ c.in-Append.is) c.moves.ensures.is c.last-in-Append.ensures a).whole);
-  err = c.keep.ensures.err;
-}
+returns-in-Append c =
+    let a = ok-map _ _ c.keep.result c.keep.ensures.ok (after-append c.args.self.now c.keep.new.self c.args.change.now
+    c.in-Append.added c.moves.result c.last-in-Append.result (sym c.edit.ensures ∙ c.in-Append.is) c.moves.ensures.is
+    c.last-in-Append.ensures) in
+    grind (arith)
 
 pub returns-in-Exchange : goal.returns-in-Exchange
 returns-in-Exchange c = record {

@@ -21,9 +21,4 @@ returns c =
     let kept = named-kept m c.args.entry c.args.of c.named-named.result c.self.inside.kept c.in_ok-kept.kept c.named-named.ensures own c.in_ok-kept.ensures in
     let figures : c.self.inside.figures ≡ m.figures = cc in
     let e = named-made m c.made.result c.args.entry c.args.of c.in_ok-head.head c.in_ok-seats.seats.items c.self.inside.figures c.in_ok-kept.kept c.made.ensures (c.in_ok-head.ensures ∙ c.head.ensures) (c.in_ok-seats.ensures ∙ c.seats.ensures) figures kept in
-    record {
-      is = e;
-      part = λ rows p. part-named m c.made.result c.args.entry c.args.of rows e p;
-      held = λ n named held. held-named m c.made.result c.args.entry c.args.of n e named held;
-      only = λ n none. only-named m c.made.result c.args.entry c.args.of n e none;
-    }
+    search (part-named, held-named, only-named)

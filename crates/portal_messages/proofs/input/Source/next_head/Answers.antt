@@ -1,6 +1,4 @@
-use Rattle.portal_messages.proofs.Names.{◌≡◌, ◌∙◌, ◌<◌, ◌+◌, arith, ap, false, true, List, ℕ, min, length, refl, subst, sym, is_ended, front_of, HEAD_LIMIT}
-use Rattle.trust_base.specs.declared.refusal.Refusal.TheVariants.{BadMessage}
-use Rattle.portal_messages.specs.Messages.{IsFault}
+use Rattle.portal_messages.proofs.Names.{◌≡◌, ◌∙◌, ◌<◌, ◌+◌, arith, false, true, List, ℕ, min, length, refl, is_ended, front_of, HEAD_LIMIT, BadMessage, IsFault}
 use Rattle.portal_messages.proofs.HeadFacts.{found-in, full-none, no-head, over-none}
 use Rattle.portal_messages.proofs.NextFacts.{at-end, bad-next, no-message}
 use Rattle.portal_messages.proofs.input.Source.next_head.Goals as goal

@@ -1,7 +1,5 @@
-use Rattle.std.proofs.Common.{arith, rules}
 use Rattle.std.proofs.lemmas.Grind.{common_steps}
-use Rattle.portal_messages.proofs.Names.{◌≡◌, ◌∙◌, [], ◌∷◌, ◌++◌, codes, take, refl, sym, ap, HeaderSpan, front_of}
-use Rattle.trust_base.specs.declared.refusal.Refusal.TheVariants.{BadMessage, LengthRequired, TooLarge}
+use Rattle.portal_messages.proofs.Names.{◌≡◌, ◌∙◌, [], ◌∷◌, ◌++◌, codes, take, refl, sym, ap, HeaderSpan, front_of, ints, nat_tests, arith, rules, BadMessage, TooLarge}
 use Rattle.portal_messages.proofs.BodyFacts.{cut-body, message-next, refused-next, size-coded, size-fits, size-large, size-none}
 use Rattle.portal_messages.proofs.CallerFacts.{field-no, field-yes, fields-done}
 use Rattle.portal_messages.proofs.input.Source.read_next.Goals as goal
@@ -13,9 +11,7 @@ returns-in_default-clause-last g c =
     (refl, refused-next _ _ _ _ _ _ _ c.in_ok-head.ensures.unread c.in_ok-head.ensures.next c.first_bytes-first.ensures c.as_slice.ensures.value BadMessage size)
 
 pub returns-then-is_some-clause-last : goal.returns-then-is_some-clause-last
-returns-then-is_some-clause-last g c =
-    let size = size-coded c.first_bytes-first.result.now c.next_head.new.spans c.in_ok-head.head _ c.find_field.result c.in-Some.ensures c.find_field.ensures (sym c.is_some.ensures ∙ c.if-is_some.true) in
-    (refl, refused-next _ _ _ _ _ _ _ c.in_ok-head.ensures.unread c.in_ok-head.ensures.next c.first_bytes-first.ensures c.as_slice.ensures.value LengthRequired size)
+returns-then-is_some-clause-last g c = grind (arith, ints, nat_tests, size-coded, refused-next)
 
 pub returns-then-size-find_limit-clause-last : goal.returns-then-size-find_limit-clause-last
 returns-then-size-find_limit-clause-last g c =

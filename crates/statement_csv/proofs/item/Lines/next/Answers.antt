@@ -1,5 +1,4 @@
-use Rattle.statement_csv.proofs.Names.{◌≡◌, ◌∙◌, ◌+◌, sym, ap, true, false, refl, [], Some, None, fields_of, records_left}
-use Rattle.statement_csv.specs.Reading.{IsSound, Reading, left_in}
+use Rattle.statement_csv.proofs.Names.{◌≡◌, ◌∙◌, ◌+◌, sym, ap, true, false, refl, [], Some, None, fields_of, records_left, IsSound, Reading, left_in}
 use Rattle.statement_csv.specs.declared.item.ReadFault.TheVariants as fault
 use Rattle.statement_csv.specs.declared.item.Stage.TheVariants as stage
 use Rattle.statement_csv.proofs.GivenFacts.{gives-within, is-read, stands-header, stands-item}

@@ -1,5 +1,5 @@
+use Rattle.statement_csv.proofs.Names.{IsSound, reading_of}
 use Rattle.statement_csv.proofs.ReadingFacts.{Follows, to_come}
-use Rattle.statement_csv.specs.Reading.{IsSound, reading_of}
 use Rattle.statement_csv.proofs.item.Lines.next.Given as goal
 
 abbrev pub invariant-loop-self : goal.invariant-loop-self

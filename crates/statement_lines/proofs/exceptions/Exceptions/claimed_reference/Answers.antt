@@ -1,4 +1,4 @@
-use Rattle.statement_lines.proofs.Names.{◌≡◌, ◌∙◌, sym, ap, true, rules, is_open}
+use Rattle.statement_lines.proofs.Names.{rules, is_open}
 use Rattle.std.specs.Prelude.{option_copied}
 use Rattle.statement_lines.proofs.Alike.{claimed_named, claimed_none}
 use Rattle.statement_lines.proofs.exceptions.Exceptions.claimed_reference.Goals as goal

@@ -1,14 +1,7 @@
-use Rattle.statement_lines.proofs.Names.{◌≡◌, ◌∙◌, ◌==◌, refl, filter, line_key, elements, is_named_like}
+use Rattle.statement_lines.proofs.Names.{filter, line_key, elements, is_named_like, arith, ints, nat_tests}
 use Rattle.statement_lines.proofs.Alike.{named_like_narrows}
 use Rattle.statement_lines.proofs.Found.{counted}
 use Rattle.statement_lines.proofs.exceptions.Exceptions.count_named_like.Goals as goal
 
 pub returns : goal.returns
-returns c =
-    let line = c.args.line.now in
-    let all = c.self.inside.all.now in
-    let same : elements c.at.result.now ≡ filter (λ x. line_key x == line_key line) all =
-    rw (c.at.ensures, c.self.invariant c.line_key.result, c.line_key.ensures, c.line.ensures) refl in
-    c.count_named_among.ensures
-    ∙ rw (← c.self.view_is)
-    (counted (is_named_like line) (λ x. line_key x == line_key line) (named_like_narrows line) c.at.result.now all same)
+returns c = grind (arith, ints, nat_tests, elements, filter, line_key, counted, is_named_like, named_like_narrows)

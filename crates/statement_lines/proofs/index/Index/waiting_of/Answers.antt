@@ -1,4 +1,4 @@
-use Rattle.statement_lines.proofs.Names.{◌≡◌, rules, refl, amount_key}
+use Rattle.statement_lines.proofs.Names.{rules, amount_key}
 use Rattle.statement_lines.proofs.index.Index.waiting_of.Goals as goal
 
 pub returns : goal.returns

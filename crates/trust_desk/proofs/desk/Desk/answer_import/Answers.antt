@@ -1,6 +1,4 @@
-use Rattle.trust_desk.proofs.Names.{◌∙◌, ap, inl, inr, refl, err_from_is_err_and}
-use Rattle.trust_base.specs.declared.refusal.Refusal.TheVariants.{Memory}
-use Rattle.trust_desk.specs.Imports.{counted_stop}
+use Rattle.trust_desk.proofs.Names.{◌∙◌, ap, inl, inr, refl, err_from_is_err_and, Memory, counted_stop}
 use Rattle.trust_desk.proofs.Calls.{kept-as}
 use Rattle.trust_desk.proofs.ImportSteps.{import-stopped, import-told, import-unfit, stopped-by}
 use Rattle.trust_desk.proofs.desk.Desk.answer_import.Goals as goal

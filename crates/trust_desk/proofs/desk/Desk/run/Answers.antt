@@ -1,4 +1,4 @@
-use Rattle.trust_desk.proofs.Names.{ℕ, ◌≡◌, ◌∙◌, ◌+◌, ◌++◌, ◌∷◌, [], List, ap, refl, sym, arith, take, length, length-append, subst, false, Reply, counted_replies, heard, Heard, Asks, AreNoFaults, AreNoFaultsButLast, IsMadeInRun, MayLeave, before_fault, RunsSoundly, is_fault_reply, KeepsBook}
+use Rattle.trust_desk.proofs.Names.{ℕ, ◌≡◌, ◌∙◌, ◌+◌, ◌++◌, ◌∷◌, [], List, ap, refl, sym, arith, take, length, length-append, subst, false, Reply, counted_replies, heard, Heard, Asks, AreNoFaults, AreNoFaultsButLast, IsMadeInRun, MayLeave, before_fault, RunsSoundly, is_fault_reply, KeepsBook, ints, nat_tests}
 use Rattle.trust_desk.proofs.Calls.{kept-then, kept-as, kept-still}
 use Rattle.trust_desk.proofs.Runs.{run-more, counted-push, sound-runs-are-runs, heard-more}
 use Rattle.trust_desk.proofs.Own.{own-run}
@@ -68,9 +68,7 @@ returns-then-is_err-clause-crash g c =
     let B = g.B.Book in
     let firm = g.B.Book.firm in
     let i = c.loop-request.invariant in
-    λ sure clean stands.
-    subst (λ (rs : List Reply). AreNoFaultsButLast rs → MayLeave (B.clean) (B.leaves) (AreNoFaults rs) (IsMadeInRun c.args.day (firm c.args.self.now) (heard (take (length rs) c.args.requests.now))) (firm c.args.self.now) (firm c.loop-request.self) c.args.self.now c.loop-request.self) (sym c.reserve.ensures.items)
-    (λ but_last. subst (λ n. MayLeave (B.clean) (B.leaves) (AreNoFaults c.loop-request.replies.items) (IsMadeInRun c.args.day (firm c.args.self.now) (heard (take n c.args.requests.now))) (firm c.args.self.now) (firm c.loop-request.self) c.args.self.now c.loop-request.self) (sym i.long) (i.crash sure clean stands but_last))
+    grind (arith, ints, nat_tests, heard, take, length)
 
 pub returns-then-is_err-clause-shut : goal.returns-then-is_err-clause-shut
 returns-then-is_err-clause-shut g c =

@@ -1,5 +1,0 @@
-use Rattle.trust_values.proofs.CivilDayFacts.{civil_day-bound}
-use Rattle.trust_values.proofs.civil_day.CivilDay.write_to.Goals as goal
-
-pub day_bytes-requires : goal.day_bytes-requires
-day_bytes-requires c = civil_day-bound _ c.self.invariant
