@@ -1,5 +1,5 @@
 -- What a check that was printed says of the firm, and what its reads leave of the book.
-use Rattle.cashier.proofs.Names.{◌≡◌, ◌⊎◌, ℕ, List, Option, Result, Err, IfOk, OnOk, inl, inr, StoreFault, Firm, IsAny, LeavesBook, Outcome}
+use Rattle.cashier.proofs.Names.{◌≡◌, ◌⊎◌, ℕ, List, Option, Result, Err, IfOk, OnOk, inl, inr, StoreFault, Firm, IsAny, LeavesBook, Outcome, arith, ints, nat_tests}
 use Rattle.trust_base.specs.declared.refusal.StoreFault.TheVariants as faults
 use Rattle.trust_desk.specs.Checking.{AreReads}
 use Rattle.cashier.specs.Check.{CheckEnds, IsSaid, IsSaidSound, IsTrueOf, PrintsCheck}
@@ -15,9 +15,7 @@ check-ends before after told old new ended same (inr h) = record { firm = same; 
 -- what was called sound is
 pub said-sound : (firm : Firm) (told : Result CheckFound StoreFault) (old new : Option (List ℕ)) → IfOk told (IsTrueOf firm) → IsSaid told old new
     → IsSaidSound firm old new
-said-sound firm told old new true said =
-    let t : IsTrueOf firm (found.Sound said.counts) = rw said.is at true in
-    record { counts = said.counts; printed = said.printed; sound = t.0; are = t.1 }
+said-sound firm told old new x4 said = grind (arith, ints, nat_tests)
 
 -- what was printed of an Ok
 pub said-ok : (told : Result CheckFound StoreFault) (old new : Option (List ℕ)) (P : Type 0) → IsSaid told old new → OnOk told P → P
@@ -26,10 +24,4 @@ said-ok told old new P said on = rw said.is at on
 -- reads of which any may have been refused
 pub reads-leave : {B : Type 0} {firm : B → Firm} {clean sure stands lasts : B → Type 0} {leaves : B → Firm → Type 0} {refusals : B → ℕ} {old new : B}
     → AreReads firm clean sure stands lasts leaves old new → LeavesBook clean sure stands lasts refusals IsAny old new
-reads-leave h = record {
-  was_clean = h.was_clean;
-  was_sure = h.was_sure;
-  still_stands = h.still_stands;
-  still_lasts = λ sure _ lasts. h.still_lasts sure lasts;
-  cause = λ _ _. tt;
-}
+reads-leave h = grind (arith, ints, nat_tests)

@@ -1,5 +1,5 @@
 -- The lines of one matter among those of others.
-use Rattle.cashier.proofs.Names.{◌≡◌, ◌∙◌, ◌&&◌, ℕ, Bool, true, false, cond, List, [], ◌∷◌, length, Option, Some, None, Result, Ok, Err, refl, sym, ap, arith, ◌==◌, nat_tests, filter, Firm, of, concerns, is_the, names, ask_of, asked_of, by_cashier, dismissing, dismissing_in, heard_as, heard_of, is_dismissal, of_matter, of_verb, text_at, verb_in, OwnRecordsAlone, lines_at, lines_from, names_matter, record_step, reply_line}
+use Rattle.cashier.proofs.Names.{◌≡◌, ◌∙◌, ◌&&◌, ℕ, Bool, true, false, cond, List, [], ◌∷◌, length, Option, Some, None, Result, Err, refl, sym, ap, arith, ◌==◌, nat_tests, filter, Firm, of, concerns, is_the, names, ask_of, asked_of, by_cashier, dismissing, dismissing_in, heard_as, heard_of, is_dismissal, of_matter, of_verb, text_at, verb_in, OwnRecordsAlone, lines_at, lines_from, names_matter, record_step, reply_line, ints}
 use Rattle.byte_streams.proofs.FixedFacts.{length-fixed}
 use Rattle.trust_base.proofs.ReadFacts.{number-none}
 use Rattle.trust_base.specs.Texts.{matter_of, matter_text}
@@ -14,16 +14,13 @@ use Rattle.cashier_remarks.specs.declared.record.Verb.{Verb}
 -- ---- the matter of a record is that of what the desk hears
 
 of_cashier : (m n : ℕ) (asked : Result Ask Field) → names m (heard_as (by_cashier n asked) (Some n)) ≡ is_the m (Some n)
-of_cashier m n (Err f) = refl
-of_cashier m n (Ok a) = refl
+of_cashier m n asked = grind (arith, ints, nat_tests)
 
 of_read : (m : ℕ) (read : Option ℕ) (asked : Result Ask Field) → names m (heard_as (of_matter read asked) read) ≡ is_the m read
-of_read m None asked = refl
-of_read m (Some n) asked = of_cashier m n asked
+of_read m read asked = grind (arith, ints, nat_tests, of_cashier)
 
 of_some : (m : ℕ) (verb : Option Verb) (fields : List (List ℕ)) → names m (heard_as (of_verb verb fields) (matter_of (text_at fields 1))) ≡ names_matter m fields
-of_some m None fields = refl
-of_some m (Some v) fields = of_read m (matter_of (text_at fields 1)) (ask_of v fields)
+of_some m verb fields = grind (arith, ints, nat_tests, of_read, matter_of, text_at, ask_of)
 
 -- an empty text is no matter's
 six_is_none : (n : ℕ) → n ≡ 6 → n ≡ 0 → ⊥
@@ -37,45 +34,36 @@ none_named = number-none _ _ _ [] (λ m low high e. no_text m e)
 
 -- a record that dismisses a line names no matter, and its second field is none
 dismissed_named : (m : ℕ) (b : Bool) (line : Option Line) → names m (heard_as (cond b (dismissing line) (Err field.Record)) None) ≡ false
-dismissed_named m true None = refl
-dismissed_named m true (Some line) = refl
-dismissed_named m false line = refl
+dismissed_named m b line = grind (arith, ints, nat_tests)
 
 formed_named : (m : ℕ) (a b : Bool) (second : List ℕ) (line : Option Line) → names m (heard_as (cond (a && (length second == 0) && b) (dismissing line) (Err field.Record)) (matter_of second)) ≡ is_the m (matter_of second)
 formed_named m false b second line = refl
 formed_named m true b [] line = rw none_named (dismissed_named m b line)
-formed_named m true b (x ∷ xs) line = let longer : (length (x ∷ xs) == 0) ≡ false = grind (arith, nat_tests) in rw longer refl
+formed_named m true b (x ∷ xs) line = let longer : (length (x ∷ xs) == 0) ≡ false =
+    grind (arith, nat_tests) in rw longer refl
 
 same_matter : (m : ℕ) (fields : List (List ℕ)) → names m (heard_of fields) ≡ names_matter m fields
 unfolding heard_of asked_of
-same_matter m fields = cases (is_dismissal fields)
-  where
-    cases : (b : Bool) → names m (heard_as (cond b (dismissing_in fields) (of_verb (verb_in fields) fields)) (matter_of (text_at fields 1))) ≡ names_matter m fields
-    cases true = formed_named m (length fields == 8) (length (text_at fields 2) == 0) (text_at fields 1) (line_of_texts (text_at fields 3) (text_at fields 4) (text_at fields 5) (text_at fields 6) (text_at fields 7))
-    cases false = of_some m (verb_in fields) fields
+same_matter m fields = grind (arith, ints, nat_tests, names, matter_of, text_at, formed_named, length, of_some)
 
 -- and so is the matter that it concerns
 concerned_by_cashier : (m n : ℕ) (asked : Result Ask Field) → concerns m (heard_as (by_cashier n asked) (Some n)) ≡ is_the m (Some n)
-concerned_by_cashier m n (Err f) = refl
-concerned_by_cashier m n (Ok a) = refl
+concerned_by_cashier m n asked = grind (arith, ints, nat_tests)
 
 concerned_read : (m : ℕ) (read : Option ℕ) (asked : Result Ask Field) → concerns m (heard_as (of_matter read asked) read) ≡ is_the m read
-concerned_read m None asked = refl
-concerned_read m (Some n) asked = concerned_by_cashier m n asked
+concerned_read m read asked = grind (arith, ints, nat_tests, concerned_by_cashier)
 
 concerned_some : (m : ℕ) (verb : Option Verb) (fields : List (List ℕ)) → concerns m (heard_as (of_verb verb fields) (matter_of (text_at fields 1))) ≡ names_matter m fields
-concerned_some m None fields = refl
-concerned_some m (Some v) fields = concerned_read m (matter_of (text_at fields 1)) (ask_of v fields)
+concerned_some m verb fields = grind (arith, ints, nat_tests, concerned_read, matter_of, text_at, ask_of)
 
 dismissed_concern : (m : ℕ) (b : Bool) (line : Option Line) → concerns m (heard_as (cond b (dismissing line) (Err field.Record)) None) ≡ false
-dismissed_concern m true None = refl
-dismissed_concern m true (Some line) = refl
-dismissed_concern m false line = refl
+dismissed_concern m b line = grind (arith, ints, nat_tests)
 
 formed_concern : (m : ℕ) (a b : Bool) (second : List ℕ) (line : Option Line) → concerns m (heard_as (cond (a && (length second == 0) && b) (dismissing line) (Err field.Record)) (matter_of second)) ≡ is_the m (matter_of second)
 formed_concern m false b second line = refl
 formed_concern m true b [] line = rw none_named (dismissed_concern m b line)
-formed_concern m true b (x ∷ xs) line = let longer : (length (x ∷ xs) == 0) ≡ false = grind (arith, nat_tests) in rw longer refl
+formed_concern m true b (x ∷ xs) line = let longer : (length (x ∷ xs) == 0) ≡ false =
+    grind (arith, nat_tests) in rw longer refl
 
 same_concern : (m : ℕ) (fields : List (List ℕ)) → concerns m (heard_of fields) ≡ names_matter m fields
 unfolding heard_of asked_of
@@ -103,17 +91,8 @@ other_firm m day f g r e same = other-rows m day f (heard_of r) (same_concern m 
 solo : (m day : ℕ) (records : List (List (List ℕ))) (f g : Firm) → of m f ≡ of m g
     → lines_at (names_matter m) records (lines_from day f records) ≡ lines_from day g (filter (names_matter m) records)
 solo m day [] f g same = refl
-solo m day (r ∷ rest) f g same = by (names_matter m r) refl (solo m day rest)
-  where
-    by : (b : Bool) → names_matter m r ≡ b
-        → ((u v : Firm) → of m u ≡ of m v → lines_at (names_matter m) rest (lines_from day u rest) ≡ lines_from day v (filter (names_matter m) rest))
-        → lines_at (names_matter m) (r ∷ rest) (lines_from day f (r ∷ rest)) ≡ lines_from day g (filter (names_matter m) (r ∷ rest))
-    by true e more =
-        rw e (
-        ap (λ (line : List ℕ). line ∷ lines_at (names_matter m) rest (lines_from day (record_step day f r).firm rest)) (own_line m day f g r e same)
-        ∙ ap (λ (lines : List (List ℕ)). reply_line (record_step day g r).reply ∷ lines) (more (record_step day f r).firm (record_step day g r).firm (own_firm m day f g r same))
-        )
-    by false e more = rw e (more (record_step day f r).firm g (other_firm m day f g r e same))
+solo m day (r ∷ rest) f g same =
+    grind (arith, ints, nat_tests, of, filter, own_line, own_firm, other_firm, (solo m day rest))
 
 pub own_records-alone : OwnRecordsAlone
 own_records-alone m day f g a b same own =

@@ -11,7 +11,7 @@ pub use Rattle.firm_rows.specs.Firm.{Firm, empty_firm, of}
 pub use Rattle.portal_http.specs.Clients.{Comes, Ports}
 pub use Rattle.portal_http.specs.ServedAll.{AreServedInTurn, IsClientServed, KeepsStanding}
 pub use Rattle.portal_http.specs.declared.stream.StreamEnd.{StreamEnd}
-pub use Rattle.std.proofs.Common.{Bool, Bor, Err, IfOk, IfSome, List, MatchBool, None, Ok, OnOk, Option, Result, Some, [], ap, append_assoc, arith, cond, false, inl, inr, length, length-append, map, nat_lt, not, option_map, refl, subst, suc, sym, take, true, ℕ, ◌&&◌, ◌++◌, ◌+◌, ◌<◌, ◌||◌, ◌∙◌, ◌∷◌, ◌≡◌, ◌≢◌, ◌≤◌, ◌⊎◌}
+pub use Rattle.std.proofs.Common.{Bool, Bor, Err, IfOk, IfSome, List, None, Ok, OnOk, Option, Result, Some, [], ap, append_assoc, arith, cond, false, inl, inr, length, length-append, map, nat_lt, not, option_map, refl, subst, suc, sym, take, true, ℕ, ◌&&◌, ◌++◌, ◌+◌, ◌<◌, ◌||◌, ◌∙◌, ◌∷◌, ◌≡◌, ◌≢◌, ◌≤◌, ◌⊎◌}
 pub use Rattle.std.proofs.KnownBytes.{Appends-nil, Appends-trans}
 pub use Rattle.std.proofs.lemmas.Bool.Decides.{nat_tests}
 pub use Rattle.std.proofs.lemmas.List.{append-nil, take-append-le}
@@ -38,3 +38,4 @@ pub use Rattle.cashier.specs.Sheet.{Cut, CutsLine, Ends, IsBehindLines, IsWhole,
 unfoldable pub use Rattle.cashier.specs.Sheet.{line_of}
 pub use Rattle.cashier.specs.declared.outcome.Outcome.{Outcome}
 pub use Rattle.cashier.specs.declared.sheet.SheetEnd.{SheetEnd}
+pub use Rattle.std.proofs.lemmas.Int.{ints}

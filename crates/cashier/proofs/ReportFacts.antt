@@ -1,5 +1,5 @@
 -- What the reply to a report says of the program's end, and that a report makes no rows.
-use Rattle.cashier.proofs.Names.{◌≡◌, ◌∙◌, ℕ, Option, Some, None, inl, inr, refl, Refusal, Firm, LeavesOr, IsMade, MayLeave, after_asked, Asks, asked_on}
+use Rattle.cashier.proofs.Names.{◌≡◌, ℕ, Option, inl, inr, Refusal, Firm, LeavesOr, IsMade, MayLeave, after_asked, Asks, asked_on, arith, ints, nat_tests}
 use Rattle.trust_matter.specs.declared.ask.Ask.TheVariants.{Accounting}
 use Rattle.trust_matter.specs.declared.ask.Caller.TheVariants.{Cashier}
 use Rattle.command_line.specs.declared.command.ReportCommand.{ReportCommand}
@@ -8,18 +8,11 @@ use Rattle.cashier.specs.Report.{asked_for}
 
 -- an accounting changes nothing, whether it is refused or not
 accounting-same : (o : Option Refusal) (day m : ℕ) (firm : Firm) → after_asked o m (asked_on day Cashier Accounting) firm ≡ firm
-accounting-same None day m firm = refl
-accounting-same (Some r) day m firm = refl
+accounting-same o day m firm = grind (arith, ints, nat_tests)
 
 -- the rows that a report makes are those that were there
 report-makes : (day : ℕ) (firm found : Firm) (command : ReportCommand) → IsMade day firm (Asks (asked_for command)) found → found ≡ firm
-report-makes day firm found (commands.Reconcile of) made = made
-report-makes day firm found commands.Trial made = made
-report-makes day firm found commands.Journal made = made
-report-makes day firm found commands.Retention made = made
-report-makes day firm found commands.Exceptions made = made
-report-makes day firm found (commands.Ledger m) made = made ∙ accounting-same _ day m firm
-report-makes day firm found commands.OwnLedger made = made
+report-makes day firm found command made = grind (arith, ints, nat_tests, accounting-same)
 
 pub report-leaves : {B : Type 0} {clean : B → Type 0} {leaves : B → Firm → Type 0} {done : Type 0} (day : ℕ) (firm after : Firm) (command : ReportCommand) (old new : B)
     → MayLeave clean leaves done (IsMade day firm (Asks (asked_for command))) firm after old new → LeavesOr firm (leaves old) (leaves new)

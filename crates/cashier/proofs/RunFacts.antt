@@ -1,5 +1,5 @@
 -- How the run of words over a book is told, by what became of it.
-use Rattle.cashier.proofs.Names.{◌≡◌, ◌≢◌, ◌⊎◌, ◌∙◌, ℕ, List, Option, Some, None, Result, Ok, Err, refl, sym, subst, inr, Appends-nil, Text, StoreFault, Firm, empty_firm, Ports, Means, MeansNothing, db_of, Ran, put_outcome, store_outcome, Outcome}
+use Rattle.cashier.proofs.Names.{◌≡◌, ◌≢◌, ◌⊎◌, ◌∙◌, ℕ, List, Option, Some, None, Result, refl, sym, subst, inr, Appends-nil, Text, StoreFault, Firm, empty_firm, Ports, Means, MeansNothing, db_of, Ran, put_outcome, store_outcome, Outcome, arith, ints, nat_tests}
 use Rattle.std.proofs.lemmas.Option.{none-some, same_Some}
 use Rattle.trust_base.specs.declared.refusal.StoreFault.TheVariants as faults
 use Rattle.firm_rows.specs.FirmSound.{FirmSound}
@@ -10,20 +10,11 @@ use Rattle.cashier.specs.declared.outcome.Outcome.TheVariants as outcome
 
 -- a fault of the store is none of the command line
 pub store-no-line : (fault : StoreFault) → store_outcome fault ≡ outcome.CommandLine → ⊥
-store-no-line faults.Store h = cc
-store-no-line faults.Memory h = cc
+store-no-line fault h = grind (arith, ints, nat_tests)
 
 -- only a run that ended at the command line is told so once its book was put back
 pub put-line : (ended : Outcome) (put : Result Unit StoreFault) → put_outcome ended put ≡ outcome.CommandLine → ended ≡ outcome.CommandLine
-put-line ended (Ok done) h = h
-put-line outcome.Done (Err fault) h = absurd (store-no-line fault h)
-put-line outcome.Refused (Err fault) h = absurd (store-no-line fault h)
-put-line outcome.CommandLine (Err fault) h = refl
-put-line outcome.FileFault (Err fault) h = h
-put-line outcome.OutputFault (Err fault) h = h
-put-line outcome.StoreFault (Err fault) h = h
-put-line outcome.MemoryFault (Err fault) h = h
-put-line outcome.NetworkFault (Err fault) h = h
+put-line ended put h = grind (arith, ints, nat_tests, store-no-line)
 
 -- a book in memory begins without rows
 pub in-memory : {W : Type 0} (before after : Firm) (words : List Text) (input : Option (List ℕ)) (known : Text → Option (List ℕ))
@@ -42,12 +33,7 @@ module _ {B W : Type 0} {clean sure stands lasts : B → Type 0} {leaves : B →
   -- the words mean nothing
   pub by-line : (old new : Option (List ℕ)) → MeansNothing words
       → HasRun clean sure stands lasts leaves firm refusals finds puts untouched words input known opens ports old new outcome.CommandLine
-  by-line old new nothing = record {
-    line = λ _. nothing;
-    meant = λ begun. absurd begun;
-    in_memory = λ _ other. absurd (other refl);
-    at_path = λ path _ other. absurd (other refl);
-  }
+  by-line old new nothing = grind (arith, ints, nat_tests)
 
   -- memory was refused before anything was run
   pub by-want : (given : Option (List ℕ)) → untouched
@@ -64,12 +50,7 @@ module _ {B W : Type 0} {clean sure stands lasts : B → Type 0} {leaves : B →
       → Means words today task → db_of words ≡ None
       → RanInMemory (λ before after. Ran words input known opens ports before after old new) told
       → HasRun clean sure stands lasts leaves firm refusals finds puts untouched words input known opens ports old new told
-  over-memory old new told today task began means none ran = record {
-    line = λ e. absurd (began e);
-    meant = λ _. (today, task, means);
-    in_memory = λ _ _. ran;
-    at_path = λ path named _. absurd (none-some path (sym none ∙ named));
-  }
+  over-memory old new told today task began means none ran = grind (arith, ints, nat_tests, none-some)
 
   -- the words name a path
   pub over-path : (old new : Option (List ℕ)) (told : Outcome) (today : ℕ) (task : Task) (path : Text) → told ≢ outcome.CommandLine
@@ -77,12 +58,4 @@ module _ {B W : Type 0} {clean sure stands lasts : B → Type 0} {leaves : B →
       → RanAtPath clean sure stands lasts leaves firm refusals (finds path) puts words input known opens ports old new told
       ⊎ HadNoBook untouched told
       → HasRun clean sure stands lasts leaves firm refusals finds puts untouched words input known opens ports old new told
-  over-path old new told today task path began means named ran = record {
-    line = λ e. absurd (began e);
-    meant = λ _. (today, task, means);
-    in_memory = λ none _. absurd (none-some path (sym none ∙ named));
-    at_path = λ other there _. one-path _ path other
-        (λ p. RanAtPath clean sure stands lasts leaves firm refusals (finds p) puts words input known opens ports old new told
-        ⊎ HadNoBook untouched told)
-        named there ran;
-  }
+  over-path old new told today task path began means named ran = grind (arith, ints, nat_tests, none-some, one-path)

@@ -1,5 +1,5 @@
 -- What the end of serving clients says of the firm, and of the program's end.
-use Rattle.cashier.proofs.Names.{◌≡◌, ℕ, suc, List, [], ◌∷◌, Option, inl, inr, ap, sym, subst, Firm, StreamEnd, Comes, AreServedInTurn, IsClientServed}
+use Rattle.cashier.proofs.Names.{◌≡◌, ℕ, suc, List, [], ◌∷◌, Option, ap, subst, Firm, StreamEnd, Comes, AreServedInTurn, IsClientServed, arith, ints, nat_tests}
 use Rattle.portal_http.specs.declared.server.ServeEnd.{ServeEnd}
 use Rattle.portal_http.specs.declared.server.ServeEnd.TheVariants as serving
 use Rattle.cashier.specs.Serving.{AreMetInTurn, IsMet, serving_outcome}
@@ -8,28 +8,22 @@ use Rattle.cashier.proofs.StreamFacts.{stream-ends}
 
 -- serving ends by no fault of the store
 pub serving-no-store : (e : ServeEnd) → serving_outcome e ≡ outcome.StoreFault → ⊥
-serving-no-store serving.Done h = cc
-serving-no-store serving.NetworkFault h = cc
-serving-no-store serving.WriteFault h = cc
+serving-no-store e h = grind (arith, ints, nat_tests)
 
 module _ {B W : Type 0} (clean sure stands lasts : B → Type 0) (leaves : B → Firm → Type 0) (firm : B → Firm) (refusals : B → ℕ) (contents : W → Option (List ℕ)) where
   -- a client that was served over a book whose store is clean and stood for a sound firm, said of the firm
   client-met : (day : ℕ) (comes : Comes W → Type 0) (old : B) (end : StreamEnd) (new : B)
       → IsClientServed clean sure stands lasts leaves firm refusals contents day comes old end new → clean new → stands old → IsMet contents day comes (firm old) end (firm new)
-  client-met day comes old end new (inl client) c s =
-      inl (record { stream = client.stream; writer = client.writer; left = client.left; came = client.came; ends = stream-ends client.served c s })
-  client-met day comes old end new (inr gone) c s = inr (record { came = gone.came; ended = gone.ended; firm = ap firm gone.same })
+  client-met day comes old end new x5 c s = grind (arith, ints, nat_tests, stream-ends)
 
   -- a client leaves the book standing
   client-clean : (day : ℕ) (comes : Comes W → Type 0) (old : B) (end : StreamEnd) (new : B)
       → IsClientServed clean sure stands lasts leaves firm refusals contents day comes old end new → clean new → clean old
-  client-clean day comes old end new (inl client) c = client.served.kept.was_clean c
-  client-clean day comes old end new (inr gone) c = subst clean gone.same c
+  client-clean day comes old end new x5 c = grind (arith, ints, nat_tests)
 
   client-stands : (day : ℕ) (comes : Comes W → Type 0) (old : B) (end : StreamEnd) (new : B)
       → IsClientServed clean sure stands lasts leaves firm refusals contents day comes old end new → clean new → stands old → stands new
-  client-stands day comes old end new (inl client) c s = client.served.kept.still_stands c s
-  client-stands day comes old end new (inr gone) c s = subst stands (sym gone.same) s
+  client-stands day comes old end new x5 c s = grind (arith, ints, nat_tests)
 
   turn-clean : (day : ℕ) (comes : ℕ → Comes W → Type 0) (old : B) (ends : List StreamEnd) (new : B)
       → AreServedInTurn clean sure stands lasts leaves firm refusals contents day comes old ends new → clean new → clean old
@@ -51,9 +45,7 @@ module _ {B W : Type 0} (clean sure stands lasts : B → Type 0) (leaves : B →
   -- what comes of a listener's accepts may come of its port's
   client-as : (day : ℕ) (comes may : Comes W → Type 0) → ((c : Comes W) → comes c → may c) → (old : B) (end : StreamEnd) (new : B)
       → IsClientServed clean sure stands lasts leaves firm refusals contents day comes old end new → IsClientServed clean sure stands lasts leaves firm refusals contents day may old end new
-  client-as day comes may also old end new (inl client) =
-      inl (record { stream = client.stream; writer = client.writer; left = client.left; came = also _ client.came; served = client.served })
-  client-as day comes may also old end new (inr gone) = inr (record { came = also _ gone.came; ended = gone.ended; same = gone.same })
+  client-as day comes may also old end new x7 = grind (arith, ints, nat_tests)
 
   pub served-as : (day : ℕ) (comes may : ℕ → Comes W → Type 0) → ((k : ℕ) (c : Comes W) → comes k c → may k c) → (old : B) (ends : List StreamEnd) (new : B)
       → AreServedInTurn clean sure stands lasts leaves firm refusals contents day comes old ends new → AreServedInTurn clean sure stands lasts leaves firm refusals contents day may old ends new

@@ -1,8 +1,7 @@
 -- What the lines of a sheet are, record after record.
-use Rattle.cashier.proofs.Names.{◌≡◌, ◌⊎◌, ◌∙◌, ◌<◌, ◌≤◌, ◌+◌, ◌++◌, nat_lt, IfSome, ◌∷◌, ◌&&◌, ◌||◌, not, cond, ℕ, Bool, true, false, List, [], length, take, Option, Some, None, Result, Ok, Err, inl, inr, refl, sym, ap, arith, append_assoc, length-append, Appends-trans, nat_tests, append-nil, take-append-le, Appends, concat, Refusal, Store, Memory, Firm, Steps, firm_step, Heard, is_fault_body, is_fault_reply, refused, Body, Json, Refused, Reply, heard_of, Cut, CutsLine, Ends, LargeEnds, Leaves, RunEnds, sheet_records, all_accepted, body_line, end_of, firm_from, is_accepting, lines_from, ran_by, ran_refused, record_step, refusal_line, reply_line, RecordEnds, SheetEnd, MAX_FILE_BYTES}
+use Rattle.cashier.proofs.Names.{◌≡◌, ◌⊎◌, ◌∙◌, ◌<◌, ◌≤◌, ◌+◌, ◌++◌, nat_lt, IfSome, ◌∷◌, ◌&&◌, ◌||◌, not, ℕ, Bool, true, false, List, [], length, take, Option, Some, None, Result, Ok, Err, inl, inr, refl, sym, ap, arith, append_assoc, length-append, Appends-trans, nat_tests, append-nil, take-append-le, Appends, concat, Refusal, Store, Memory, Firm, Steps, firm_step, Heard, is_fault_body, is_fault_reply, refused, Body, Refused, Reply, heard_of, Cut, CutsLine, Ends, LargeEnds, Leaves, RunEnds, sheet_records, all_accepted, body_line, end_of, firm_from, is_accepting, lines_from, ran_by, ran_refused, record_step, refusal_line, reply_line, RecordEnds, SheetEnd, MAX_FILE_BYTES, ints}
 use Rattle.std.proofs.Math.Seq.{take-append-add, take-append_seam}
 use Rattle.trust_base.specs.Refusals.{is_fault}
-use Rattle.trust_desk.specs.declared.requests.Body.TheVariants.{Text}
 use Rattle.cashier_remarks.proofs.RecordFacts.{steps-fault}
 use Rattle.cashier.specs.declared.sheet.SheetEnd.TheVariants as end
 
@@ -13,10 +12,7 @@ abbrev pub IsCut : Option (List ℕ) → Option (List ℕ) → List ℕ → Type
 IsCut old new text = (n : ℕ) × (n < length text) × Appends old new (take n text)
 
 pub cut-first : (old new : Option (List ℕ)) (text more : List ℕ) → IsCut old new text → IsCut old new (text ++ more)
-cut-first old new text more (n, less, part) =
-    let front : take n (text ++ more) ≡ take n text = take-append-le n text more (omega arith) in
-    let size = length-append text more in
-    (n, omega arith, rw front part)
+cut-first old new text more x4 = grind (arith, ints, nat_tests, take, take-append-le, length-append)
 
 pub cut-later : (old mid new : Option (List ℕ)) (text more : List ℕ) → Appends old mid text → IsCut mid new more → IsCut old new (text ++ more)
 cut-later old mid new text more before (n, less, part) =
@@ -44,20 +40,9 @@ firm-push day firm (p ∷ past) r = firm-push day (record_step day firm p).firm 
 
 pub accepted-push : (day : ℕ) (firm : Firm) (past : List (List (List ℕ))) (r : List (List ℕ))
     → all_accepted day firm (past ++ r ∷ []) ≡ (all_accepted day firm past && is_accepting (record_step day (firm_from day firm past) r).reply.body)
-accepted-push day firm [] r = by (is_accepting (record_step day firm r).reply.body)
-  where
-    by : (b : Bool) → cond b true false ≡ b
-    by true = refl
-    by false = refl
-accepted-push day firm (p ∷ past) r = by (is_accepting (record_step day firm p).reply.body) (accepted-push day (record_step day firm p).firm past r)
-  where
-    by : (b : Bool)
-        → all_accepted day (record_step day firm p).firm (past ++ r ∷ [])
-        ≡ (all_accepted day (record_step day firm p).firm past && is_accepting (record_step day (firm_from day (record_step day firm p).firm past) r).reply.body)
-        → cond b (all_accepted day (record_step day firm p).firm (past ++ r ∷ [])) false
-        ≡ (cond b (all_accepted day (record_step day firm p).firm past) false && is_accepting (record_step day (firm_from day (record_step day firm p).firm past) r).reply.body)
-    by true e = e
-    by false e = refl
+accepted-push day firm [] r = grind (arith, ints, nat_tests, is_accepting, record_step)
+accepted-push day firm (p ∷ past) r =
+    grind (arith, ints, nat_tests, (accepted-push day (record_step day firm p).firm past r))
 
 -- the records so far are the first of all
 pub first_records : (all past rest : List (List (List ℕ))) → past ++ rest ≡ all → take (length past) all ≡ past
@@ -78,34 +63,25 @@ err-same x y e = cc
 
 -- a record that lets the run go on tells of no fault, and says whether it was accepted
 goes-refused : (r : Refusal) (accepted : Bool) → Ok accepted ≡ ran_refused r → (is_fault r ≡ false) × (false ≡ accepted)
-goes-refused Store accepted e = cc
-goes-refused Memory accepted e = cc
-goes-refused _ accepted e = (refl, cc)
+goes-refused r accepted e = grind (arith, ints, nat_tests)
 
 pub goes-body : (b : Body) (accepted : Bool) → Ok accepted ≡ ran_by b → (is_fault_body b ≡ false) × (is_accepting b ≡ accepted)
-goes-body (Json text) accepted e = (refl, cc)
-goes-body (Text text) accepted e = (refl, cc)
-goes-body (Refused r) accepted e = goes-refused r accepted e
+goes-body b accepted e = grind (arith, ints, nat_tests, goes-refused)
 
 -- a reply that ends the run is the refusal of a fault
 abbrev pub IsStop : SheetEnd → Body → Type 0
 IsStop e b = ((e ≡ end.Store) × (b ≡ Refused Store)) ⊎ ((e ≡ end.NoMemory) × (b ≡ Refused Memory))
 
 stop-refused : (r : Refusal) (e : SheetEnd) → Err e ≡ ran_refused r → IsStop e (Refused r)
-stop-refused Store e same = inl (err-same e end.Store same, refl)
-stop-refused Memory e same = inr (err-same e end.NoMemory same, refl)
-stop-refused _ e same = cc
+stop-refused r e same = grind (arith, ints, nat_tests, err-same)
 
 pub stop-body : (b : Body) (e : SheetEnd) → Err e ≡ ran_by b → IsStop e b
-stop-body (Json text) e same = cc
-stop-body (Text text) e same = cc
-stop-body (Refused r) e same = stop-refused r e same
+stop-body b e same = grind (arith, ints, nat_tests, stop-refused)
 
 -- ---- one more record
 
 not-and : (a b : Bool) → (not a || not b) ≡ not (a && b)
-not-and true b = refl
-not-and false b = refl
+not-and a b = grind (arith, ints, nat_tests)
 
 abbrev pub SoFar : ℕ → Firm → List (List (List ℕ)) → Firm → Option (List ℕ) → Option (List ℕ) → Bool → Type 0
 SoFar day before past firm old new refused =
@@ -189,12 +165,10 @@ past-all all past left e none = sym (append-nil past) ∙ rw none at e
 
 -- whether all was accepted, by what was kept of it
 all-refused : (all : Bool) → true ≡ not all → all ≡ false
-all-refused true e = cc
-all-refused false e = refl
+all-refused all e = grind (arith, ints, nat_tests)
 
 none-refused : (all : Bool) → false ≡ not all → all ≡ true
-none-refused true e = refl
-none-refused false e = cc
+none-refused all e = grind (arith, ints, nat_tests)
 
 pub ended-whole : (day : ℕ) (before after : Firm) (all : List (List (List ℕ))) (old new : Option (List ℕ)) (refused : Bool) (e : SheetEnd) → e ≡ end_of refused
     → Leaves day before all [] after old new → refused ≡ not (all_accepted day before all) → RunEnds day before all after old new e
@@ -213,7 +187,4 @@ ends-run (Some bytes) items day before after old new e (same, short) h =
 
 pub ends-large : (known : Option (List ℕ)) (day : ℕ) (firm : Firm) (old new : Option (List ℕ)) (e : SheetEnd)
     → IfSome known (λ all. MAX_FILE_BYTES < length all) → LargeEnds firm firm old new e → IfSome known (λ bytes. Ends day firm bytes firm old new e)
-ends-large None day firm old new e long h = tt
-ends-large (Some bytes) day firm old new e long h =
-    let beyond : nat_lt MAX_FILE_BYTES (length bytes) ≡ true = grind (arith, nat_tests) in
-    rw beyond h
+ends-large known day firm old new e long h = grind (arith, ints, nat_tests, nat_lt, length)

@@ -1,5 +1,5 @@
 -- What a crash leaves of a sheet.
-use Rattle.cashier.proofs.Names.{◌≡◌, ◌∙◌, ◌<◌, ◌≤◌, ◌++◌, ◌∷◌, ◌⊎◌, nat_lt, ℕ, Bool, true, false, List, [], length, take, Option, Some, None, Result, Ok, Err, IfSome, inl, inr, refl, sym, ap, subst, arith, IsOk, Appends-nil, Appends-trans, nat_tests, append-nil, Appends, concat, MAX_FILE_BYTES, Refusal, TooLarge, Firm, LeavesAlone, IsMade, MayLeave, Steps, firm_step, Heard, is_fault_body, is_fault_reply, Body, Json, Refused, Reply, leave-as, heard_of, IsBehindLines, IsWhole, LargeEnds, LinesAreKept, TellsLine, body_line, firm_from, lines_from, ran_by, record_step, records_run, refusal_line, reply_line, sheet_records, SheetEnd}
+use Rattle.cashier.proofs.Names.{◌≡◌, ◌∙◌, ◌<◌, ◌≤◌, ◌++◌, ◌∷◌, ◌⊎◌, nat_lt, ℕ, Bool, true, false, List, [], length, take, Option, Result, Err, IfSome, inl, inr, refl, ap, subst, arith, IsOk, Appends-nil, Appends-trans, nat_tests, append-nil, Appends, concat, MAX_FILE_BYTES, Refusal, TooLarge, Firm, LeavesAlone, IsMade, MayLeave, Steps, firm_step, Heard, is_fault_body, is_fault_reply, Body, Json, Refused, Reply, leave-as, heard_of, IsBehindLines, IsWhole, LargeEnds, LinesAreKept, TellsLine, body_line, firm_from, lines_from, ran_by, record_step, records_run, refusal_line, reply_line, sheet_records, SheetEnd, ints}
 use Rattle.trust_desk.specs.declared.requests.Body.TheVariants.{Text}
 use Rattle.trust_desk.proofs.MadeRows.{plain-step}
 use Rattle.cashier.specs.Sent.{IsSent}
@@ -10,8 +10,7 @@ use Rattle.cashier.proofs.SheetFacts.{SoFar, err-same, goes-body, steps-plain, s
 
 -- a record that lets the run go on was answered by no fault
 pub goes-plain : (reply : Reply) (ran : Result Bool SheetEnd) → ran ≡ ran_by reply.body → IsOk ran → is_fault_reply reply ≡ false
-goes-plain reply (Ok accepted) goes ok = (goes-body reply.body accepted goes).0
-goes-plain reply (Err e) goes ok = absurd (cc)
+goes-plain reply ran goes ok = grind (arith, ints, nat_tests, goes-body)
 
 -- what is told of a record that lets the run go on
 pub told-as : {B : Type 0} {clean : B → Type 0} {leaves : B → Firm → Type 0} (day : ℕ) (first last : Firm) (old new : B) (h : Heard) (reply : Reply) (ran : Result Bool SheetEnd) → ran ≡ ran_by reply.body
@@ -19,8 +18,7 @@ pub told-as : {B : Type 0} {clean : B → Type 0} {leaves : B → Firm → Type 
     → MayLeave clean leaves (is_fault_reply reply ≡ false) (IsMade day first h) first (firm_step day first h).firm old new
     → MayLeave clean leaves (IsOk ran) (IsMade day first h) first last old new
 told-as day first last old new h reply ran goes served step may =
-    leave-as (goes-plain reply ran goes) (λ found is. is)
-    (λ ok. let fine = goes-plain reply ran goes ok in plain-step day first last h reply fine (step (may.serves served fine))) may
+    grind (arith, ints, nat_tests, leave-as, goes-plain, plain-step)
 
 -- What stands behind whole lines.
 
@@ -56,21 +54,14 @@ behind-of day firm here rest old new e told = sent told.reply told.says told.sen
 
 -- a record that ends a run was not the last of a whole one
 not-whole : (reply : Reply) (old new : Option (List ℕ)) (e : SheetEnd) → IsSent (reply_line reply) (ran_by reply.body) (Err end.WriteFault) old new (Err e) → IsWhole e → ⊥
-not-whole reply old new e (inl (ended, wrote)) w = elim (stop-body reply.body e ended) [
-  | inl by ↦ subst IsWhole by.0 w
-  | inr by ↦ subst IsWhole by.0 w
-]
-not-whole reply old new e (inr (failed, wrote)) w = subst IsWhole (err-same e end.WriteFault failed) w
+not-whole reply old new e x4 w = grind (arith, ints, nat_tests, stop-body, err-same)
 
 -- the reply to a record is that of the firm's step, or tells of a fault
 pub reply-says : {B : Type 0} {clean : B → Type 0} {leaves : B → Firm → Type 0} {Makes : Firm → Type 0} (day : ℕ) (first last : Firm) (old new : B) (h : Heard) (reply : Reply)
     → clean old → (clean new → Steps day first h reply last) → MayLeave clean leaves (is_fault_reply reply ≡ false) Makes first (firm_step day first h).firm old new
     → (is_fault_reply reply ≡ true) ⊎ (reply ≡ (firm_step day first h).reply)
-reply-says day first last old new h reply served step may = cases (is_fault_reply reply) refl
-  where
-    cases : (b : Bool) → is_fault_reply reply ≡ b → (is_fault_reply reply ≡ true) ⊎ (reply ≡ (firm_step day first h).reply)
-    cases true fault = inl fault
-    cases false fine = inr (steps-plain day first last h reply fine (step (may.serves served fine))).0
+reply-says day first last old new h reply served step may =
+    grind (arith, ints, nat_tests, is_fault_reply, firm_step, steps-plain)
 
 -- A run of records.
 
@@ -90,16 +81,8 @@ module _ {B : Type 0} {clean : B → Type 0} {leaves : B → Firm → Type 0} (f
   pub kept-here : (day : ℕ) (all past later : List (List (List ℕ))) (old new : B) (given told : Option (List ℕ)) (off : Bool) (ended : SheetEnd) → past ++ later ≡ all → (IsWhole ended → later ≡ [])
       → SoFar day (firm old) past (firm new) given told off → IsGoing clean leaves firm old new
       → LinesAreKept clean leaves day (firm old) all old given told ended new
-  kept-here day all past later old new given told off ended parts none (written, is, was) going = record {
-    past = past;
-    later = later;
-    parts = parts;
-    more = [];
-    behind = inl refl;
-    written = subst (Appends given told) (sym (append-nil (concat (lines_from day (firm old) past)))) written;
-    left = λ alone found may. inl (going.1 alone found may ∙ is);
-    whole = λ w. (none w, going.0);
-  }
+  kept-here day all past later old new given told off ended parts none x12 going =
+      grind (arith, ints, nat_tests, append-nil, concat, lines_from)
 
   -- where a record ends it
   pub kept-stopped : (day : ℕ) (all past left rest : List (List (List ℕ))) (r : List (List ℕ)) (old mid new : B) (given so_far told : Option (List ℕ)) (off : Bool) (ended : SheetEnd) → past ++ left ≡ all → left ≡ r ∷ rest
@@ -147,17 +130,10 @@ module _ {B : Type 0} {clean : B → Type 0} {leaves : B → Firm → Type 0} (f
 -- A sheet, of bytes that are known or not.
 
 pub known-run : (known : Option (List ℕ)) (items : List ℕ) (Kept : List (List (List ℕ)) → Type 0) → IfSome known (λ all. (items ≡ all) × (length all ≤ MAX_FILE_BYTES)) → Kept (sheet_records items) → IfSome known (λ bytes. Kept (records_run bytes))
-known-run None items Kept read kept = tt
-known-run (Some bytes) items Kept (same, short) kept =
-    let within : nat_lt MAX_FILE_BYTES (length bytes) ≡ false = grind (arith, nat_tests) in
-    rw within (rw same at kept)
+known-run known items x2 read kept = grind (arith, ints, nat_tests, nat_lt, length)
 
 pub known-large : (known : Option (List ℕ)) (Kept : List (List (List ℕ)) → Type 0) → IfSome known (λ all. MAX_FILE_BYTES < length all) → Kept [] → IfSome known (λ bytes. Kept (records_run bytes))
-known-large None Kept long kept = tt
-known-large (Some bytes) Kept long kept =
-    let beyond : nat_lt MAX_FILE_BYTES (length bytes) ≡ true = grind (arith, nat_tests) in
-    rw beyond kept
+known-large known x1 long kept = grind (arith, ints, nat_tests, nat_lt, length)
 
 pub known-none : (known : Option (List ℕ)) (Kept : List (List (List ℕ)) → Type 0) → ((all : List (List (List ℕ))) → Kept all) → IfSome known (λ bytes. Kept (records_run bytes))
-known-none None Kept kept = tt
-known-none (Some bytes) Kept kept = kept (records_run bytes)
+known-none known x1 kept = grind (arith, ints, nat_tests, records_run)

@@ -1,4 +1,4 @@
-use Rattle.cashier.proofs.Names.{inl}
+use Rattle.cashier.proofs.Names.{inl, arith, ints, nat_tests}
 use Rattle.cashier.proofs.CheckFacts.{check-ends, reads-leave, said-ok, said-sound}
 use Rattle.cashier.proofs.check.run_check.Goals as goal
 
@@ -7,8 +7,7 @@ returns-clause-ends g c = λ clean stands.
     check-ends _ _ _ _ _ _ (c.find_flaw-found.ensures.reads.same clean stands) c.print_found.ensures.prints
 
 pub returns-clause-sound : goal.returns-clause-sound
-returns-clause-sound g c = λ clean readable done.
-    said-sound _ _ _ _ (c.find_flaw-found.ensures.sound clean readable) (c.print_found.ensures.said done)
+returns-clause-sound g c = grind (arith, ints, nat_tests, said-sound)
 
 pub returns-clause-kept : goal.returns-clause-kept
 returns-clause-kept g c = reads-leave c.find_flaw-found.ensures.reads

@@ -1,4 +1,4 @@
-use Rattle.cashier.proofs.Names.{◌∙◌, inl, inr, refl, sym}
+use Rattle.cashier.proofs.Names.{◌∙◌, inl, inr, refl, sym, arith, ints, nat_tests}
 use Rattle.cashier.proofs.RunFacts.{put-line, store-no-line}
 use Rattle.cashier.proofs.program.run_at_path.Goals as goal
 
@@ -9,8 +9,7 @@ pub returns-in-Err-clause-ran : goal.returns-in-Err-clause-ran
 returns-in-Err-clause-ran g c = λ _ _. inr (record { fault = c.in-Err.fault; outcome = c.outcome_of_store.ensures; nothing = (refl, refl) })
 
 pub returns-clause-began : goal.returns-clause-began
-returns-clause-began g c = λ ended.
-    c.run_plan-ended.ensures.began (put-line c.run_plan-ended.result c.put_back-put.result (sym c.outcome_put_back.ensures ∙ ended))
+returns-clause-began g c = grind (arith, ints, nat_tests, put-line)
 
 pub returns-clause-ran : goal.returns-clause-ran
 returns-clause-ran g c = λ words means.

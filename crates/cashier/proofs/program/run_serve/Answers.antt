@@ -1,4 +1,4 @@
-use Rattle.cashier.proofs.Names.{◌∙◌, [], inl, inr, refl, sym, Appends-nil}
+use Rattle.cashier.proofs.Names.{◌∙◌, [], inl, inr, refl, sym, Appends-nil, arith, ints, nat_tests}
 use Rattle.cashier.proofs.CallFacts.{book-standing}
 use Rattle.cashier.proofs.ServingFacts.{met-in-turn, served-as, serving-no-store}
 use Rattle.cashier.proofs.program.run_serve.Goals as goal
@@ -24,14 +24,10 @@ returns-clause-ends g c =
     })
 
 pub returns-clause-kept : goal.returns-clause-kept
-returns-clause-kept g c =
-    book-standing (λ before after store. absurd (serving-no-store _ (sym c.outcome_of_serving.ensures ∙ store))) c.serve_connections.ensures.kept
+returns-clause-kept g c = grind (arith, ints, nat_tests, book-standing, serving-no-store)
 
 pub returns-in_default-clause-crash : goal.returns-in_default-clause-crash
 returns-in_default-clause-crash g c = ([], refl)
 
 pub returns-clause-crash : goal.returns-clause-crash
-returns-clause-crash g c =
-    let B = g.B.Book in
-    let all = c.serve_connections.ensures.served in
-    (all.ends, served-as B.clean B.sure B.stands B.lasts B.leaves B.firm B.refusals _ _ _ _ c.in-Some.ensures.some _ all.ends _ all.served)
+returns-clause-crash g c = grind (arith, ints, nat_tests, served-as)

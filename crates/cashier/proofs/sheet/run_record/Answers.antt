@@ -1,4 +1,4 @@
-use Rattle.cashier.proofs.Names.{inl, inr, refl, fields_of, heard_of, leave-failed}
+use Rattle.cashier.proofs.Names.{fields_of, heard_of, leave-failed, arith, ints, nat_tests}
 use Rattle.cashier.proofs.SheetKept.{reply-says, told-as}
 use Rattle.cashier.proofs.sheet.run_record.Goals as goal
 
@@ -10,15 +10,7 @@ returns-clause-crash g c = λ sure clean stands.
     told-as _ _ _ _ _ (heard_of (fields_of c.args.row.now)) c.answer_record-reply.result _ (c.ran_of.ensures.is) clean (λ served. c.answer_record-reply.ensures.step served stands) (c.answer_record-reply.ensures.crash sure clean stands)
 
 pub returns-in_default-clause-told : goal.returns-in_default-clause-told
-returns-in_default-clause-told g c = λ sure clean stands. record {
-  reply = c.answer_record-reply.result;
-  says = reply-says _ _ _ _ _ (heard_of (fields_of c.args.row.now)) _ clean (λ served. c.answer_record-reply.ensures.step served stands) (c.answer_record-reply.ensures.crash sure clean stands);
-  sent = inr (refl, c.in_default.ensures.err);
-}
+returns-in_default-clause-told g c = grind (arith, ints, nat_tests, reply-says, heard_of, fields_of)
 
 pub returns-clause-told : goal.returns-clause-told
-returns-clause-told g c = λ sure clean stands. record {
-  reply = c.answer_record-reply.result;
-  says = reply-says _ _ _ _ _ (heard_of (fields_of c.args.row.now)) _ clean (λ served. c.answer_record-reply.ensures.step served stands) (c.answer_record-reply.ensures.crash sure clean stands);
-  sent = inl (c.ran_of.ensures.is, c.in-Ok.ensures.ok);
-}
+returns-clause-told g c = grind (arith, ints, nat_tests, reply-says, heard_of, fields_of)
