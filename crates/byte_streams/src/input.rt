@@ -6,13 +6,16 @@ ghost use Rattle.byte_streams.specs.Streams.{IsTakenBefore};
 
 use std::alloc::Global;
 use std::io::Read;
+use thiserror::Error;
 
 /// Why an input was not read.
-#[derive(Clone, Copy, PartialEq, Eq, Debug)]
+#[derive(Clone, Copy, PartialEq, Eq, Debug, Error)]
 pub enum InputFault {
     /// A read failed. An interrupted read counts as failed.
+    #[error("a read failed")]
     Reader,
     /// Out of memory for the bytes read.
+    #[error("memory ran out")]
     Memory,
 }
 

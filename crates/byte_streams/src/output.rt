@@ -4,9 +4,11 @@ ghost use Rattle.std.specs.Prelude.{ℕ, ◌<◌, length, take, OnOk, OnErr};
 ghost use Rattle.std.specs.Io.KnownBytes.{Appends};
 
 use std::io::Write;
+use thiserror::Error;
 
 /// A write failed, or took no byte.
-#[derive(Clone, Copy, PartialEq, Eq, Debug)]
+#[derive(Clone, Copy, PartialEq, Eq, Debug, Error)]
+#[error("a write failed, or took no byte")]
 pub struct WriteFault;
 
 /// Writes all of `text`, in as many writes as it takes. Any failed write is a fault, even an interrupted one, and so is

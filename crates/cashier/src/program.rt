@@ -31,9 +31,9 @@ use portal_http::{Network, serve_connections, serve_stream};
 use std::alloc::{AllocError, Global};
 use std::io::{ErrorKind, Read, Write};
 use std::rt::Clock;
-use trust_base::Day;
-use trust_desk::{Desk, EarlierLines};
-use trust_store::{Book, PlainBook, Stores};
+use trust_base::{Day, StoreFault};
+use trust_desk::{Desk, EarlierLines, Unread};
+use trust_store::{Book, NoBook, PlainBook, Stores};
 
 /// What a run can use in addition to its standard streams.
 #[derive(Drop)]
@@ -323,6 +323,40 @@ fn lines_before<M: Remarks, S: Stores>(
     }
 }
 
+// Reports why the store failed, if a run over the book at a path ended by that: which row can't be read, or that all of
+// them can, so that it was the disk.
+//
+// The book is opened once more for it, read whole and put back, so that nothing depends on it.
+fn tell_of_failure<M: Remarks, S: Stores>(
+    alloc: Global,
+    remarks: &M,
+    plan: &Plan<'_>,
+    stores: &S,
+    path: &str,
+    ended: Outcome,
+) {
+    if ended != Outcome::StoreFault || plan.is_quiet || !remarks.are_told() {
+        return;
+    }
+    let book = match stores.at(alloc, path) {
+        Ok(book) => book,
+        Err(fault) => return tell_of_no_book(alloc, remarks, plan, stores, path, fault),
+    };
+    let mut desk = Desk::new(book);
+    let found = desk.find_unread(alloc, plan.today);
+    // The book's contents are kept even if this fails.
+    let _ = stores.put_back(desk.into_book());
+    match found {
+        Ok(Unread::Elsewhere) => remarks.tell(&Remark::AllRead(path)),
+        Ok(unread) => remarks.tell(&Remark::Unread(unread)),
+        Err(StoreFault::Store) => {
+            let why = NoBook::Failed;
+            remarks.tell(&Remark::NoBook { path, why })
+        }
+        Err(StoreFault::Memory) => (),
+    }
+}
+
 // Runs a plan over the book at a path, if it is available, and puts the book back.
 fn run_at_path<R: Read, F: Folder, C: Clock + Drop, N: Network, M: Remarks, S: Stores, W: Write>(
     alloc: Global,
@@ -344,16 +378,17 @@ fn run_at_path<R: Read, F: Folder, C: Clock + Drop, N: Network, M: Remarks, S: S
         (N.refuses around.entry.network.now)) (W.contents writer.old) (W.contents writer.new) result
         ⊎ HadNoBook ((reader.new ≡ reader.old) × (writer.new ≡ writer.old)) result }
 {
+    let remarks = around.remarks;
     let found = around.folder.presence(path);
-    let earlier = lines_before(alloc, around.remarks, plan, stores, path, found);
+    let earlier = lines_before(alloc, remarks, plan, stores, path, found);
     let book = match stores.at(alloc, path) {
         Ok(book) => book,
         Err(fault) => {
-            tell_of_no_book(alloc, around.remarks, plan, stores, path, fault);
+            tell_of_no_book(alloc, remarks, plan, stores, path, fault);
             return outcome_of_store(fault);
         }
     };
-    tell_of_new_book(around.remarks, plan, path, found);
+    tell_of_new_book(remarks, plan, path, found);
     let mut desk = Desk::new(book);
     let ended = run_plan(
         alloc,
@@ -365,7 +400,9 @@ fn run_at_path<R: Read, F: Folder, C: Clock + Drop, N: Network, M: Remarks, S: S
         &mut desk,
     );
     let put = stores.put_back(desk.into_book());
-    outcome_put_back(ended, put)
+    let outcome = outcome_put_back(ended, put);
+    tell_of_failure(alloc, remarks, plan, stores, path, outcome);
+    outcome
 }
 
 /// Runs what the words that the program was called with ask for, its name first among them, over the book at the path

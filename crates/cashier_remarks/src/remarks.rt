@@ -105,6 +105,8 @@ pub enum Remark<'a> {
     Flaw(Flaw),
     /// This can't be read in the book's rows.
     Unread(Unread),
+    /// The store of the book at this path failed, but each row of it can be read.
+    AllRead(&'a str),
 }
 
 // Why no book is available, as written after its path.
@@ -159,6 +161,11 @@ impl fmt::Display for Remark<'_> {
             Remark::EarlierEnd(fault) => write_earlier_end(f, *fault),
             Remark::Flaw(flaw) => write_flaw(f, *flaw),
             Remark::Unread(unread) => write_unread(f, unread),
+            Remark::AllRead(path) => write_of_path(
+                f,
+                path,
+                "can be read, each row of it: look whether the disk is full, then run check",
+            ),
             Remark::NewBook(path) => write_of_path(f, path, "was not there: a new book was begun"),
             Remark::EmptyBook(path) => write_of_path(
                 f,

@@ -6,7 +6,6 @@ use Rattle.clap.specs.declared.error.Error.{Error}
 use Rattle.clap.specs.declared.error.kind.ErrorKind.TheVariants as kind
 use Rattle.std.specs.Result.{IsErrAnd}
 use Rattle.command_line.specs.declared.command.CliFault.{CliFault}
-use Rattle.command_line.specs.declared.command.CliFault.TheVariants as faults
 
 pub is_simple_program : is_simple program ≡ true
 unfolding clap_on_literals program options_app today_rule db_rule quiet_rule operand_rule run_apps report_apps

@@ -79,6 +79,10 @@ program =
 abbrev pub words_of : List (Bor (List ℕ)) → List Text
 words_of = map (λ s. s.now)
 
+-- the commands of a table of names and operands
+abbrev pub apps_of : List (Bor (List ℕ) × Bor (List (Bor (List ℕ)))) → List App
+apps_of = map (λ row. command_app row.0.now (words_of row.1.now))
+
 -- the command line accepts the words, with these values and this command
 pub record IsParse (words : List Text) (matches : ArgMatches) : Type 0 where
   pub taken : fault_of program words ≡ []

@@ -1,12 +1,13 @@
 // The plan of a run, given by the words of the command line, and the command line as clap's parser takes it.
 
-ghost use Rattle.std.specs.Prelude.{◌≡◌, ℕ, IfErr, IfOk, IfSome, IfNone, codes, option_and_then, option_map};
+ghost use Rattle.std.specs.Prelude.{◌≡◌, ℕ, false, IfErr, IfOk, IfSome, IfNone, codes, option_and_then, option_map};
 ghost use Rattle.std.specs.Str.{bytes_eq};
-ghost use Rattle.clap.specs.Words.{app_of, first_of, found_of, kind_of, rows_of, with_subcommand};
+ghost use Rattle.clap.specs.Words.{app_of, first_of, found_of, kind_of, rows_of};
+ghost use Rattle.clap.specs.declared.builder.command.Command.TheViews.{out-Command};
 ghost use Rattle.trust_base.specs.Texts.{day_of};
 ghost use Rattle.command_line.specs.Numerals.{IsCount, IsNumberBetween, IsPort};
 ghost use Rattle.command_line.specs.Program.{IsParse, IsRefused, IsTask, LeavesNoPlan, Means};
-ghost use Rattle.command_line.specs.Program.{command_app, db_of, fault_by, quiet_of, words_of};
+ghost use Rattle.command_line.specs.Program.{apps_of, command_app, db_of, fault_by, quiet_of, with_commands, words_of};
 ghost use Rattle.command_line.specs.declared.command.Task.{Task};
 
 use clap::error::{Error, ErrorKind};
@@ -72,12 +73,14 @@ pub struct Plan<'a> {
 }
 
 /// Why words give no plan.
-#[derive(Clone, Copy, PartialEq, Eq, Debug)]
+#[derive(Clone, Copy, PartialEq, Eq, Debug, thiserror::Error)]
 pub enum CliFault {
     /// The words do not fit the command line, or ask for help, or a day, a matter's number, a port or a count in them
     /// is invalid.
+    #[error("the command line is invalid")]
     Line,
     /// Out of memory.
+    #[error("memory ran out")]
     Memory,
 }
 
@@ -183,15 +186,30 @@ fn task_of<'a>(name: &str, values: &ArgMatches<'a>) -> Option<Task<'a>>
     }
 }
 
-// Adds a command with required operands.
-fn with_command<'a>(
+// The commands, each with the names of its operands: those that print no report, and those that print one.
+const COMMANDS: &[(&str, &[&str])] = &[
+    ("sheet", &[]),
+    ("import", &["FILE"]),
+    ("match", &["FILE"]),
+    ("stream", &[]),
+    ("serve", &["PORT", "COUNT"]),
+    ("check", &[]),
+    ("reconcile", &["DAY"]),
+    ("trial", &[]),
+    ("journal", &[]),
+    ("retention", &[]),
+    ("exceptions", &[]),
+    ("ledger", &["MATTER"]),
+];
+
+// Makes a command with required operands.
+fn make_command<'a>(
     alloc: Global,
-    program: Command<'a>,
     name: &'a str,
     operands: &[&'a str],
 ) -> Result<Command<'a>, AllocError>
-    ensures { IfOk result (λ c. app_of c
-        ≡ with_subcommand (app_of program.entry) (command_app name.now (words_of operands.now)).top) }
+    ensures app { IfOk result (λ c. app_of c ≡ command_app name.now (words_of operands.now)) }
+    ensures local { IfOk result (λ c. (out-Command c).has_globals ≡ false) }
 {
     let mut command = Command::new(alloc, name);
     for operand in operands {
@@ -200,7 +218,22 @@ fn with_command<'a>(
             .action(ArgAction::Set);
         command = command.arg(value)?;
     }
-    program.subcommand(command)
+    Ok(command)
+}
+
+// Adds the commands of a table of names and operands, in the table's order.
+fn with_commands<'a>(
+    alloc: Global,
+    mut program: Command<'a>,
+    table: &[(&'a str, &'a [&'a str])],
+) -> Result<Command<'a>, AllocError>
+    ensures { IfOk result (λ c. app_of c ≡ with_commands (app_of program.entry) (apps_of table.now)) }
+{
+    for row in table {
+        let command = make_command(alloc, row.0, row.1)?;
+        program = program.subcommand(command)?;
+    }
+    Ok(program)
 }
 
 /// Parses words, the first of which is the program's name: builds the command line, its options, the commands that
@@ -217,26 +250,14 @@ pub fn parse<'a>(alloc: Global, words: &'a [&'a str]) -> Result<ArgMatches<'a>, 
         .long("today")
         .required(true)
         .action(ArgAction::Set);
+    let with_today = Command::new(alloc, "cashier_cli").arg(today)?;
     let db = Arg::new(alloc, "db").long("db").action(ArgAction::Set);
+    let with_db = with_today.arg(db)?;
     let quiet = Arg::new(alloc, "quiet")
         .long("quiet")
         .action(ArgAction::SetTrue);
-    let with_day = Command::new(alloc, "cashier_cli").arg(today)?;
-    let with_db = with_day.arg(db)?;
     let with_quiet = with_db.arg(quiet)?;
-    let with_sheet = with_command(alloc, with_quiet, "sheet", &[])?;
-    let with_import = with_command(alloc, with_sheet, "import", &["FILE"])?;
-    let with_match = with_command(alloc, with_import, "match", &["FILE"])?;
-    let with_stream = with_command(alloc, with_match, "stream", &[])?;
-    let with_serve = with_command(alloc, with_stream, "serve", &["PORT", "COUNT"])?;
-    let with_check = with_command(alloc, with_serve, "check", &[])?;
-    let with_reconcile = with_command(alloc, with_check, "reconcile", &["DAY"])?;
-    let with_trial = with_command(alloc, with_reconcile, "trial", &[])?;
-    let with_journal = with_command(alloc, with_trial, "journal", &[])?;
-    let with_retention = with_command(alloc, with_journal, "retention", &[])?;
-    let with_exceptions = with_command(alloc, with_retention, "exceptions", &[])?;
-    let with_ledger = with_command(alloc, with_exceptions, "ledger", &["MATTER"])?;
-    let command = with_ledger.subcommand_required(true);
+    let command = with_commands(alloc, with_quiet, COMMANDS)?.subcommand_required(true);
     command.try_get_matches_from(words)
 }
 

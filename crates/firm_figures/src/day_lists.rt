@@ -27,12 +27,23 @@ pub struct EntryLine {
 }
 
 /// The lists that go with the figures: entries by matter and number, and exceptions in their order.
-#[derive(Drop)]
 pub struct ReconciliationLists {
     pub transit: Vec<EntryLine>,
     pub out: Vec<EntryLine>,
     pub early: Vec<EntryLine>,
     pub exceptions: Vec<Line>,
+}
+
+// Written by hand, so that a function that holds the lists makes one call at each exit.
+impl Drop for ReconciliationLists {
+    fn drop(self) {
+        let ReconciliationLists {
+            transit: _transit,
+            out: _out,
+            early: _early,
+            exceptions: _exceptions,
+        } = self;
+    }
 }
 
 /// An issued payment: the day of issue, the negative amount in cents, and the instrument.

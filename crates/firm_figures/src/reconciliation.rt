@@ -26,7 +26,6 @@ use trust_matter::{Entry, Holder};
 /// The reconciliation as of a day: the ten figures, and the lists that go with them. Doubles are payments with the same
 /// instrument as another, sorted by instrument (byte by byte), matter and entry. Openings are those that differ from
 /// the latest closing before them, by day.
-#[derive(Drop)]
 pub struct Reconciliation {
     pub figures: Figures,
     pub lists: ReconciliationLists,
@@ -34,12 +33,23 @@ pub struct Reconciliation {
     pub openings: Vec<OpeningLine>,
 }
 
+// Written by hand, so that a function that holds a reconciliation makes one call at each exit.
+impl Drop for Reconciliation {
+    fn drop(self) {
+        let Reconciliation {
+            figures: _figures,
+            lists: _lists,
+            doubles: _doubles,
+            openings: _openings,
+        } = self;
+    }
+}
+
 /// Builds the reconciliation as of a day from the rows, movements, lines, exceptions and balances of a firm, one at a
 /// time. It stores sums, the lists that it returns, every payment issued on or before the day and not voided by then,
 /// the balances dated on or before the day, and whether the day's records are complete.
 ///
 /// Contracts see it as these.
-#[derive(Drop)]
 pub struct ReconciliationSink {
     day: Day,
     sums: Sums,
@@ -49,6 +59,21 @@ pub struct ReconciliationSink {
     closings: Vec<StatementRow>,
     // Whether a matter that was closed after the day was purged.
     purged: bool,
+}
+
+// Written by hand, so that a function that holds a sink makes one call at each exit.
+impl Drop for ReconciliationSink {
+    fn drop(self) {
+        let ReconciliationSink {
+            day: _day,
+            sums: _sums,
+            lists: _lists,
+            issued: _issued,
+            openings: _openings,
+            closings: _closings,
+            purged: _purged,
+        } = self;
+    }
 }
 
 impl Model for ReconciliationSink {
@@ -182,7 +207,15 @@ impl ReconciliationSink {
         let Some(closing) = self.sums.closing else {
             return Ok(None);
         };
-        let sums = self.sums;
+        let ReconciliationSink {
+            day: _day,
+            sums,
+            lists,
+            issued,
+            openings,
+            closings,
+            purged: _purged,
+        } = self;
         let adjusted = less(added(sums.transit, closing), sums.outstanding);
         let unmatched = less(closing as i128, sums.matched);
         let figures = Figures {
@@ -198,11 +231,11 @@ impl ReconciliationSink {
             // The part of the closing balance that nothing explains.
             gap: less(less(unmatched, sums.own), sums.exceptions),
         };
-        let openings = openings_after(alloc, &self.closings, &self.openings)?;
+        let openings = openings_after(alloc, &closings, &openings)?;
         Ok(Some(Reconciliation {
             figures,
-            lists: self.lists,
-            doubles: doubles_of(alloc, self.issued)?,
+            lists,
+            doubles: doubles_of(alloc, issued)?,
             openings,
         }))
     }

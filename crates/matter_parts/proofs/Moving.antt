@@ -63,9 +63,6 @@ counted k = record { shares = shares_of k.entry; left = k.left; worth = worth k.
 abbrev pub uncounted : Before
 uncounted = record { shares = no_shares; left = 0; worth = pos 0; draw = pos 0 }
 
-pub written-same : (m : Part) (n n' : ℕ) (b b' : Before) (e : Entry) (v : TotalsAfter) → EntryMoved m n b e v → n ≡ n' → b ≡ b' → EntryMoved m n' b' e v
-written-same m n n' b b' e v h p q = grind (arith, ints)
-
 pub append-written : (m : Part) (x : Numbered) (v : TotalsAfter) → AppendMoved m x v → EntryMoved m (m.figures.entries + 1) uncounted x.entry v
 append-written m x v h = record { figures = h.figures; left = omega (arith, ints, h.left); other = h.other }
 

@@ -2,7 +2,7 @@
 
 ghost use Rattle.std.specs.Prelude.{◌≡◌, ◌+◌, ◌-◌, ◌<◌, ◌≤◌, ◌≤ℤ◌, ◌-ℤ◌, ◌+ℤ◌, pos, IfOk, IfErr, IfSome, IfNone, OnErr, None};
 ghost use Rattle.matter_parts.specs.Changes.{AreSmallTotals};
-ghost use Rattle.matter_parts.specs.TotalsAfter.{IsSmallBefore, EntryMoved, EditMoved, IsMade, TheTotalsAfter, movement_kept};
+ghost use Rattle.matter_parts.specs.TotalsAfter.{IsSmallBefore, EntryMoved, EditMoved, IsMade, TheTotalsAfter};
 
 use crate::edit::Edit;
 use crate::figures::Figures;
@@ -144,64 +144,6 @@ fn written(matter: &Matter, entries: u64, before: &Before, new: &Entry) -> Optio
     }
 }
 
-// Returns the totals and what is left after an edit, and its movement in the journal, if any.
-fn edit_moves(matter: &Matter, edit: &Edit) -> Option<(TotalsAfter, Option<EntryMovement>)>
-    ensures small { IfSome result (λ v. AreSmallTotals v.0) }
-    ensures some { IfSome result (λ v. EditMoved matter.now edit.now v.0) }
-    ensures movement { IfSome result (λ v. v.1 ≡ movement_kept matter.now edit.now) }
-    ensures none { IfNone result ((v : TheTotalsAfter) → AreSmallTotals v → EditMoved matter.now edit.now v → ⊥) }
-{
-    let figures = matter.figures();
-    match edit {
-        Edit::Append(new) => {
-            let entries = figures.entries + 1;
-            if new.number.get() as u64 != entries {
-                return None;
-            }
-            let before = Before {
-                shares: no_shares(),
-                left: 0,
-                worth: 0,
-                draw: 0,
-            };
-            let moves = written(matter, entries, &before, &new.entry)?;
-            Some((moves, new.entry.event(new.number, 0)))
-        }
-        Edit::Exchange(new) => {
-            let kept = matter.find(new.number)?;
-            let old = &kept.entry;
-            let before = Before {
-                shares: old.shares(),
-                left: kept.left,
-                worth: old.worth(),
-                draw: old.draw(),
-            };
-            let moves = written(matter, figures.entries, &before, &new.entry)?;
-            // An entry makes at most two movements.
-            let first = old.event(new.number, 0).is_some();
-            let second = old.event(new.number, 1).is_some();
-            let place = first as usize + second as usize;
-            Some((moves, new.entry.event(new.number, place)))
-        }
-        Edit::Clear(_) => {
-            let cleared = TotalsAfter {
-                figures: Figures::none(),
-                left: 0,
-                other: None,
-            };
-            Some((cleared, None))
-        }
-        Edit::Nothing | Edit::Open(_) | Edit::Seat(_) | Edit::Unseat(_) | Edit::Close(_) => {
-            let unwritten = TotalsAfter {
-                figures,
-                left: 0,
-                other: None,
-            };
-            Some((unwritten, None))
-        }
-    }
-}
-
 /// Returns the change that an edit makes, with the matter's last day after it. `Store` if a total or what is left would
 /// go out of range, or if an entry that is needed is not loaded.
 pub fn change_of(matter: &Matter, edit: Edit, last: Day) -> Result<Change, Refusal>
@@ -209,13 +151,60 @@ pub fn change_of(matter: &Matter, edit: Edit, last: Day) -> Result<Change, Refus
     ensures err { IfErr result (λ r. r ≡ Refusal.Store) }
     ensures store { OnErr result ((v : TheTotalsAfter) → AreSmallTotals v → EditMoved matter.now edit v → ⊥) }
 {
-    match edit_moves(matter, &edit) {
-        None => Err(Refusal::Store),
-        Some((moves, movement)) => Ok(Change {
-            edit,
-            last,
-            moves,
-            movement,
-        }),
-    }
+    let figures = matter.figures();
+    let (moves, movement) = match &edit {
+        Edit::Append(new) => {
+            let entries = figures.entries + 1;
+            if new.number.get() as u64 != entries {
+                return Err(Refusal::Store);
+            }
+            let before = Before {
+                shares: no_shares(),
+                left: 0,
+                worth: 0,
+                draw: 0,
+            };
+            let moves = written(matter, entries, &before, &new.entry).ok_or(Refusal::Store)?;
+            (moves, new.entry.event(new.number, 0))
+        }
+        Edit::Exchange(new) => {
+            let kept = matter.find(new.number).ok_or(Refusal::Store)?;
+            let old = &kept.entry;
+            let before = Before {
+                shares: old.shares(),
+                left: kept.left,
+                worth: old.worth(),
+                draw: old.draw(),
+            };
+            let entries = figures.entries;
+            let moves = written(matter, entries, &before, &new.entry).ok_or(Refusal::Store)?;
+            // An entry makes at most two movements.
+            let first = old.event(new.number, 0).is_some();
+            let second = old.event(new.number, 1).is_some();
+            let place = first as usize + second as usize;
+            (moves, new.entry.event(new.number, place))
+        }
+        Edit::Clear(_) => {
+            let cleared = TotalsAfter {
+                figures: Figures::none(),
+                left: 0,
+                other: None,
+            };
+            (cleared, None)
+        }
+        Edit::Nothing | Edit::Open(_) | Edit::Seat(_) | Edit::Unseat(_) | Edit::Close(_) => {
+            let unwritten = TotalsAfter {
+                figures,
+                left: 0,
+                other: None,
+            };
+            (unwritten, None)
+        }
+    };
+    Ok(Change {
+        edit,
+        last,
+        moves,
+        movement,
+    })
 }

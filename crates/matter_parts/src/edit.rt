@@ -18,7 +18,6 @@ pub struct Opening {
 }
 
 /// The one place in the rows that changes.
-#[derive(Drop)]
 pub enum Edit {
     Nothing,
     /// The matter gets a head and its first seat.
@@ -35,4 +34,20 @@ pub enum Edit {
     Append(Numbered),
     /// An entry replaces the one with its number.
     Exchange(Numbered),
+}
+
+// Written by hand, so that a function that holds an edit makes one call at each exit.
+impl Drop for Edit {
+    fn drop(self) {
+        match self {
+            Edit::Nothing => (),
+            Edit::Open(_opening) => (),
+            Edit::Seat(_seat) => (),
+            Edit::Unseat(_person) => (),
+            Edit::Close(_day) => (),
+            Edit::Clear(_day) => (),
+            Edit::Append(_added) => (),
+            Edit::Exchange(_changed) => (),
+        }
+    }
 }

@@ -31,12 +31,14 @@ pub struct Connection<R: Drop, W: Drop> {
 }
 
 /// Why an accept returned no connection.
-#[derive(Clone, Copy, PartialEq, Eq, Debug)]
+#[derive(Clone, Copy, PartialEq, Eq, Debug, thiserror::Error)]
 pub enum AcceptFault {
     /// The connection of one client could not be made: the client had closed it, or its halves could not be made.
     /// Other clients can still be accepted.
+    #[error("the connection of a client could not be made")]
     Aborted,
     /// The network refused the accept. No client is accepted any more.
+    #[error("the network refused an accept")]
     Network,
 }
 
@@ -150,7 +152,11 @@ const MESSAGE_SECONDS: u64 = 60;
 // How many seconds the client may take for the head or the body of an answer, from the first byte offered.
 const TEXT_SECONDS: u64 = 60;
 
-// What a connection is doing.
+// What a connection is doing, kept in a cell that its two halves share.
+//
+// The halves alone decide where a message or an answer ends. A read after a write starts the silence between two
+// messages, a write after a read ends a message, and a write that was accepted whole ends the head or the body of an
+// answer. So the time between two calls of the halves, in which the desk works, is not counted.
 #[derive(Clone, Copy)]
 enum Phase {
     // Everything was written, and no byte has come since.
@@ -174,35 +180,13 @@ fn time_left(clock: &impl Clock, since: Instant, span: Duration) -> io::Result<D
     }
 }
 
-/// The pace of a connection, shared by its two halves: what it is doing, and since when.
-///
-/// The halves alone decide where a message or an answer ends. A read after a write starts the silence between two
-/// messages, a write after a read ends a message, and a write that was accepted whole ends the head or the body of an
-/// answer. So the time between two calls of the halves, in which the desk works, is not counted.
+// The reading half of a connection. Each read may take what is left of the silence between messages, or of the
+// message's time.
 #[derive(Drop)]
-pub struct Pace<C> {
-    clock: C,
-    phase: Cell<Phase>,
-}
-
-impl<C: Clock> Pace<C> {
-    /// The pace of a new connection.
-    pub fn new(clock: C) -> Pace<C> {
-        Pace {
-            clock,
-            phase: Cell::new(Phase::Between),
-        }
-    }
-}
-
-/// The reading half of a connection. Each read may take what is left of the silence between messages, or of the
-/// message's time.
-#[derive(Drop)]
-pub struct PacedReader<'p, 'h, C, R> {
-    /// The pace of the connection.
-    pub pace: &'p Pace<C>,
-    /// What is read.
-    pub half: &'h mut R,
+struct PacedReader<'p, 'h, C, R> {
+    clock: &'p C,
+    phase: &'p Cell<Phase>,
+    half: &'h mut R,
 }
 
 impl<C: Clock, R: Read + OpenStream> Read for PacedReader<'_, '_, C, R> {
@@ -211,37 +195,35 @@ impl<C: Clock, R: Read + OpenStream> Read for PacedReader<'_, '_, C, R> {
     // Fails with `TimedOut` if the time for the message is over. Also fails if the clock, which is asked after the first
     // byte of a message, cannot be read.
     fn read(&mut self, buf: &mut [u8]) -> io::Result<usize> {
-        let pace = self.pace;
         let whole = Duration::from_secs(MESSAGE_SECONDS);
-        let left = match pace.phase.get() {
+        let left = match self.phase.get() {
             Phase::Between | Phase::Text(_) => {
-                pace.phase.set(Phase::Between);
+                self.phase.set(Phase::Between);
                 Duration::from_secs(SILENCE_SECONDS)
             }
             Phase::Begun => {
-                pace.phase.set(Phase::Message(Instant::now(&pace.clock)?));
+                self.phase.set(Phase::Message(Instant::now(self.clock)?));
                 whole
             }
-            Phase::Message(since) => time_left(&pace.clock, since, whole)?,
+            Phase::Message(since) => time_left(self.clock, since, whole)?,
         };
         prove!(left.as_nanos() <= MESSAGE_SECONDS as u128 * 1_000_000_000);
         self.half.set_read_timeout(Some(left))?;
         let count = self.half.read(buf)?;
-        if let Phase::Between = pace.phase.get() {
-            pace.phase.set(Phase::Begun);
+        if let Phase::Between = self.phase.get() {
+            self.phase.set(Phase::Begun);
         }
         Ok(count)
     }
 }
 
-/// The writing half of a connection. Each write may take what is left of the time for the text being written. What a
-/// write leaves of a text has to be offered to the next write.
+// The writing half of a connection. Each write may take what is left of the time for the text being written. What a
+// write leaves of a text has to be offered to the next write.
 #[derive(Drop)]
-pub struct PacedWriter<'p, C, W> {
-    /// The pace of the connection.
-    pub pace: &'p Pace<C>,
-    /// What is written.
-    pub half: W,
+struct PacedWriter<'p, C, W> {
+    clock: &'p C,
+    phase: &'p Cell<Phase>,
+    half: W,
 }
 
 impl<C: Clock, W: Write + OpenStream> Write for PacedWriter<'_, C, W> {
@@ -249,12 +231,11 @@ impl<C: Clock, W: Write + OpenStream> Write for PacedWriter<'_, C, W> {
 
     // Fails with `TimedOut` if the time for the text is over. Also fails if the clock cannot be read.
     fn write(&mut self, buf: &[u8]) -> io::Result<usize> {
-        let pace = self.pace;
         let whole = Duration::from_secs(TEXT_SECONDS);
-        let left = match pace.phase.get() {
-            Phase::Text(since) => time_left(&pace.clock, since, whole)?,
+        let left = match self.phase.get() {
+            Phase::Text(since) => time_left(self.clock, since, whole)?,
             Phase::Between | Phase::Begun | Phase::Message(_) => {
-                pace.phase.set(Phase::Text(Instant::now(&pace.clock)?));
+                self.phase.set(Phase::Text(Instant::now(self.clock)?));
                 whole
             }
         };
@@ -262,7 +243,7 @@ impl<C: Clock, W: Write + OpenStream> Write for PacedWriter<'_, C, W> {
         self.half.set_write_timeout(Some(left))?;
         let taken = self.half.write(buf)?;
         if taken == buf.len() {
-            pace.phase.set(Phase::Between);
+            self.phase.set(Phase::Between);
         }
         Ok(taken)
     }
@@ -322,29 +303,6 @@ fn close<C: Clock, R: Read + OpenStream, W: OpenStream>(
     Ok(())
 }
 
-// Serves a stream at this pace, and returns its writer.
-fn serve_paced<C: Clock + Drop, R: Read + OpenStream + Drop, W: Write + OpenStream + Drop, B: Book>(
-    alloc: Global,
-    pace: &Pace<C>,
-    reader: &mut R,
-    writer: W,
-    desk: &mut Desk<B>,
-    routes: &Option<Routes>,
-    day: Day,
-) -> Answered<W>
-    ensures { Served B.clean B.sure B.stands B.lasts B.leaves B.firm B.refusals day (R.remaining reader.old)
-        (W.contents writer) desk.old result.end (W.contents result.writer) desk.new }
-{
-    let messages = PacedReader { pace, half: reader };
-    let mut answers = PacedWriter { pace, half: writer };
-    let end = match routes {
-        Some(routes) => serve_routes(alloc, messages, &mut answers, desk, routes, day),
-        None => serve_stream(alloc, messages, &mut answers, desk, day),
-    };
-    let PacedWriter { pace: _, half } = answers;
-    Answered { end, writer: half }
-}
-
 /// Serves the stream of one connection, and closes it.
 ///
 /// The client may be silent for 10 seconds between messages. The bytes of a message may take 60 seconds from the
@@ -371,22 +329,29 @@ pub fn serve_connection<
         (W.contents client.writer) desk.old result.end (W.contents result.writer) desk.new }
 {
     let Connection { mut reader, writer } = client;
-    let answered = serve_paced(
-        alloc,
-        &Pace::new(clock),
-        &mut reader,
-        writer,
-        desk,
-        routes,
-        day,
-    );
-    match answered.end {
+    let phase = Cell::new(Phase::Between);
+    let messages = PacedReader {
+        clock,
+        phase: &phase,
+        half: &mut reader,
+    };
+    let mut answers = PacedWriter {
+        clock,
+        phase: &phase,
+        half: writer,
+    };
+    let end = match routes {
+        Some(routes) => serve_routes(alloc, messages, &mut answers, desk, routes, day),
+        None => serve_stream(alloc, messages, &mut answers, desk, day),
+    };
+    let PacedWriter { half: writer, .. } = answers;
+    match end {
         StreamEnd::BadFraming | StreamEnd::Limit | StreamEnd::NoMemory => {
-            let _ = close(clock, &mut reader, &answered.writer);
+            let _ = close(clock, &mut reader, &writer);
         }
         StreamEnd::Ended | StreamEnd::ReadFault | StreamEnd::WriteFault => (),
     }
-    answered
+    Answered { end, writer }
 }
 
 /// Serves `count` clients one after the other, each over the book that the one before it left. Writes a line for

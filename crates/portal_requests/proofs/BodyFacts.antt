@@ -1,5 +1,8 @@
 -- The object that a body is.
-use Rattle.portal_requests.proofs.Names.{◌≡◌, ℕ, Bool, true, false, cond, List, Option, Some, None, refl, sym, ap, ◌∙◌, option_and_then, IsUtf8, is_utf8, IsUtf8-from_is_utf8, is_utf8-from_IsUtf8, body_in, is_object, object_with, text_in}
+use Rattle.portal_requests.proofs.Names.{◌≡◌, ℕ, Bool, true, false, cond, List, [], ◌∷◌, Option, Some, None, refl, sym, ap, ◌∙◌, option_and_then, IsUtf8, is_utf8, IsUtf8-from_is_utf8, is_utf8-from_IsUtf8, bytes_eq, body_in, is_key, is_object, object_with, text_in, texts, arith, ints, nat_tests}
+use Rattle.std.specs.Borrow.{Bor}
+use Rattle.std.specs.List.{list_any}
+use Rattle.std.proofs.lemmas.Slice.Eq.{bytes_eq-Decides}
 use Rattle.serde_json.specs.Data.{Data}
 use Rattle.serde_json.specs.Read.{read as read_text}
 
@@ -23,3 +26,11 @@ object-yes keys d is = sym (ap (λ (b : Bool). cond b (Some d) None) is)
 
 pub object-other : (keys : List (List ℕ)) (d : Data) → is_object keys d ≡ false → None ≡ object_with keys d
 object-other keys d is = sym (ap (λ (b : Bool). cond b (Some d) None) is)
+
+eq-swap : (a b : List ℕ) → bytes_eq a b ≡ bytes_eq b a
+eq-swap a b = grind (arith, ints, nat_tests, bytes_eq-Decides a b, bytes_eq-Decides b a)
+
+-- whether a key is among some texts
+pub key-among : (keys : List (Bor (List ℕ))) (key : List ℕ) → list_any (λ k. bytes_eq k.now key) keys ≡ is_key (texts keys) key
+key-among [] key = refl
+key-among (k ∷ keys) key = grind (arith, ints, nat_tests, eq-swap k.now key, key-among keys key)

@@ -2,8 +2,6 @@
 use Rattle.portal_requests.proofs.Names.{◌≡◌, ◌∙◌, ◌<◌, ℕ, true, false, List, Option, Some, None, Result, Ok, Err, refl, sym, ap, subst, arith, bytes_eq, day_of, Line, Field, Refusal, BadField, BadMethod, NoCaller, NoRoute, Ask, Caller, Request, Message, path_of, ReportPlace, Place, entry_ask, matter_ask, body_in, caller_of, dismissing, line_in, line_keys, day_part, entry_part, named_in, method_of, as_of, asked_at, called, of_matter, reported, request, routed, place_of, ints, nat_tests}
 use Rattle.std.proofs.Common.{◌⊎◌, IfSome}
 use Rattle.trust_base.specs.Refusals.{number_of}
-use Rattle.trust_base.specs.declared.refusal.Field.TheVariants as field
-use Rattle.portal_requests.specs.declared.routes.ReportPlace.TheVariants as report
 use Rattle.portal_requests.specs.declared.routes.Place.TheVariants as place
 use Rattle.portal_requests.specs.LeastRefusal.{LeastRefusal, RefusesAt}
 

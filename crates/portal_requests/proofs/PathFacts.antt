@@ -1,12 +1,22 @@
--- Which matter a message names, by its path.
+-- The parts of a path, and which matter a message names by its path.
 use Rattle.portal_requests.proofs.Names.{◌≡◌, ◌∙◌, ℕ, Bool, true, false, cond, List, [], ◌∷◌, Option, Some, None, Result, Ok, Err, refl, sym, ap, subst, arith, codes, nat_le, option_map, take, unwrap_or, ⊤, bytes_eq, IsText, Scan, parse_route, RouteOf, route_from, RowsOf, first, InsertError, Line, day_of, matter_of, Field, BadMethod, Ask, Caller, is_the, names, Message, path_of, ReportPlace, Place, entry_ask, matter_ask, body_in, caller_of, dismissing, dismissing_in, line_in, line_keys, day_part, entry_part, has_matter, named_in, method_of, as_of, asked_at, called, heard_as, heard_of, of_matter, placed, reported, request, routed, with_statement, place_of, TABLE, route_rows, row_in, the_routes, matchit_on_literals, ints, nat_tests}
+use Rattle.std.specs.Borrow.{Bor}
 use Rattle.std.specs.Prelude.{drop, length}
-use Rattle.portal_requests.specs.declared.routes.ReportPlace.TheVariants as report
+use Rattle.std.specs.Slice.{IsGetRangeResult}
+use Rattle.std.proofs.lemmas.List.{drop_all, length-drop, take_all}
 use Rattle.portal_requests.specs.declared.routes.StatementPlace.{StatementPlace}
-use Rattle.portal_requests.specs.declared.routes.StatementPlace.TheVariants as statement
 use Rattle.portal_requests.specs.declared.routes.Place.TheVariants as place
 use Rattle.portal_requests.specs.NamedByPath.{NamedByPath}
 use Rattle.portal_requests.proofs.Literals.{AllRows, Starts, first-starts, placed-rows}
+
+-- what is behind the first bytes, or nothing
+part-behind : (path : List ℕ) (n : ℕ) (got : Option (Bor (List ℕ))) (nothing : Bor (List ℕ)) → nothing.now ≡ [] → IsGetRangeResult path n (length path) got → (unwrap_or got nothing).now ≡ drop n path
+part-behind path n got nothing none is = grind (arith, ints, nat_tests, drop_all, length-drop n path, take_all (length path) (drop n path), take_all)
+
+-- the day that is read there
+pub day-behind : (path : List ℕ) (got : Option (Bor (List ℕ))) (nothing part : Bor (List ℕ)) (day : Option ℕ) → day ≡ day_of part.now → part ≡ unwrap_or got nothing → nothing.now ≡ []
+    → IsGetRangeResult path 21 (length path) got → day ≡ day_of (day_part path)
+day-behind path got nothing part day read same none is = read ∙ ap day_of (ap (λ b. b.now) same ∙ part-behind path 21 got nothing none is)
 
 -- Paths of the firm.
 

@@ -1,15 +1,15 @@
 // The request of a message: what its path names, who sends it, and what its body asks.
 
-ghost use Rattle.std.specs.Prelude.{◌≡◌, ◌⊎◌, Err, IfErr, IfOk, None, Ok, Some, drop};
+ghost use Rattle.std.specs.Prelude.{◌≡◌, ◌⊎◌, Err, IfErr, IfOk, None, Ok, Some};
 ghost use Rattle.std.specs.Option.{option_copied};
-ghost use Rattle.serde_json.specs.View.{members_view, view};
+ghost use Rattle.serde_json.specs.View.{view};
 ghost use Rattle.trust_matter.specs.declared.ask.Ask.{Ask};
 ghost use Rattle.trust_matter.specs.declared.claim.SplitAsk.{SplitAsk};
 ghost use Rattle.ask_fields.specs.Fields.{Reads};
 ghost use Rattle.portal_requests.specs.Answers.{Answers};
 ghost use Rattle.portal_requests.specs.Asked.{claiming_in, depositing_in, dropping_in, earning_in, entry_ask, matter_ask, opening_in};
 ghost use Rattle.portal_requests.specs.Asked.{proposing_in, seating_in, splitting_in};
-ghost use Rattle.portal_requests.specs.Bodies.{body_in, has_keys, is_key, is_object, optional_text_at, text_at, text_in, texts};
+ghost use Rattle.portal_requests.specs.Bodies.{body_in, is_object, optional_text_at, text_at, text_in, texts};
 ghost use Rattle.portal_requests.specs.Callers.{caller_of};
 ghost use Rattle.portal_requests.specs.Dismissals.{dismissing_in};
 ghost use Rattle.portal_requests.specs.Paths.{behind_slash, named_in, up_to_slash};
@@ -21,7 +21,7 @@ use ask_fields::{
     read_opening, read_proposing, read_seating, read_split,
 };
 use portal_messages::{Message, path};
-use serde_json::{Map, Value};
+use serde_json::Value;
 use statement_csv::line_of_texts;
 use std::alloc::{AllocError, Global};
 use trust_base::{Day, EntryNo, Field, MatterNo, OwnedBytes, PersonId, Refusal};
@@ -43,38 +43,17 @@ pub fn named_matter(path: &[u8]) -> Option<MatterNo>
     MatterNo::read(&path[9..15])
 }
 
-// The bytes before the first slash.
-fn up_to_slash(bytes: &[u8]) -> &[u8]
-    ensures { result.now ≡ up_to_slash bytes.now }
+// The bytes before the first slash, and those after it.
+fn split_at_slash(bytes: &[u8]) -> (&[u8], &[u8])
+    ensures before { result.0.now ≡ up_to_slash bytes.now }
+    ensures behind { result.1.now ≡ behind_slash bytes.now }
 {
     for i in 0..bytes.len() {
         if bytes[i] == b'/' {
-            return &bytes[..i];
+            return (&bytes[..i], &bytes[i + 1..]);
         }
     }
-    bytes
-}
-
-// The bytes after the first slash.
-fn behind_slash(bytes: &[u8]) -> &[u8]
-    ensures { result.now ≡ behind_slash bytes.now }
-{
-    for i in 0..bytes.len() {
-        if bytes[i] == b'/' {
-            return bytes.split_at(i + 1).1;
-        }
-    }
-    &[]
-}
-
-// The bytes after the first `n`; empty if there are none.
-fn behind(bytes: &[u8], n: usize) -> &[u8]
-    ensures { result.now ≡ drop n bytes.now }
-{
-    if bytes.len() < n {
-        return &[];
-    }
-    bytes.split_at(n).1
+    (bytes, &[])
 }
 
 // Returns the caller, if there is exactly one value and it names one. Fails if memory runs out.
@@ -94,37 +73,20 @@ fn read_caller(alloc: Global, values: &[OwnedBytes]) -> Result<Option<Caller>, A
     }
 }
 
-fn is_key(keys: &[&str], key: &str) -> bool
-    ensures { result ≡ is_key (texts keys.now) key.now }
-{
-    for known in keys {
-        if key == *known {
-            return true;
-        }
-    }
-    false
-}
-
-// Whether each key of the object is one of these.
-fn has_keys(keys: &[&str], members: &Map<String, Value>) -> bool
-    ensures { result ≡ has_keys (texts keys.now) (members_view members.now.entries) }
-{
-    for (key, _member) in members.iter() {
-        if !is_key(keys, key.as_str()) {
-            return false;
-        }
-    }
-    true
-}
-
 // Whether a value is an object with no other keys than these.
 fn is_object(keys: &[&str], value: &Value) -> bool
     ensures { result ≡ is_object (texts keys.now) (view value.now) }
 {
-    match value.as_object() {
-        Some(members) => has_keys(keys, members),
-        None => false,
+    let Some(members) = value.as_object() else {
+        return false;
+    };
+    for (key, _) in members.iter() {
+        // Lent again, since a key does not live as long as the list.
+        if !(&*keys).contains(&key.as_str()) {
+            return false;
+        }
     }
+    true
 }
 
 // Returns the bytes to parse; for an empty body, those of an empty object.
@@ -354,7 +316,7 @@ fn read_report_at(place: ReportPlace, caller: Caller, path: &[u8]) -> Result<Req
         ReportPlace::TrialBalance => Ok(Request::Trial(caller)),
         ReportPlace::Journal => Ok(Request::Journal(caller)),
         // The day comes after `/firm/reconciliation/`.
-        ReportPlace::Reconciliation => match Day::read(behind(path, 21)) {
+        ReportPlace::Reconciliation => match Day::read(path.get(21..).unwrap_or(&[])) {
             Some(day) => Ok(Request::Reconcile(caller, day)),
             None => Err(Refusal::BadField(Field::Day)),
         },
@@ -403,8 +365,11 @@ pub fn request_of(alloc: Global, routes: &Routes, message: &Message) -> Result<R
             let Some(no) = named_matter(path) else {
                 return Err(Refusal::BadField(Field::Matter));
             };
-            // After `/matters/`, the matter and `/entries/`.
-            let entry = up_to_slash(behind_slash(behind_slash(behind(path, 9))));
+            // The entry comes after `/matters/`, the matter and `entries`.
+            let (_, rest) = path.split_at(9);
+            let (_, rest) = split_at_slash(rest);
+            let (_, rest) = split_at_slash(rest);
+            let (entry, _) = split_at_slash(rest);
             match read_entry_ask(alloc, place, entry, body) {
                 Ok(ask) => Ok(Request::Matter { no, caller, ask }),
                 Err(why) => Err(why),

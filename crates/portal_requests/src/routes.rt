@@ -1,10 +1,9 @@
 // The routes, and where they lead.
 
-ghost use Rattle.std.specs.Prelude.{◌≡◌, [], IfErr, IfOk, OnOk};
-ghost use Rattle.matchit.specs.Route.{parse_route};
+ghost use Rattle.std.specs.Prelude.{◌≡◌, IfErr};
 ghost use Rattle.portal_requests.specs.Places.{method_of};
 ghost use Rattle.portal_requests.specs.Routing.{place_of};
-ghost use Rattle.portal_requests.specs.Table.{AreTaken, IsTaken, row_in, route_rows, rows_of, the_routes};
+ghost use Rattle.portal_requests.specs.Table.{the_routes};
 
 use matchit::{InsertError, Router};
 use std::alloc::Global;
@@ -84,6 +83,89 @@ pub(crate) fn method(place: Place) -> &'static [u8]
     }
 }
 
+// The paths that have a route, and the place to which each leads.
+const TABLE: &[(&str, Place)] = &[
+    ("/matters/{m}", Place::Matter(MatterPlace::Show)),
+    ("/matters/{m}/open", Place::Matter(MatterPlace::Open)),
+    ("/matters/{m}/seats", Place::Matter(MatterPlace::AddSeat)),
+    (
+        "/matters/{m}/seats/drop",
+        Place::Matter(MatterPlace::DropSeat),
+    ),
+    ("/matters/{m}/close", Place::Matter(MatterPlace::Close)),
+    ("/matters/{m}/purge", Place::Matter(MatterPlace::Purge)),
+    (
+        "/matters/{m}/accounting",
+        Place::Matter(MatterPlace::Accounting),
+    ),
+    ("/matters/{m}/entries/{e}", Place::Entry(EntryPlace::Show)),
+    (
+        "/matters/{m}/entries/{e}/deposit",
+        Place::Entry(EntryPlace::Deposit),
+    ),
+    (
+        "/matters/{m}/entries/{e}/cancel",
+        Place::Entry(EntryPlace::Cancel),
+    ),
+    (
+        "/matters/{m}/entries/{e}/propose",
+        Place::Entry(EntryPlace::Propose),
+    ),
+    (
+        "/matters/{m}/entries/{e}/approve",
+        Place::Entry(EntryPlace::Approve),
+    ),
+    (
+        "/matters/{m}/entries/{e}/decline",
+        Place::Entry(EntryPlace::Decline),
+    ),
+    (
+        "/matters/{m}/entries/{e}/void",
+        Place::Entry(EntryPlace::Void),
+    ),
+    (
+        "/matters/{m}/entries/{e}/fee",
+        Place::Entry(EntryPlace::Fee),
+    ),
+    (
+        "/matters/{m}/entries/{e}/claim",
+        Place::Entry(EntryPlace::Claim),
+    ),
+    (
+        "/matters/{m}/entries/{e}/offer",
+        Place::Entry(EntryPlace::Offer),
+    ),
+    (
+        "/matters/{m}/entries/{e}/accept",
+        Place::Entry(EntryPlace::Accept),
+    ),
+    (
+        "/matters/{m}/entries/{e}/award",
+        Place::Entry(EntryPlace::Award),
+    ),
+    ("/firm/statements", Place::Statement(StatementPlace::Import)),
+    (
+        "/firm/statements/match",
+        Place::Statement(StatementPlace::Match),
+    ),
+    (
+        "/firm/statements/unmatched",
+        Place::Statement(StatementPlace::Unmatched),
+    ),
+    ("/firm/exceptions", Place::Report(ReportPlace::Exceptions)),
+    ("/firm/exceptions/dismiss", Place::Dismissal),
+    (
+        "/firm/trial-balance",
+        Place::Report(ReportPlace::TrialBalance),
+    ),
+    ("/firm/journal", Place::Report(ReportPlace::Journal)),
+    (
+        "/firm/reconciliation/{day}",
+        Place::Report(ReportPlace::Reconciliation),
+    ),
+    ("/firm/retention", Place::Report(ReportPlace::Retention)),
+];
+
 /// The routes of the portal: paths, and the place to which each leads.
 #[derive(Drop)]
 pub struct Routes {
@@ -104,113 +186,15 @@ impl Model for Routes {
     ghost invariant = { λ r. r.router ≡ the_routes };
 }
 
-fn insert_route(router: &mut Router<Place>, text: &str, place: Place) -> Result<(), InsertError>
-    ensures placed { OnOk result (router.new ≡ row_in (parse_route text.now) place router.old) }
-    ensures memory { IsTaken (parse_route text.now) router.old → IfErr result (λ e. e ≡ InsertError.OutOfMemory) }
-{
-    router.insert(text, place)
-}
-
-// Builds a router of a table's routes.
-fn router_of(alloc: Global, table: &[(&'static str, Place)]) -> Result<Router<Place>, InsertError>
-    ensures rows { IfOk result (λ r. r ≡ route_rows (rows_of table.now) []) }
-    ensures memory { AreTaken (rows_of table.now) [] → IfErr result (λ e. e ≡ InsertError.OutOfMemory) }
-{
-    let mut router = Router::new(alloc);
-    for row in table {
-        insert_route(&mut router, row.0, row.1)?;
-    }
-    Ok(router)
-}
-
 impl Routes {
     /// Builds the router. Fails only if memory runs out: each path is valid, and no two of them conflict.
-    #[tactic(auto, unfolding(crate::specs::Table::the_routes, crate::specs::Table::TABLE))]
     pub fn new(alloc: Global) -> Result<Routes, InsertError>
         ensures memory { IfErr result (λ e. e ≡ InsertError.OutOfMemory) }
     {
-        let table = [
-            ("/matters/{m}", Place::Matter(MatterPlace::Show)),
-            ("/matters/{m}/open", Place::Matter(MatterPlace::Open)),
-            ("/matters/{m}/seats", Place::Matter(MatterPlace::AddSeat)),
-            (
-                "/matters/{m}/seats/drop",
-                Place::Matter(MatterPlace::DropSeat),
-            ),
-            ("/matters/{m}/close", Place::Matter(MatterPlace::Close)),
-            ("/matters/{m}/purge", Place::Matter(MatterPlace::Purge)),
-            (
-                "/matters/{m}/accounting",
-                Place::Matter(MatterPlace::Accounting),
-            ),
-            ("/matters/{m}/entries/{e}", Place::Entry(EntryPlace::Show)),
-            (
-                "/matters/{m}/entries/{e}/deposit",
-                Place::Entry(EntryPlace::Deposit),
-            ),
-            (
-                "/matters/{m}/entries/{e}/cancel",
-                Place::Entry(EntryPlace::Cancel),
-            ),
-            (
-                "/matters/{m}/entries/{e}/propose",
-                Place::Entry(EntryPlace::Propose),
-            ),
-            (
-                "/matters/{m}/entries/{e}/approve",
-                Place::Entry(EntryPlace::Approve),
-            ),
-            (
-                "/matters/{m}/entries/{e}/decline",
-                Place::Entry(EntryPlace::Decline),
-            ),
-            (
-                "/matters/{m}/entries/{e}/void",
-                Place::Entry(EntryPlace::Void),
-            ),
-            (
-                "/matters/{m}/entries/{e}/fee",
-                Place::Entry(EntryPlace::Fee),
-            ),
-            (
-                "/matters/{m}/entries/{e}/claim",
-                Place::Entry(EntryPlace::Claim),
-            ),
-            (
-                "/matters/{m}/entries/{e}/offer",
-                Place::Entry(EntryPlace::Offer),
-            ),
-            (
-                "/matters/{m}/entries/{e}/accept",
-                Place::Entry(EntryPlace::Accept),
-            ),
-            (
-                "/matters/{m}/entries/{e}/award",
-                Place::Entry(EntryPlace::Award),
-            ),
-            ("/firm/statements", Place::Statement(StatementPlace::Import)),
-            (
-                "/firm/statements/match",
-                Place::Statement(StatementPlace::Match),
-            ),
-            (
-                "/firm/statements/unmatched",
-                Place::Statement(StatementPlace::Unmatched),
-            ),
-            ("/firm/exceptions", Place::Report(ReportPlace::Exceptions)),
-            ("/firm/exceptions/dismiss", Place::Dismissal),
-            (
-                "/firm/trial-balance",
-                Place::Report(ReportPlace::TrialBalance),
-            ),
-            ("/firm/journal", Place::Report(ReportPlace::Journal)),
-            (
-                "/firm/reconciliation/{day}",
-                Place::Report(ReportPlace::Reconciliation),
-            ),
-            ("/firm/retention", Place::Report(ReportPlace::Retention)),
-        ];
-        let router = router_of(alloc, &table)?;
+        let mut router = Router::new(alloc);
+        for &(path, place) in TABLE {
+            router.insert(path, place)?;
+        }
         Ok(Routes { router })
     }
 

@@ -21,13 +21,16 @@ use sqlite::{Alter, Connection, Error, ErrorCode, Row};
 use sqlite_value::value::ValueRef;
 
 /// Why a book cannot be made in a database, or taken from one.
-#[derive(Clone, Copy, Debug, PartialEq, Eq)]
+#[derive(Clone, Copy, Debug, PartialEq, Eq, thiserror::Error)]
 pub enum OpenFault {
     /// The database failed.
+    #[error("the database failed")]
     Store,
     /// Out of memory.
+    #[error("memory ran out")]
     Memory,
     /// The database is empty or holds something else.
+    #[error("the database holds no book")]
     NotABook,
 }
 

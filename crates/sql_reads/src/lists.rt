@@ -2,8 +2,7 @@
 // matched nothing, and the balances that the bank reported. Each is passed to a sink one row at a time; the ledger is
 // also read at once, and a single balance by its kind and day.
 
-ghost use Rattle.std.specs.Prelude.{◌≡◌, ◌≢◌, ℤ, false, List, [], ◌∷◌, ◌++◌, map, IfOk, IfErr, OnOk, FitsSigned};
-ghost use Rattle.std.specs.Int.{w64};
+ghost use Rattle.std.specs.Prelude.{◌≡◌, ◌≢◌, ℤ, false, List, [], ◌∷◌, ◌++◌, map, IfOk, IfErr, OnOk};
 ghost use Rattle.sqlite_value.specs.declared.value.Value.TheVariants.{Int};
 ghost use Rattle.sqlite_value.specs.Order.{column};
 ghost use Rattle.sqlite.specs.Held.{state};
@@ -16,16 +15,14 @@ ghost use Rattle.sql_schema.specs.declared.layout.Layout.{Layout};
 ghost use Rattle.sql_tables.specs.Reading.{LeavesAll};
 ghost use Rattle.sql_tables.specs.Rows.{FirmLine as LineRow, firm_line_values};
 ghost use Rattle.sql_tables.specs.Standing.{Stands};
-ghost use Rattle.sql_rows.specs.Columns.{IsOwner};
 ghost use Rattle.sql_rows.specs.Meaning.{firm_line_from};
 ghost use Rattle.sql_rows.specs.Standing.{StandsSound, firm_in};
-ghost use Rattle.sql_reads.specs.Shown.{firm_line_at, movement_at};
 
 use crate::columns::{balance_in, exception_in, firm_line_in, movement_in, number_at};
 use crate::query::{RowTaking, hand_rows, rows_of};
 use firm_rows::{
-    BalanceKind, BalanceSink, ExceptionSink, FirmLedger, FirmLine, FirmLineSink, MAX_OWN, Movement,
-    MovementSink, Owner,
+    BalanceKind, BalanceSink, ExceptionSink, FirmLedger, FirmLine, FirmLineSink, MAX_OWN,
+    MovementSink,
 };
 use sql_rows::{balance_of, exception_of, firm_line_of, kind_column, movement_of};
 use sqlite::{Alter, Connection, Row};
@@ -35,34 +32,6 @@ use trust_base::{BankAmount, Day, StoreFault};
 
 // The lines of the firm's own, in order of acceptance.
 const FIRM_LINES: &str = "SELECT day, bank_ref, amount, text FROM firm_line ORDER BY seq";
-
-// By their types, matters and entries are numbered from 1, so none of their movements is read as the firm's own.
-fn is_numbered(movement: &Movement)
-    ensures { IsOwner movement.now.owner }
-{
-    if let Owner::Matter { matter, entry } = movement.owner {
-        let _numbers = (matter.get(), entry.get());
-    }
-}
-
-// The amount of a movement fits in 64 bits.
-fn fits_a_word(movement: &Movement)
-    ensures { FitsSigned w64 movement.now.amount }
-{
-    let _amount = movement.amount;
-}
-
-// Reads a movement from a row.
-fn read_movement(row: &Row) -> Result<Movement, StoreFault>
-    ensures is { IfOk result (λ v. v ≡ movement_at row.now) }
-    ensures fits { IfOk result IsMovementInRange }
-{
-    let columns = movement_in(row)?;
-    let movement = movement_of(columns)?;
-    is_numbered(&movement);
-    fits_a_word(&movement);
-    Ok(movement)
-}
 
 // Takes the rows of the journal.
 #[derive(Drop)]
@@ -77,7 +46,7 @@ impl<K: MovementSink> RowTaking<K> for MovementTaking {
     ghost fits = { λ _ row. IsMovementInRange (movement_at row) };
 
     fn take(&self, row: &Row, sink: &mut K) -> Result<(), StoreFault> {
-        let movement = read_movement(row)?;
+        let movement = movement_of(movement_in(row)?)?;
         sink.movement(&movement)?;
         Ok(())
     }
@@ -106,18 +75,6 @@ pub fn each_movement<S: Alter, K: MovementSink>(
     .and(Ok(()))
 }
 
-// Reads a line of the firm from a row.
-fn line_of(alloc: Global, row: &Row) -> Result<FirmLine, StoreFault>
-    ensures is { IfOk result (λ v. v ≡ firm_line_at row.now) }
-    ensures fits { IfOk result IsFirmLineInRange }
-{
-    let columns = firm_line_in(row)?;
-    let line = firm_line_of(alloc, columns)?;
-    // An amount of this type is in range.
-    let _amount = line.amount.get();
-    Ok(line)
-}
-
 // Takes the rows of the firm's lines.
 #[derive(Drop)]
 struct FirmLineTaking {
@@ -133,7 +90,7 @@ impl<K: FirmLineSink> RowTaking<K> for FirmLineTaking {
     ghost fits = { λ _ row. IsFirmLineInRange (firm_line_at row) };
 
     fn take(&self, row: &Row, sink: &mut K) -> Result<(), StoreFault> {
-        let line = line_of(self.alloc, row)?;
+        let line = firm_line_of(self.alloc, firm_line_in(row)?)?;
         sink.firm_line(&line)?;
         Ok(())
     }
@@ -173,8 +130,6 @@ impl<K: ExceptionSink> RowTaking<K> for ExceptionTaking {
 
     fn take(&self, row: &Row, sink: &mut K) -> Result<(), StoreFault> {
         let line = exception_of(self.alloc, exception_in(row)?)?;
-        // An amount of this type is in range.
-        let _amount = line.amount.get();
         sink.exception(&line)?;
         Ok(())
     }
@@ -220,8 +175,6 @@ impl<K: BalanceSink> RowTaking<K> for BalanceTaking {
 
     fn take(&self, row: &Row, sink: &mut K) -> Result<(), StoreFault> {
         let balance = balance_of(balance_in(row)?)?;
-        // An amount of this type is in range.
-        let _amount = balance.amount.get();
         sink.balance(&balance)?;
         Ok(())
     }
@@ -270,7 +223,7 @@ fn ledger_of(alloc: Global, rows: &[Row]) -> Result<FirmLedger, StoreFault>
 {
     let mut ledger = FirmLedger::new(alloc);
     'each: for row in rows {
-        let line = line_of(alloc, row)?;
+        let line = firm_line_of(alloc, firm_line_in(row)?)?;
         add_within(&mut ledger, line)?;
     }
     Ok(ledger)

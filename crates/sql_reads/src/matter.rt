@@ -142,27 +142,6 @@ fn drawn_on(kept: &[Kept], named: Option<EntryNo>) -> Option<EntryNo>
     found(kept, named?)?.entry.target()
 }
 
-// Returns the number of the entry that is read at a turn: those of the two named ones, and then of those that they
-// draw on.
-fn wanted_at(
-    turn: usize,
-    entry: Option<EntryNo>,
-    other: Option<EntryNo>,
-    kept: &[Kept],
-) -> Option<EntryNo>
-    ensures first { turn ≡ 0 → result ≡ entry }
-    ensures second { turn ≡ 1 → result ≡ other }
-    ensures third { turn ≡ 2 → number_or_none result ≡ drawn_by kept.now entry }
-    ensures fourth { turn ≡ 3 → number_or_none result ≡ drawn_by kept.now other }
-{
-    match turn {
-        0 => entry,
-        1 => other,
-        2 => drawn_on(kept, entry),
-        _ => drawn_on(kept, other),
-    }
-}
-
 // Builds the matter from what was read; without a head its totals are zero.
 fn matter_of(
     opened: Option<HeadWithTotals>,
@@ -228,7 +207,13 @@ pub fn matter_for<S: Alter>(
     // The named entries, and then those that they draw on.
     let mut kept = Vec::new(alloc);
     'turns: for turn in 0..4usize {
-        let Some(number) = wanted_at(turn, entry, other, &kept) else {
+        let wanted = match turn {
+            0 => entry,
+            1 => other,
+            2 => drawn_on(&kept, entry),
+            _ => drawn_on(&kept, other),
+        };
+        let Some(number) = wanted else {
             continue;
         };
         if found(&kept, number).is_some() {

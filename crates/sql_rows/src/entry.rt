@@ -22,8 +22,7 @@ ghost use Rattle.sql_rows.specs.Entries.{HasClearing, HasReturn, HasDeposit, Has
 ghost use Rattle.sql_rows.specs.Entries.{HasAgainst, HasClaimState, HasClaim};
 ghost use Rattle.sql_rows.specs.Entries.{entry_columns, BeginsEntry};
 ghost use Rattle.sql_rows.specs.Entries.{HasSamePlace, HasSameMoney, HasSameDays, HasSameTexts};
-ghost use Rattle.sql_rows.specs.Entries.{deposit_parts, payment_parts, plain_parts, claim_on_parts, fund_kind};
-ghost use Rattle.sql_rows.specs.Entries.{fund_of, as_columns};
+ghost use Rattle.sql_rows.specs.Entries.{plain_parts, fund_kind, fund_of, as_columns};
 
 use crate::column::{amount_in, bank_text_in, day_in, entry_in, label_in, number_in, part_in};
 use matter_parts::Kept;
@@ -76,29 +75,30 @@ fn clearing_columns(c: &Clearing) -> (i64, &[u8])
     (c.bank_day.get() as i64, c.bank_ref.as_slice())
 }
 
-// The code of the state of a deposit.
-fn deposit_code(state: &DepositState) -> i64
-    ensures { result ≡ pos (deposit_parts state.now 0 0 [] []).state }
+fn deposit_columns<'a>(matter: MatterNo, no: EntryNo, d: &'a Deposit, left: u64) -> EntryColumns<'a>
+    requires { left ≤ MAX_TOTAL }
+    ensures { entry_given result ≡ entry_columns matter no left (Entry.Deposit d.now) }
 {
-    match state {
-        DepositState::Held => 1,
-        DepositState::Cleared(_) => 2,
-        DepositState::Cancelled(_) => 3,
-        DepositState::Returned(_) => 4,
+    let mut columns = blank_columns(matter, no, left, 1, d.book, d.amount);
+    (columns.text_a, columns.text_b) = (d.source.as_slice(), d.description.as_slice());
+    match &d.state {
+        DepositState::Held => columns.state = 1,
+        DepositState::Cleared(c) => {
+            columns.state = 2;
+            (columns.day_bank, columns.bank_ref) = clearing_columns(c);
+        }
+        DepositState::Cancelled(day) => {
+            columns.state = 3;
+            columns.day_undone = day.get() as i64;
+        }
+        DepositState::Returned(back) => {
+            columns.state = 4;
+            (columns.day_bank, columns.bank_ref) = clearing_columns(&back.clearing);
+            (columns.day_done, columns.text_c) = clearing_columns(&back.returning);
+            columns.day_undone = back.undone.get() as i64;
+        }
     }
-}
-
-// The code of the state of a payment.
-fn payment_code(state: &PaymentState) -> i64
-    ensures { result ≡ pos (payment_parts state.now 0 0 0 0 [] [] []).state }
-{
-    match state {
-        PaymentState::Proposed => 1,
-        PaymentState::Declined => 2,
-        PaymentState::Issued(_) => 3,
-        PaymentState::Cleared(_) => 4,
-        PaymentState::Voided(_) => 5,
-    }
+    columns
 }
 
 fn fund_code(fund: &Fund) -> (i64, i64)
@@ -111,10 +111,38 @@ fn fund_code(fund: &Fund) -> (i64, i64)
     }
 }
 
+fn payment_columns<'a>(matter: MatterNo, no: EntryNo, p: &'a Payment, left: u64) -> EntryColumns<'a>
+    requires { left ≤ MAX_TOTAL }
+    ensures { entry_given result ≡ entry_columns matter no left (Entry.Payment p.now) }
+{
+    let mut columns = blank_columns(matter, no, left, 2, p.book, p.amount);
+    (columns.fund, columns.of_no) = fund_code(&p.fund);
+    (columns.text_a, columns.text_b) = (p.payee.as_slice(), p.purpose.as_slice());
+    columns.text_c = p.instrument.as_slice();
+    match &p.state {
+        PaymentState::Proposed => columns.state = 1,
+        PaymentState::Declined => columns.state = 2,
+        PaymentState::Issued(day) => {
+            columns.state = 3;
+            columns.day_done = day.get() as i64;
+        }
+        PaymentState::Cleared(c) => {
+            columns.state = 4;
+            columns.day_done = c.issued.get() as i64;
+            (columns.day_bank, columns.bank_ref) = clearing_columns(&c.clearing);
+        }
+        PaymentState::Voided(v) => {
+            columns.state = 5;
+            columns.day_done = v.issued.get() as i64;
+            columns.day_undone = v.undone.get() as i64;
+        }
+    }
+    columns
+}
+
 fn claim_columns<'a>(matter: MatterNo, no: EntryNo, c: &'a Claim, left: u64) -> EntryColumns<'a>
     requires { left ≤ MAX_TOTAL }
-    ensures { entry_given result ≡ as_columns matter no left
-        (claim_on_parts c.now.against c.now.state c.now.book c.now.amount c.now.reason) }
+    ensures { entry_given result ≡ entry_columns matter no left (Entry.Claim c.now) }
 {
     let mut columns = blank_columns(matter, no, left, 4, c.book, c.amount);
     columns.text_b = c.reason.as_slice();
@@ -152,44 +180,8 @@ pub fn entry_columns<'a>(
     ensures { entry_given result ≡ entry_columns matter no left entry.now }
 {
     match entry {
-        Entry::Deposit(d) => {
-            let mut columns = blank_columns(matter, no, left, 1, d.book, d.amount);
-            columns.state = deposit_code(&d.state);
-            (columns.text_a, columns.text_b) = (d.source.as_slice(), d.description.as_slice());
-            match &d.state {
-                DepositState::Held => {}
-                DepositState::Cleared(c) => {
-                    (columns.day_bank, columns.bank_ref) = clearing_columns(c);
-                }
-                DepositState::Cancelled(day) => columns.day_undone = day.get() as i64,
-                DepositState::Returned(back) => {
-                    (columns.day_bank, columns.bank_ref) = clearing_columns(&back.clearing);
-                    (columns.day_done, columns.text_c) = clearing_columns(&back.returning);
-                    columns.day_undone = back.undone.get() as i64;
-                }
-            }
-            columns
-        }
-        Entry::Payment(p) => {
-            let mut columns = blank_columns(matter, no, left, 2, p.book, p.amount);
-            columns.state = payment_code(&p.state);
-            (columns.fund, columns.of_no) = fund_code(&p.fund);
-            (columns.text_a, columns.text_b) = (p.payee.as_slice(), p.purpose.as_slice());
-            columns.text_c = p.instrument.as_slice();
-            match &p.state {
-                PaymentState::Proposed | PaymentState::Declined => {}
-                PaymentState::Issued(day) => columns.day_done = day.get() as i64,
-                PaymentState::Cleared(c) => {
-                    columns.day_done = c.issued.get() as i64;
-                    (columns.day_bank, columns.bank_ref) = clearing_columns(&c.clearing);
-                }
-                PaymentState::Voided(v) => {
-                    columns.day_done = v.issued.get() as i64;
-                    columns.day_undone = v.undone.get() as i64;
-                }
-            }
-            columns
-        }
+        Entry::Deposit(d) => deposit_columns(matter, no, d, left),
+        Entry::Payment(p) => payment_columns(matter, no, p, left),
         Entry::Fee(f) => EntryColumns {
             text_a: f.description.as_slice(),
             ..blank_columns(matter, no, left, 3, f.book, f.amount)

@@ -162,15 +162,19 @@ pub fn read_item(alloc: Global, row: &ByteRecord, number: u64) -> Result<Item, A
 }
 
 /// Why no item was returned.
-#[derive(Clone, Copy, PartialEq, Eq, Debug)]
+#[derive(Clone, Copy, PartialEq, Eq, Debug, thiserror::Error)]
 pub enum ReadFault {
     /// The first record is not the header of a statement, or there is no record.
+    #[error("the first record is not the header of a statement")]
     BadHeader,
     /// The statement has more than 4,194,304 bytes.
+    #[error("the statement has more than 4194304 bytes")]
     Limit,
     /// A read failed. An interrupted read counts as failed.
+    #[error("a read failed")]
     Reader,
     /// Out of memory.
+    #[error("memory ran out")]
     Memory,
 }
 

@@ -5,6 +5,7 @@ ghost use Rattle.trust_base.specs.Refusals.{is_fault, number_of, status_of};
 
 use crate::{CivilDay, Day, EntryNo};
 use std::alloc::{AllocError, AllocFailed};
+use thiserror::Error;
 
 /// A field of a request. A refusal names the one that is invalid.
 #[derive(Clone, Copy, Debug, PartialEq, Eq)]
@@ -141,11 +142,13 @@ pub enum Refusal {
 }
 
 /// Why a call of the store failed.
-#[derive(Clone, Copy, Debug, PartialEq, Eq)]
+#[derive(Clone, Copy, Debug, PartialEq, Eq, Error)]
 pub enum StoreFault {
     /// The store refused an SQL statement or a transaction, or a stored row is invalid.
+    #[error("the store failed")]
     Store,
     /// Out of memory.
+    #[error("memory ran out")]
     Memory,
 }
 

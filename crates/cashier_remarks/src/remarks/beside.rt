@@ -55,10 +55,7 @@ pub fn write_of_now<W: fmt::Write>(
 
 /// Writes which fault ended the remarks that go with a report.
 pub fn write_rows_end<W: fmt::Write>(f: &mut fmt::Formatter<W>, fault: StoreFault) -> fmt::Result {
-    f.write_str(match fault {
-        StoreFault::Store => "the store failed: nothing more is told beside the report",
-        StoreFault::Memory => "memory ran out: nothing more is told beside the report",
-    })
+    write!(f, "{fault}: nothing more is told beside the report")
 }
 
 /// Writes which fault kept the lines that a book has before an import from being read.
@@ -66,14 +63,10 @@ pub fn write_earlier_end<W: fmt::Write>(
     f: &mut fmt::Formatter<W>,
     fault: StoreFault,
 ) -> fmt::Result {
-    f.write_str(match fault {
-        StoreFault::Store => {
-            "the store failed: it is not told which lines stand on another entry by an earlier import"
-        }
-        StoreFault::Memory => {
-            "memory ran out: it is not told which lines stand on another entry by an earlier import"
-        }
-    })
+    write!(
+        f,
+        "{fault}: it is not told which lines stand on another entry by an earlier import"
+    )
 }
 
 /// Reports what the rows of a book show in addition to a report that has all figures of its day: the reconciliation and

@@ -38,10 +38,7 @@ impl fmt::Display for ExceptionRemark<'_> {
 
 /// Writes which fault ended the report on the exceptions.
 pub fn write_end<W: fmt::Write>(f: &mut fmt::Formatter<W>, fault: &StoreFault) -> fmt::Result {
-    f.write_str(match fault {
-        StoreFault::Store => "the store failed: no reasons are told of the other exceptions",
-        StoreFault::Memory => "memory ran out: no reasons are told of the other exceptions",
-    })
+    write!(f, "{fault}: no reasons are told of the other exceptions")
 }
 
 /// Reports why each exception of a book is one on a business day.

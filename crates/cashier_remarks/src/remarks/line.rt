@@ -89,16 +89,10 @@ fn write_would_apply<W: fmt::Write>(f: &mut fmt::Formatter<W>, is_out: bool) -> 
 
 // Writes about a fault that stopped an import.
 fn write_fault<W: fmt::Write>(f: &mut fmt::Formatter<W>, fault: &StoreFault) -> fmt::Result {
-    f.write_str(match fault {
-        StoreFault::Store => concat!(
-            "the store failed: this line and those after it were not applied; ",
-            "import the whole file again"
-        ),
-        StoreFault::Memory => concat!(
-            "memory ran out: this line and those after it were not applied; ",
-            "import the whole file again"
-        ),
-    })
+    write!(
+        f,
+        "{fault}: this line and those after it were not applied; import the whole file again"
+    )
 }
 
 impl LineRemark<'_> {

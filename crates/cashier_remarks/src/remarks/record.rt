@@ -48,14 +48,10 @@ impl fmt::Display for RecordRemark<'_> {
             RecordRemark::Accepted(caution) => caution.fmt(f),
             RecordRemark::Unreadable(fault) => fault.fmt(f),
             RecordRemark::Refused(refused) => refused.fmt(f),
-            RecordRemark::NotRun(StoreFault::Store) => f.write_str(concat!(
-                "the store failed: this record and those after it were not run; ",
-                "send the whole sheet again"
-            )),
-            RecordRemark::NotRun(StoreFault::Memory) => f.write_str(concat!(
-                "memory ran out: this record and those after it were not run; ",
-                "send the whole sheet again"
-            )),
+            RecordRemark::NotRun(fault) => write!(
+                f,
+                "{fault}: this record and those after it were not run; send the whole sheet again"
+            ),
         }
     }
 }

@@ -26,5 +26,5 @@ returns-clause-ran g c = λ words means.
       crash = λ sure stands. c.run_plan-ended.ensures.crash words means sure (served ((c.run_plan-ended.ensures.kept words means).was_sure sure)) stands;
       put = c.put_back-put.result;
       left = rw c.into_book.ensures at c.put_back-put.ensures.put;
-      outcome = c.outcome_put_back.ensures;
+      outcome = c.outcome_put_back-outcome.ensures;
     })

@@ -1,11 +1,11 @@
-use Rattle.sql_reads.proofs.Names.{rules, ◌≡◌, ◌≤◌, pos, Ok, IsOk, is_some, option_copied, slice_get, refl, sym, ap, subst, ◌∙◌, arith, IfOk-weaker, to_z, w64, state, Part, kept_in, of, IsPartFor, lists_in, firm_in, leaves_on, drawn_by, part_at, entry_read_selects}
+use Rattle.sql_reads.proofs.Names.{rules, ◌≡◌, ◌≤◌, pos, Ok, IsOk, is_some, option_copied, slice_get, refl, sym, ap, subst, ◌∙◌, arith, IfOk-weaker, to_z, w64, state, Part, kept_in, of, IsPartFor, lists_in, firm_in, leaves_on, part_at, entry_read_selects}
 use Rattle.sql_reads.proofs.Calls.{kept_by}
 use Rattle.sql_reads.proofs.EntriesRead.{first_entry, no_entry}
 use Rattle.sql_reads.proofs.Going.{all_then}
 use Rattle.sql_reads.proofs.NamedEntries.{IsWanted, after_turn, also_absent, also_behind, also_held, also_none, held, none_for, numbered_at, read_for}
 use Rattle.sql_reads.proofs.Shown.{entry_shown}
 use Rattle.sql_reads.proofs.matter.matter_for.Given.{Over}
-use Rattle.sql_reads.proofs.matter.matter_for.Goals.{After-wanted_at}
+use Rattle.sql_reads.proofs.matter.matter_for.Goals.{Joined-turn, in-0, in-1, in-2, in_default-turn}
 use Rattle.sql_reads.proofs.matter.matter_for.Goals as goal
 
 pub rows_of-requires-clause-select : goal.rows_of-requires-clause-select
@@ -27,27 +27,25 @@ turns-init g c = record {
 }
 
 -- what is wanted at a turn
-wanted : (g : Over) (c : After-wanted_at g)
-    → IsWanted c.args.entry c.args.other c.turns.kept.items c.turns.turn c.wanted_at.result
-wanted g c =
-    let is = c.wanted_at.ensures in record {
-      early = c.turns-test.true;
-      first = is.first;
-      second = is.second;
-      third = λ at. is.third at ∙ ap (λ ks. drawn_by ks c.args.entry) c.deref.ensures.value;
-      fourth = λ at. is.fourth at ∙ ap (λ ks. drawn_by ks c.args.other) c.deref.ensures.value;
-    }
+wanted : (g : Over) (c : Joined-turn g)
+    → IsWanted c.args.entry c.args.other c.turns.kept.items c.turns.turn c.match-turn.wanted
+wanted g c = elim c.match-turn.branch [
+  | in-0 w ↦ grind arith
+  | in-1 w ↦ grind arith
+  | in-2 w ↦ grind arith
+  | in_default-turn w ↦ grind arith
+]
 
-pub turns-preserved-in_default-wanted_at : goal.turns-preserved-in_default-wanted_at
-turns-preserved-in_default-wanted_at g c = record {
+pub turns-preserved-in_default-wanted : goal.turns-preserved-in_default-wanted
+turns-preserved-in_default-wanted g c = record {
   mode = c.turns.invariant.mode;
   clean = c.turns.invariant.clean;
   left = c.turns.invariant.left;
   kept = λ y clean stands.
       after_turn (part_at c.args.matter (lists_in y (state g.S.Store c.args.conn.now).now.trees)) _ _ _ _ _ _
       (numbered_at _ _ stands.rows) (c.turns.invariant.kept y clean stands)
-      (wanted g (goal.at.turns-preserved-in_default-wanted_at g c).After-wanted_at)
-      (also_none _ _ _ c.in_default-wanted_at.is);
+      (wanted g (goal.at.turns-preserved-in_default-wanted g c).Joined-turn)
+      (also_none _ _ _ c.in_default-wanted.is);
 }
 
 pub turns-preserved-then-is_some : goal.turns-preserved-then-is_some
@@ -57,11 +55,11 @@ turns-preserved-then-is_some g c = record {
   left = c.turns.invariant.left;
   kept = λ y clean stands.
       let so_far = c.turns.invariant.kept y clean stands in
-      let some = ap (λ ks. is_some (kept_in ks c.in-Some-wanted_at.number)) (sym c.deref-in-turns.ensures.value)
+      let some = ap (λ ks. is_some (kept_in ks c.in-Some-wanted.number)) (sym c.deref-in-turns.ensures.value)
       ∙ sym (held _ _ c.found.ensures) ∙ sym c.is_some.ensures ∙ c.if-is_some.true in
       after_turn (part_at c.args.matter (lists_in y (state g.S.Store c.args.conn.now).now.trees)) _ _ _ _ _ _
-      (numbered_at _ _ stands.rows) so_far (wanted g (goal.at.turns-preserved-then-is_some g c).After-wanted_at)
-      (also_held _ _ _ _ c.in-Some-wanted_at.is _ so_far some);
+      (numbered_at _ _ stands.rows) so_far (wanted g (goal.at.turns-preserved-then-is_some g c).Joined-turn)
+      (also_held _ _ _ _ c.in-Some-wanted.is _ so_far some);
 }
 
 pub turns-preserved-in_default-first : goal.turns-preserved-in_default-first
@@ -74,9 +72,9 @@ turns-preserved-in_default-first g c =
           let same = (kept_by _ _ (Ok tt) tt refl c.turns.invariant.left (left.was_clean clean)).now in
           let so_far = c.turns.invariant.kept y (left.was_clean clean) stands in
           after_turn (part_at c.args.matter (lists_in y (state g.S.Store c.args.conn.now).now.trees)) _ _ _ _ _ _
-          (numbered_at _ _ stands.rows) so_far (wanted g (goal.at.turns-preserved-in_default-first g c).After-wanted_at)
-          (also_absent _ _ _ _ c.in-Some-wanted_at.is _ so_far
-          (no_entry y _ stands _ _ same c.args.matter c.in-Some-wanted_at.number _ _ (search rules) (search rules) _
+          (numbered_at _ _ stands.rows) so_far (wanted g (goal.at.turns-preserved-in_default-first g c).Joined-turn)
+          (also_absent _ _ _ _ c.in-Some-wanted.is _ so_far
+          (no_entry y _ stands _ _ same c.args.matter c.in-Some-wanted.number _ _ (search rules) (search rules) _
           (c.in_ok-rows.ensures.shown clean)
           (sym (ap (λ l. slice_get l 0) c.deref-in-turns-2.ensures.value) ∙ sym c.first.ensures.value
           ∙ ap option_copied c.in_default-first.is)));
@@ -91,13 +89,13 @@ turns-preserved g c =
       kept = λ y clean stands.
           let same = (kept_by _ _ (Ok tt) tt refl c.turns.invariant.left (left.was_clean clean)).now in
           let also : to_z w64 c.get-in-turns-2.result ≡ pos c.args.matter = search rules in
-          let none = ap (λ ks. is_some (kept_in ks c.in-Some-wanted_at.number)) (sym c.deref-in-turns.ensures.value)
+          let none = ap (λ ks. is_some (kept_in ks c.in-Some-wanted.number)) (sym c.deref-in-turns.ensures.value)
           ∙ sym (held _ _ c.found.ensures) ∙ sym c.is_some.ensures ∙ c.if-is_some.false in
           let so_far = c.turns.invariant.kept y (left.was_clean clean) stands in
           after_turn (part_at c.args.matter (lists_in y (state g.S.Store c.args.conn.now).now.trees)) _ _ _ _ _ _
-          (numbered_at _ _ stands.rows) so_far (wanted g (goal.at.turns-preserved g c).After-wanted_at)
-          (also_behind _ _ _ _ c.in-Some-wanted_at.is _ none
-          (first_entry y _ stands _ _ same c.args.matter c.in-Some-wanted_at.number _ _ (search rules) (search rules) _
+          (numbered_at _ _ stands.rows) so_far (wanted g (goal.at.turns-preserved g c).Joined-turn)
+          (also_behind _ _ _ _ c.in-Some-wanted.is _ none
+          (first_entry y _ stands _ _ same c.args.matter c.in-Some-wanted.number _ _ (search rules) (search rules) _
           (c.in_ok-rows.ensures.shown clean) c.in-Some-first.row.now
           (sym (ap (λ l. slice_get l 0) c.deref-in-turns-2.ensures.value) ∙ sym c.first.ensures.value
           ∙ ap option_copied c.in-Some-first.is) _

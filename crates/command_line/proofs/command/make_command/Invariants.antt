@@ -1,6 +1,6 @@
 use Rattle.command_line.proofs.Names.{◌≡◌, drop, false, app_of, new_app, with_operands, words_of}
 use Rattle.clap.specs.declared.builder.command.Command.TheViews.{out-Command}
-use Rattle.command_line.proofs.command.with_command.Given as goal
+use Rattle.command_line.proofs.command.make_command.Given as goal
 
 abbrev pub invariant-loop-operand : goal.invariant-loop-operand
 invariant-loop-operand l = record {

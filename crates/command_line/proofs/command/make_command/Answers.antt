@@ -1,6 +1,6 @@
 use Rattle.command_line.proofs.Names.{rules, ap, ◌≡◌, ◌<◌, ◌∙◌, List, ℕ, suc, [], Some, true, length, drop, get_or, add-one, drop-cons, arith, Bor, App, Rule, app_of, rule_of, with_rule, operand_rule, with_operands, words_of}
 use Rattle.clap.specs.declared.builder.ArgAction.TheVariants as action
-use Rattle.command_line.proofs.command.with_command.Goals as goal
+use Rattle.command_line.proofs.command.make_command.Goals as goal
 
 -- what the code reads past the operands' end
 abbrev no_operand : Bor (List ℕ)
