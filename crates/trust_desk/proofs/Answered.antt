@@ -1,5 +1,5 @@
 -- How a request is answered, by what the calls of the book were.
-use Rattle.trust_desk.proofs.Names.{◌≡◌, ◌⊎◌, inl, inr, ◌∙◌, ℕ, true, false, Ok, Err, Result, refl, ap, sym, subst, IfOk, cond-false, is_fault, refused_by, Refusal, StoreFault, Ask, Asked, Caller, refusal, IsDecided, MatterChange, Firm, FirmChange, of, after, after_change, after_edit, IsRead, IsWrite, Reply, IsAnswered, counted_end, counted_reply, is_store, IsMade, KindIsMade, is_fault_end, Steps, after_ask, after_asked, firm_step, kind_step, Heard, Kind, OfMatter, asked_on, kind_of, is_fault_reply, refused, replied, reply_for, reply_of, arith, ints, nat_tests}
+use Rattle.trust_desk.proofs.Names.{◌≡◌, ◌⊎◌, inl, inr, ◌∙◌, ℕ, true, false, Ok, Err, Result, refl, ap, sym, subst, IfOk, cond-false, is_fault, refused_by, Refusal, StoreFault, Ask, Asked, Caller, refusal, IsDecided, MatterChange, Firm, FirmChange, of, after, after_change, after_edit, IsRead, IsWrite, Reply, IsAnswered, counted_end, counted_reply, is_store, IsMade, KindIsMade, is_fault_end, Steps, after_ask, after_asked, firm_step, kind_step, Heard, Kind, OfMatter, OnlyTold, asked_on, kind_of, is_fault_reply, refused, replied, reply_for, reply_of, text_reply, List, arith, ints, nat_tests}
 use Rattle.trust_desk.proofs.Calls.{uncounted, kept-as, kept-then, read-kept, write-kept}
 use Rattle.trust_desk.proofs.Crashes.{leave-as, leave-failed, read-leaves, written-leaves}
 use Rattle.trust_desk.proofs.Refused.{IsTold, fault-counted, fault-told}
@@ -24,6 +24,15 @@ pub unread-answered : {B T : Type 0} {firm : B → Firm} {clean sure stands last
     → IsAnswered firm clean sure stands lasts leaves refusals day h (Err (refused_by fault)) old new
 unread-answered {firm} {refusals} {old} {new} day h fault read =
     grind (arith, ints, nat_tests, refused-steps, fault-told, kept-as, fault-counted, read-kept, leave-failed, read-leaves)
+
+-- a text of what was read is told, or why it is refused, and nothing changes
+pub told-answered : {B T : Type 0} {firm : B → Firm} {clean sure stands lasts : B → Type 0} {leaves : B → Firm → Type 0} {refusals : B → ℕ} {old new : B} {read : T} (day : ℕ) (h : Heard) (text : ℕ → Firm → Result (List ℕ) Refusal) (result : Result Reply Refusal)
+    → kind_of h ≡ OnlyTold text → IfOk result (λ reply. is_fault_reply reply ≡ false) → is_fault_end result ≡ false
+    → IsRead firm clean sure stands lasts leaves refusals (Ok read) old new
+    → (clean new → stands old → reply_for result ≡ text_reply (text day (firm old)))
+    → IsAnswered firm clean sure stands lasts leaves refusals day h result old new
+told-answered {firm} {refusals} {old} {new} day h text result kind plain fine read tells =
+    grind (arith, ints, nat_tests, steps-plain, kept-as, read-kept, leave-as, read-leaves)
 
 -- An ask of a matter.
 

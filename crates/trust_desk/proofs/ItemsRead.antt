@@ -1,13 +1,10 @@
 -- A statement that is read and applied item by item.
-use Rattle.trust_desk.proofs.Names.{◌≡◌, ◌∙◌, ◌+◌, ◌≤◌, ◌++◌, ◌∷◌, [], ℕ, false, List, Option, Some, None, Ok, Err, inl, inr, refl, sym, ap, append_assoc, arith, list_any, ⊤, false≢true, refused_by, StoreFault, Line, Firm, FirmLine, of, FirmSound, Gives, LacksHeader, Item, ImportReply, Counted, ImportEnd, ImportStop, AreBelow, AreFirst, AreFront, AreRead, Imports, IsAfterFirst, IsAppliedBeside, IsStop, IsUnnamed, KeepsAllUnnamed, KeepsBeside, MayLeave, StandsBeside, Told, after_item, after_items, count_item, counted_of, counts_after, is_stopped, names_item, none_counted, ints, nat_tests, option_or, IsImported, counted_stop, stop_at, statement_day}
+use Rattle.trust_desk.proofs.Names.{◌≡◌, ◌∙◌, ◌+◌, ◌≤◌, ◌++◌, ◌∷◌, [], ℕ, false, List, Option, Some, None, Ok, Err, inl, inr, refl, sym, ap, append_assoc, arith, list_any, ⊤, false≢true, refused_by, StoreFault, Firm, FirmLine, of, FirmSound, Gives, LacksHeader, Item, ImportReply, Counted, ImportEnd, ImportStop, AreBelow, AreFirst, AreFront, AreRead, Imports, IsAfterFirst, IsAppliedBeside, IsStop, IsUnnamed, KeepsAllUnnamed, KeepsBeside, MayLeave, StandsBeside, Told, after_item, after_items, count_item, counted_of, counts_after, is_stopped, names_item, none_counted, ints, nat_tests, IsImported, counted_stop, stop_at}
 use Rattle.trust_base.specs.declared.refusal.Field.TheVariants as field
 use Rattle.trust_base.specs.declared.refusal.Refusal.TheVariants as refusal
-use Rattle.trust_base.specs.declared.refusal.StoreFault.TheVariants as faults
 use Rattle.statement_csv.specs.Limits.{IsTooLong, IsWithin}
-use Rattle.statement_csv.specs.declared.item.Item.TheVariants as item
 use Rattle.statement_csv.specs.declared.item.ReadFault.{ReadFault}
 use Rattle.statement_csv.specs.declared.item.ReadFault.TheVariants as reading
-use Rattle.trust_desk.specs.declared.importing.Counted.TheVariants as counted
 use Rattle.trust_desk.specs.declared.importing.ImportStop.TheVariants as stop
 use Rattle.trust_desk.proofs.AlwaysCovered.{always-sound}
 use Rattle.trust_desk.proofs.Beside.{kept-alone}
@@ -47,26 +44,6 @@ counts_after-push day firm (x ∷ front) it c = counts_after-push day (after_ite
 
 pub below-more : (n m : ℕ) (it : Item) (kind : Counted) (before after : ImportReply) → AreBelow n before → after ≡ count_item it kind before → n + 1 ≤ m → AreBelow m after
 below-more n m it kind before after below is more = grind (arith, ints, nat_tests, count_item)
-
--- How an item is counted.
-
--- the day of a closing balance
-abbrev pub closing_of : Item → Option ℕ
-closing_of (item.Closing line) = Some line.date
-closing_of _ = None
-
-pub no-closing : (it : Item) → ((line : Line) → it ≡ item.Closing line → ⊥) → closing_of it ≡ None
-no-closing it none = grind (arith, ints, nat_tests)
-
--- it is noted if the balance is on file
-pub on-file : (it : Item) (before closing : Option ℕ) → closing ≡ closing_of it
-    → (option_or closing before ≡ statement_day it counted.Applied before)
-    × (option_or closing before ≡ statement_day it counted.Repeated before)
-on-file it before closing is = grind (arith, ints, nat_tests, option_or)
-
-pub not-on-file : (it : Item) (before : Option ℕ)
-    → (before ≡ statement_day it counted.Exception before) × (before ≡ statement_day it counted.Unreadable before)
-not-on-file it before = grind (arith, ints, nat_tests)
 
 -- What matters see of it.
 

@@ -94,7 +94,7 @@ pub use Rattle.trust_desk.specs.Matching.{AreNameless, FilledLinesAreApplied, Fi
 pub use Rattle.trust_desk.specs.OnceOnly.{BalanceOnce, DayRun, FirmLineOnce, IsBalanceOver, IsRepeated, IsSameFirmLine, IsUnmatched, LineOnceOnly, OnceOnly, RunsOn}
 pub use Rattle.trust_desk.specs.Plan.{IsReadFor, status_of_edit, IsReadOf}
 pub use Rattle.trust_desk.specs.Replies.{body_of, is_fault_body, is_fault_reply, made_text, refused, replied, reply_for, reply_of, said, shown_text, success_of, text_reply}
-pub use Rattle.trust_desk.specs.Reports.{IsReconciled, text_of}
+pub use Rattle.trust_desk.specs.Reports.{text_of}
 unfoldable pub use Rattle.trust_desk.specs.Reports.{exceptions_report, has_no_statement, journal_report, own_card_report, reconciliation_report, retention_report, trial_report}
 pub use Rattle.trust_desk.specs.Solo.{own_reply, own_rows, solo_replies, solo_rows}
 pub use Rattle.trust_desk.specs.declared.importing.Counted.{Counted}
@@ -108,6 +108,5 @@ pub use Rattle.std.proofs.lemmas.Int.{ints}
 pub use Rattle.statement_match.proofs.Picks.{found_is_there, found_passes}
 pub use Rattle.trust_store.specs.Named.{IsPartFor}
 pub use Rattle.firm_rows.specs.Countable.{AreCountable, IsBalanceInRange, IsFirmLineInRange, IsLineInRange, IsMovementInRange, IsRowInRange}
-pub use Rattle.trust_desk.specs.Kept.{IsAnswer, IsKeptOf}
-pub use Rattle.std.specs.Option.{option_or}
+pub use Rattle.trust_desk.specs.Kept.{IsKeptOf}
 pub use Rattle.trust_base.specs.declared.refusal.Refusal.TheVariants.{Memory}

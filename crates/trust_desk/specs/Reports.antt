@@ -1,5 +1,5 @@
 -- The reports of a firm. Each is the text of a list made from its rows.
-use Rattle.std.specs.Prelude.{◌≡◌, ℕ, Bool, true, false, List, [], Option, Some, None, is_none}
+use Rattle.std.specs.Prelude.{ℕ, Bool, List, [], Option, Some, None, is_none}
 use Rattle.firm_rows.specs.Firm.{Firm}
 use Rattle.firm_rows.specs.FirmLines.{balance_of}
 use Rattle.trust_reports.specs.Figures.{closing_on}
@@ -10,8 +10,6 @@ use Rattle.trust_reports.specs.Retained.{retention_list}
 use Rattle.trust_reports.specs.TextsOfLedgers.{own_card_text}
 use Rattle.trust_reports.specs.TextsOfLists.{exceptions_text, journal_text, retention_text, trial_text}
 use Rattle.trust_reports.specs.TextsOfReconciliation.{reconciliation_text}
-use Rattle.trust_desk.specs.declared.desk.Reconciled.{Reconciled}
-use Rattle.trust_desk.specs.declared.desk.Reconciled.TheVariants as answer
 
 -- On a business day.
 
@@ -48,12 +46,3 @@ text_of day (Some r) = reconciliation_text day r
 -- the figures and the lists; empty if there is no closing balance of the day
 unfoldable pub reconciliation_report : ℕ → Firm → List ℕ
 reconciliation_report day firm = text_of day (reconciliation_on day firm)
-
--- there is no reconciliation without a closing balance of the day, nor, if there is one, when the records of the day
--- are incomplete
-abbrev pub IsReconciled : ℕ → Firm → Reconciled → Type 0
-IsReconciled day firm answer.NoStatement = has_no_statement day firm ≡ true
-IsReconciled day firm answer.PeriodPurged = (has_no_statement day firm ≡ false) × (is_period_purged day firm ≡ true)
-IsReconciled day firm (answer.Text text) =
-    (has_no_statement day firm ≡ false)
-    × ((is_period_purged day firm ≡ false) × (text.items ≡ reconciliation_report day firm))

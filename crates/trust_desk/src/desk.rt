@@ -14,7 +14,6 @@ ghost use Rattle.trust_desk.specs.Replies.{is_fault_reply};
 ghost use Rattle.trust_desk.specs.ReportStep.{reconciliation_for, report_for, report_text};
 ghost use Rattle.trust_desk.specs.Answered.{IsAnswered};
 ghost use Rattle.trust_desk.specs.Calls.{KeepsBook};
-ghost use Rattle.trust_desk.specs.Reports.{IsReconciled};
 
 use crate::exceptions::{ExceptionsSink, dismiss};
 use crate::importing::{ImportEnd, ImportStop};
@@ -110,44 +109,6 @@ fn answer_ask<B: Book>(
     };
     book.write_change(alloc, no, &change)?;
     Ok(reply)
-}
-
-// Why there is no reconciliation of a day, or its text.
-#[derive(Drop)]
-enum Reconciled {
-    // No closing balance of the day is on file.
-    NoStatement,
-    // A matter that was closed after the day has been purged, so the records of the day are no longer complete.
-    PeriodPurged,
-    // The text of the report.
-    Text(Vec<u8>),
-}
-
-// Passes all rows of a firm to a sink, and writes the three-way reconciliation as of any day.
-fn reconciliation_report<B: Book>(
-    alloc: Global,
-    book: &mut B,
-    day: Day,
-) -> Result<Reconciled, StoreFault>
-    ensures told { B.clean book.new → B.stands book.old → IfOk result (IsReconciled day (B.firm book.old)) }
-    ensures read { IsRead B.firm B.clean B.sure B.stands B.lasts B.leaves B.refusals result book.old book.new }
-{
-    let mut sink = ReconciliationSink::new(alloc, day);
-    book.each_row(&mut sink)?;
-    book.each_movement(&mut sink)?;
-    book.each_firm_line(&mut sink)?;
-    book.each_exception(&mut sink)?;
-    book.each_balance(&mut sink)?;
-    let is_purged = sink.is_period_purged();
-    let Some(reconciliation) = sink.finish(alloc)? else {
-        return Ok(Reconciled::NoStatement);
-    };
-    if is_purged {
-        return Ok(Reconciled::PeriodPurged);
-    }
-    let mut text = Vec::new(alloc);
-    reconciliation_text(day, &reconciliation, &mut text)?;
-    Ok(Reconciled::Text(text))
 }
 
 // Returns the text of a report on a business day.
@@ -310,14 +271,25 @@ impl<B: Book> Desk<B> {
         if is_not_of_firm(caller) {
             return Err(Refusal::NotAllowed(Rule::Firm));
         }
-        match reconciliation_report(alloc, &mut self.book, as_of)? {
-            Reconciled::Text(text) => Ok(Reply {
-                status: 200,
-                body: Body::Text(OwnedBytes::new(text)),
-            }),
-            Reconciled::NoStatement => Err(Refusal::NoStatement),
-            Reconciled::PeriodPurged => Err(Refusal::PeriodPurged),
+        let mut sink = ReconciliationSink::new(alloc, as_of);
+        self.book.each_row(&mut sink)?;
+        self.book.each_movement(&mut sink)?;
+        self.book.each_firm_line(&mut sink)?;
+        self.book.each_exception(&mut sink)?;
+        self.book.each_balance(&mut sink)?;
+        let is_purged = sink.is_period_purged();
+        let Some(reconciliation) = sink.finish(alloc)? else {
+            return Err(Refusal::NoStatement);
+        };
+        if is_purged {
+            return Err(Refusal::PeriodPurged);
         }
+        let mut text = Vec::new(alloc);
+        reconciliation_text(as_of, &reconciliation, &mut text)?;
+        Ok(Reply {
+            status: 200,
+            body: Body::Text(OwnedBytes::new(text)),
+        })
     }
 
     // Dismisses a line from the exceptions.

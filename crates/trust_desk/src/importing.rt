@@ -1,6 +1,6 @@
 //! Imports statements of the bank, item by item.
 
-ghost use Rattle.std.specs.Prelude.{◌≡◌, ℕ, IfSome, None, Some, false, option_map};
+ghost use Rattle.std.specs.Prelude.{◌≡◌, ◌-◌, ◌^◌, ℕ, IfSome, None, Some, false, option_map};
 ghost use Rattle.std.specs.Io.KnownBytes.{Keeps};
 ghost use Rattle.trust_base.specs.declared.refusal.Field.TheVariants as field;
 ghost use Rattle.trust_base.specs.declared.refusal.Refusal.TheVariants as refusal;
@@ -11,10 +11,10 @@ ghost use Rattle.firm_rows.specs.Firm.{Firm};
 ghost use Rattle.firm_rows.specs.FirmLines.{firm_verdict};
 ghost use Rattle.trust_desk.specs.Calls.{KeepsBook};
 ghost use Rattle.trust_desk.specs.Crashes.{IsAfterFirst, MayLeave, is_stopped};
-ghost use Rattle.trust_desk.specs.Imports.{Imports, IsStop, KeepsAllUnnamed, counted_stop, stop_at};
+ghost use Rattle.trust_desk.specs.Imports.{AreBelow, Imports, IsStop, KeepsAllUnnamed, counted_stop, stop_at};
 ghost use Rattle.trust_desk.specs.Applied.{IsImported, IsItemApplied};
 ghost use Rattle.trust_desk.specs.Beside.{IsAppliedBeside, lines_after};
-ghost use Rattle.trust_desk.specs.ItemStep.{balance_item, counted_by, counted_verdict};
+ghost use Rattle.trust_desk.specs.ItemStep.{balance_item, count_item, counted_by, counted_verdict};
 
 use crate::desk::Desk;
 use crate::watching::{At, ItemWatch, NotApplied};
@@ -251,13 +251,6 @@ fn apply_balance<B: Book, V: ItemWatch>(
     Ok(counted_by(verdict))
 }
 
-// The end of an import with these counts.
-fn ended(reply: ImportReply, end: ImportStop) -> ImportEnd
-    ensures { result ≡ record { reply = reply; end = end } }
-{
-    ImportEnd { reply, end }
-}
-
 // How an import ends for a fault of the reading.
 fn stop_at(fault: ReadFault) -> ImportStop
     ensures { result ≡ stop_at fault }
@@ -267,6 +260,29 @@ fn stop_at(fault: ReadFault) -> ImportStop
         ReadFault::Limit => ImportStop::Limit,
         ReadFault::Reader => ImportStop::ReadFault,
         ReadFault::Memory => ImportStop::Refused(Refusal::Memory),
+    }
+}
+
+// Counts an item. A closing balance that is on file now has its day told.
+fn count(reply: &mut ImportReply, item: &Item, counted: Counted)
+    requires room { AreBelow (2 ^ 64 - 1) reply.old }
+    ensures { reply.new ≡ count_item item.now counted reply.old }
+{
+    let closing = match item {
+        Item::Closing(line) => Some(line.date),
+        _ => None,
+    };
+    match counted {
+        Counted::Applied => {
+            reply.applied += 1;
+            reply.statement = closing.or(reply.statement);
+        }
+        Counted::Repeated => {
+            reply.repeated += 1;
+            reply.statement = closing.or(reply.statement);
+        }
+        Counted::Exception => reply.exceptions += 1,
+        Counted::Unreadable => reply.unreadable += 1,
     }
 }
 
@@ -297,33 +313,27 @@ fn import_whole<B: Book, R: Read + Drop, V: ItemWatch, K: Whole>(
         let at = At { number, watch };
         let item = match lines.next() {
             Ok(Some(item)) => item,
-            Ok(None) => return ended(reply, ImportStop::Done),
-            Err(fault) => return ended(reply, stop_at(fault)),
+            Ok(None) => {
+                let end = ImportStop::Done;
+                return ImportEnd { reply, end };
+            }
+            Err(fault) => {
+                let end = stop_at(fault);
+                return ImportEnd { reply, end };
+            }
         };
         let counted = match apply_item(alloc, book, &mut own, &item, day, &at) {
             Ok(counted) => counted,
-            Err(fault) => return ended(reply, ImportStop::Refused(fault.into())),
-        };
-        // A closing balance that is on file now has its day told.
-        let closing = match &item {
-            Item::Closing(line) => Some(line.date),
-            _ => None,
-        };
-        match counted {
-            Counted::Applied => {
-                reply.applied += 1;
-                reply.statement = closing.or(reply.statement);
+            Err(fault) => {
+                let end = ImportStop::Refused(fault.into());
+                return ImportEnd { reply, end };
             }
-            Counted::Repeated => {
-                reply.repeated += 1;
-                reply.statement = closing.or(reply.statement);
-            }
-            Counted::Exception => reply.exceptions += 1,
-            Counted::Unreadable => reply.unreadable += 1,
-        }
+        };
+        count(&mut reply, &item, counted);
         tell_of_applied(&at, &item, counted);
     }
-    ended(reply, ImportStop::Refused(Refusal::Memory))
+    let end = ImportStop::Refused(Refusal::Memory);
+    ImportEnd { reply, end }
 }
 
 impl<B: Book> Desk<B> {
