@@ -14,7 +14,7 @@ use Rattle.matter_rows.specs.declared.payment.Fund.{Fund}
 use Rattle.matter_rows.specs.declared.payment.Fund.TheVariants as fund
 use Rattle.matter_rows.specs.declared.seat.Role.{Role}
 use Rattle.matter_rows.specs.declared.seat.Role.TheVariants as role
-use Rattle.matter_bodies.specs.Values.{role_name}
+use Rattle.matter_rows.specs.Rows.{role_name}
 
 -- ---- what was read
 

@@ -1,4 +1,14 @@
 //! Bytes in and out: reading a whole input, writing to the end, owned bytes, and text built on the stack.
+//!
+//! # What is promised
+//!
+//! By public call, with the clauses of its contract in brackets.
+//!
+//! - `read_whole`: the whole input, or none exactly if it is longer than the limit, however the reads are cut
+//!   (`bytes`).
+//! - `send`: all bytes, or, at an error, a proper prefix of them (`ok`, `err`).
+//! - `OwnedBytes`: holds the bytes that it was made from, and gives them back without taking memory.
+//! - `push_piece`, `push_number`: append a text, or a number's digits, to a text on the stack.
 #![tactic(auto)]
 
 mod fixed;

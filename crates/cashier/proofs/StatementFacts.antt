@@ -4,7 +4,7 @@ use Rattle.statement_csv.specs.Items.{items}
 use Rattle.trust_desk.specs.Imports.{Imports}
 use Rattle.trust_desk.specs.declared.importing.ImportEnd.{ImportEnd}
 use Rattle.cashier.specs.Statement.{Imported, Run, StatementEnds, is_told_longer}
-use Rattle.cashier.specs.declared.statement.StatementEnd.{StatementEnd}
+use Rattle.cashier.specs.declared.outcome.Outcome.{Outcome}
 
 imports-known : (day : ℕ) (before after : Firm) (known bytes : Option (List ℕ)) (ran : ImportEnd) → Keeps known bytes
     → Imports day before (option_map items bytes) ran after → Imports day before (option_map items known) ran after
@@ -14,11 +14,11 @@ imported-known : (day : ℕ) (before after : Firm) (known bytes : Option (List �
     → Imported day before bytes after ran → Imported day before known after ran
 imported-known day before after known bytes ran keeps h = grind (arith, ints, nat_tests, imports-known)
 
-run-known : (day : ℕ) (before after : Firm) (known bytes old new : Option (List ℕ)) (e : StatementEnd) → Keeps known bytes
+run-known : (day : ℕ) (before after : Firm) (known bytes old new : Option (List ℕ)) (e : Outcome) → Keeps known bytes
     → Run day before bytes after old new e → Run day before known after old new e
 run-known day before after known bytes old new e keeps h = grind (arith, ints, nat_tests, imported-known)
 
-pub ends-known : (day : ℕ) (before after : Firm) (size : Option ℕ) (known bytes old new : Option (List ℕ)) (e : StatementEnd) → Keeps known bytes
+pub ends-known : (day : ℕ) (before after : Firm) (size : Option ℕ) (known bytes old new : Option (List ℕ)) (e : Outcome) → Keeps known bytes
     → StatementEnds day before size bytes after old new e → StatementEnds day before size known after old new e
 ends-known day before after size known bytes old new e keeps h =
     grind (arith, ints, nat_tests, is_told_longer, run-known)

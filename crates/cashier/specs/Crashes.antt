@@ -13,13 +13,12 @@ use Rattle.portal_http.specs.declared.stream.StreamEnd.{StreamEnd}
 use Rattle.command_line.specs.Program.{Means}
 use Rattle.command_line.specs.declared.command.ReportCommand.{ReportCommand}
 use Rattle.command_line.specs.declared.command.Task.TheVariants as task
-use Rattle.cashier.specs.Outcome.{sheet_outcome, statement_outcome, stream_outcome}
+use Rattle.cashier.specs.Outcome.{sheet_outcome, stream_outcome}
 use Rattle.cashier.specs.Sheet.{LinesAreKept, records_run}
 use Rattle.cashier.specs.Statement.{EndsByNoFault}
 use Rattle.cashier.specs.declared.outcome.Outcome.{Outcome}
 use Rattle.cashier.specs.declared.outcome.Outcome.TheVariants as outcome
 use Rattle.cashier.specs.declared.sheet.SheetEnd.{SheetEnd}
-use Rattle.cashier.specs.declared.statement.StatementEnd.{StatementEnd}
 
 -- Only these are used of a book: whether its store is clean, whether it is sure, whether it stands for a sound firm,
 -- whether what a crash leaves of it lasts, what that may be, its firm, and how often it failed.
@@ -39,9 +38,8 @@ module _ {B : Type 0} (clean sure stands lasts : B → Type 0) (leaves : B → F
   -- might have left before; or its file was not opened
   abbrev pub LeavesItems : ℕ → Option (List ℕ) → (Option (Option ℕ) → Type 0) → B → Outcome → B → Type 0
   LeavesItems day bytes opens old told new =
-      ((end : StatementEnd) × (statement_outcome end ≡ told)
-      × MayLeave clean leaves (EndsByNoFault end) (IsAfterFirst day (firm old) (option_map items bytes)) (firm old)
-      (firm new) old new)
+      MayLeave clean leaves (EndsByNoFault told) (IsAfterFirst day (firm old) (option_map items bytes)) (firm old)
+      (firm new) old new
       ⊎ (opens None × (new ≡ old))
 
   pub record LeavesStatement (words : List Text) (known : Text → Option (List ℕ))

@@ -50,7 +50,7 @@ notice_text (notice.NetworkFault port) = port_line port
 
 -- the advice fits the words
 pub record IsAdvice (words : List Text) (advice : Advice) : Type 0 where
-  pub verb : IfSome advice.verb (Names words)
+  pub command : IfSome advice.command (Names words)
   pub wrong : IfSome advice.wrong (IsWrong words)
 
 -- the words say to read this

@@ -24,8 +24,6 @@ use Rattle.std.specs.declared.io.ErrorKind.{ErrorKind}
 use Rattle.std.specs.declared.io.ErrorKind.TheVariants as kind
 use Rattle.cashier.specs.declared.sheet.SheetEnd.{SheetEnd}
 use Rattle.cashier.specs.declared.sheet.SheetEnd.TheVariants as sheet
-use Rattle.cashier.specs.declared.statement.StatementEnd.{StatementEnd}
-use Rattle.cashier.specs.declared.statement.StatementEnd.TheVariants as statement
 use Rattle.portal_http.specs.declared.stream.StreamEnd.{StreamEnd}
 use Rattle.portal_http.specs.declared.stream.StreamEnd.TheVariants as stream
 
@@ -71,15 +69,6 @@ sheet_outcome sheet.WriteFault = outcome.OutputFault
 sheet_outcome sheet.Store = outcome.StoreFault
 sheet_outcome sheet.NoMemory = outcome.MemoryFault
 
--- the outcome for the end of an import
-abbrev pub statement_outcome : StatementEnd → Outcome
-statement_outcome statement.Done = outcome.Done
-statement_outcome statement.Refused = outcome.Refused
-statement_outcome statement.ReadFault = outcome.FileFault
-statement_outcome statement.WriteFault = outcome.OutputFault
-statement_outcome statement.Store = outcome.StoreFault
-statement_outcome statement.NoMemory = outcome.MemoryFault
-
 -- the outcome for the end of a stream, whatever the replies to its messages were
 abbrev pub stream_outcome : StreamEnd → Outcome
 stream_outcome stream.Ended = outcome.Done
@@ -114,9 +103,7 @@ pub record IsImported (day : ℕ) (before : Firm) (bytes : Option (List ℕ)) (o
     (after : Firm) (old new : Option (List ℕ)) (told : Outcome) : Type 0 where
   pub size : Option ℕ
   pub opened : opens (Some size)
-  pub end : StatementEnd
-  pub outcome : statement_outcome end ≡ told
-  pub ends : StatementEnds day before size bytes after old new end
+  pub ends : StatementEnds day before size bytes after old new told
 
 -- how a file that should be imported ends, given its bytes, if they are known, and what opening it may return
 abbrev pub FileEnds : ℕ → Firm → Option (List ℕ) → (Option (Option ℕ) → Type 0) → Firm → Option (List ℕ)

@@ -22,12 +22,8 @@ use Rattle.cashier.specs.declared.outcome.Outcome.TheVariants as outcome
 -- the cashier's request for a report: of the firm, or the accounting of a matter
 abbrev pub asked_for : ReportCommand → Request
 asked_for (commands.Reconcile day) = requests.Reconcile Cashier day
-asked_for commands.Trial = requests.Trial Cashier
-asked_for commands.Journal = requests.Journal Cashier
-asked_for commands.Retention = requests.Retention Cashier
-asked_for commands.Exceptions = requests.Exceptions Cashier
 asked_for (commands.Ledger matter) = requests.Matter matter Cashier Accounting
-asked_for commands.OwnLedger = requests.OwnLedger Cashier
+asked_for (commands.Firm report) = requests.Report Cashier report
 
 -- the outcome of a run after the line of a refusal was written
 abbrev pub refused_outcome : Refusal → Outcome

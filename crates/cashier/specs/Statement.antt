@@ -5,8 +5,7 @@ use Rattle.trust_base.specs.declared.limits.TheConstants.{MAX_FILE_BYTES}
 use Rattle.statement_csv.specs.Limits.{IsTooLong, IsWithin}
 use Rattle.statement_csv.specs.Reading.{LacksHeader}
 use Rattle.trust_base.specs.declared.refusal.Field.TheVariants as field
-use Rattle.trust_base.specs.declared.refusal.Refusal.{Refusal}
-use Rattle.trust_base.specs.declared.refusal.Refusal.TheVariants.{BadField, Memory, Store, TooLarge}
+use Rattle.trust_base.specs.declared.refusal.Refusal.TheVariants.{BadField, Memory, TooLarge}
 use Rattle.firm_rows.specs.Firm.{Firm}
 use Rattle.matter_bodies.specs.Bodies.{import_body}
 use Rattle.trust_desk.specs.Imports.{Imports, IsStop}
@@ -16,8 +15,9 @@ use Rattle.trust_desk.specs.declared.importing.ImportStop.{ImportStop}
 use Rattle.trust_desk.specs.declared.importing.ImportStop.TheVariants as stop
 use Rattle.cashier.specs.Sent.{IsSent}
 use Rattle.cashier.specs.Sheet.{line_of, refusal_line}
-use Rattle.cashier.specs.declared.statement.StatementEnd.{StatementEnd}
-use Rattle.cashier.specs.declared.statement.StatementEnd.TheVariants as end
+use Rattle.cashier.specs.Report.{refused_outcome}
+use Rattle.cashier.specs.declared.outcome.Outcome.{Outcome}
+use Rattle.cashier.specs.declared.outcome.Outcome.TheVariants as outcome
 
 -- ---- what an import prints
 
@@ -32,37 +32,29 @@ stop_text counts (stop.Refused r) = refusal_line r
 stop_text counts stop.Limit = refusal_line TooLarge
 stop_text counts stop.ReadFault = []
 
--- how its run ends after a refusal
-abbrev pub refused_end : Refusal → StatementEnd
-refused_end Store = end.Store
-refused_end Memory = end.NoMemory
-refused_end _ = end.Refused
-
--- how its run ends, if all of that was written
-abbrev pub stop_end : ImportStop → StatementEnd
-stop_end stop.Done = end.Done
-stop_end (stop.Refused r) = refused_end r
-stop_end stop.Limit = end.Refused
-stop_end stop.ReadFault = end.ReadFault
+-- the outcome of its run, if all of that was written
+abbrev pub stop_outcome : ImportStop → Outcome
+stop_outcome stop.Done = outcome.Done
+stop_outcome (stop.Refused r) = refused_outcome r
+stop_outcome stop.Limit = outcome.Refused
+stop_outcome stop.ReadFault = outcome.FileFault
 
 -- a text was written and the run ended this way, or a write failed and only a prefix of the text was written
-abbrev pub Sent : List ℕ → StatementEnd → Option (List ℕ) → Option (List ℕ) → StatementEnd → Type 0
-Sent text told old new result = IsSent text told end.WriteFault old new result
+abbrev pub Sent : List ℕ → Outcome → Option (List ℕ) → Option (List ℕ) → Outcome → Type 0
+Sent text told old new result = IsSent text told outcome.OutputFault old new result
 
 -- what an import prints was written; if there was no memory for its counts, that was written instead
-abbrev pub Answers : ImportEnd → Option (List ℕ) → Option (List ℕ) → StatementEnd → Type 0
+abbrev pub Answers : ImportEnd → Option (List ℕ) → Option (List ℕ) → Outcome → Type 0
 Answers ran old new result =
-    Sent (stop_text ran.reply ran.end) (stop_end ran.end) old new result
-    ⊎ ((ran.end ≡ stop.Done) × Sent (refusal_line Memory) end.NoMemory old new result)
+    Sent (stop_text ran.reply ran.end) (stop_outcome ran.end) old new result
+    ⊎ ((ran.end ≡ stop.Done) × Sent (refusal_line Memory) outcome.MemoryFault old new result)
 
 -- neither the store nor memory ended it, and its line was written
-abbrev pub EndsByNoFault : StatementEnd → Type 0
-EndsByNoFault end.Done = ⊤
-EndsByNoFault end.Refused = ⊤
-EndsByNoFault end.ReadFault = ⊤
-EndsByNoFault end.WriteFault = ⊥
-EndsByNoFault end.Store = ⊥
-EndsByNoFault end.NoMemory = ⊥
+abbrev pub EndsByNoFault : Outcome → Type 0
+EndsByNoFault outcome.Done = ⊤
+EndsByNoFault outcome.Refused = ⊤
+EndsByNoFault outcome.FileFault = ⊤
+EndsByNoFault _ = ⊥
 
 -- ---- what an import has done
 
@@ -83,13 +75,13 @@ is_told_longer None = false
 is_told_longer (Some n) = nat_lt MAX_FILE_BYTES n
 
 -- a statement with such a length is refused, and none of its items is applied
-pub record Large (before after : Firm) (old new : Option (List ℕ)) (result : StatementEnd) : Type 0 where
+pub record Large (before after : Firm) (old new : Option (List ℕ)) (result : Outcome) : Type 0 where
   pub firm : after ≡ before
-  pub sent : Sent (refusal_line TooLarge) end.Refused old new result
+  pub sent : Sent (refusal_line TooLarge) outcome.Refused old new result
 
 -- any other statement is imported, and the import answered
 pub record Run (day : ℕ) (before : Firm) (bytes : Option (List ℕ)) (after : Firm) (old new : Option (List ℕ))
-    (result : StatementEnd) : Type 0 where
+    (result : Outcome) : Type 0 where
   pub ran : ImportEnd
   pub imported : Imported day before bytes after ran
   pub answers : Answers ran old new result
@@ -97,6 +89,6 @@ pub record Run (day : ℕ) (before : Firm) (bytes : Option (List ℕ)) (after : 
 -- how the import of a statement with this length, if it is reported, and these bytes, if they are known, ends on a day,
 -- given the firm before and after, and what was written by then
 abbrev pub StatementEnds : ℕ → Firm → Option ℕ → Option (List ℕ) → Firm → Option (List ℕ) → Option (List ℕ)
-    → StatementEnd → Type 0
+    → Outcome → Type 0
 StatementEnds day before size bytes after old new result =
     MatchBool (is_told_longer size) (Large before after old new result) (Run day before bytes after old new result)

@@ -118,7 +118,7 @@ pub fn bare_notice_of(outcome: Outcome) -> Option<Notice<'static>>
         Outcome::Done => None,
         Outcome::Refused => None,
         Outcome::CommandLine => Some(Notice::CommandLine(Advice {
-            verb: None,
+            command: None,
             wrong: None,
         })),
         Outcome::FileFault => Some(Notice::FileFault(None)),

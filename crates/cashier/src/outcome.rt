@@ -6,11 +6,10 @@ ghost use Rattle.std.specs.Process.{exit_status as process_status};
 ghost use Rattle.cashier.specs.Report.{refused_outcome, reply_outcome};
 ghost use Rattle.cashier.specs.Serving.{serving_outcome};
 ghost use Rattle.cashier.specs.Outcome.{exit_status, put_outcome, store_outcome};
-ghost use Rattle.cashier.specs.Outcome.{sheet_outcome, statement_outcome, stream_outcome, words_outcome};
+ghost use Rattle.cashier.specs.Outcome.{sheet_outcome, stream_outcome, words_outcome};
 ghost use Rattle.cashier.specs.Sheet.{line_of, refusal_line, reply_line};
 
 use crate::sheet::SheetEnd;
-use crate::statement::StatementEnd;
 use itoa::Buffer;
 use portal_http::{ServeEnd, StreamEnd};
 use std::io::{ErrorKind, Write};
@@ -126,20 +125,6 @@ pub fn outcome_of_sheet(end: SheetEnd) -> Outcome
         SheetEnd::WriteFault => Outcome::OutputFault,
         SheetEnd::Store => Outcome::StoreFault,
         SheetEnd::NoMemory => Outcome::MemoryFault,
-    }
-}
-
-/// The outcome of an import.
-pub fn outcome_of_statement(end: StatementEnd) -> Outcome
-    ensures { result ≡ statement_outcome end }
-{
-    match end {
-        StatementEnd::Done => Outcome::Done,
-        StatementEnd::Refused => Outcome::Refused,
-        StatementEnd::ReadFault => Outcome::FileFault,
-        StatementEnd::WriteFault => Outcome::OutputFault,
-        StatementEnd::Store => Outcome::StoreFault,
-        StatementEnd::NoMemory => Outcome::MemoryFault,
     }
 }
 

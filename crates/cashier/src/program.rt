@@ -16,8 +16,8 @@ ghost use Rattle.portal_http.specs.Clients.{ports_of};
 use crate::check::run_check;
 use crate::matching::run_match;
 use crate::outcome::{
-    Outcome, outcome_of_serving, outcome_of_sheet, outcome_of_statement, outcome_of_store,
-    outcome_of_stream, outcome_of_words, outcome_put_back,
+    Outcome, outcome_of_serving, outcome_of_sheet, outcome_of_store, outcome_of_stream,
+    outcome_of_words, outcome_put_back,
 };
 use crate::report::run_report;
 use crate::sheet::run_sheet;
@@ -86,7 +86,7 @@ fn import_file<F: Folder, M: Remarks, W: Write, B: Book>(
     };
     let is_file = file.length.is_some();
     let told = StatementTelling::new(alloc, folder, path, is_file, today, remarks, earlier);
-    outcome_of_statement(run_import(alloc, file.reader, file.length, writer, desk, today, &told))
+    run_import(alloc, file.reader, file.length, writer, desk, today, &told)
 }
 
 /// Serves `count` clients of a port over a desk on a business day, one after the other, and writes a line for each, the
@@ -324,7 +324,7 @@ fn lines_before<M: Remarks, S: Stores>(
 }
 
 // Reports why the store failed, if a run over the book at a path ended by that: which row can't be read, or that all of
-// them can, so that it was the disk.
+// them can, so that it may be the disk.
 //
 // The book is opened once more for it, read whole and put back, so that nothing depends on it.
 fn tell_of_failure<M: Remarks, S: Stores>(

@@ -13,7 +13,7 @@ use command_line::ReportCommand;
 use std::alloc::Global;
 use std::io::Write;
 use trust_base::Day;
-use trust_desk::{Desk, Request, RowWatch};
+use trust_desk::{Desk, Report, Request, RowWatch};
 use trust_matter::{Ask, Caller};
 use trust_store::Book;
 
@@ -23,16 +23,12 @@ fn request_for(command: ReportCommand) -> Request
 {
     match command {
         ReportCommand::Reconcile(day) => Request::Reconcile(Caller::Cashier, day),
-        ReportCommand::Trial => Request::Trial(Caller::Cashier),
-        ReportCommand::Journal => Request::Journal(Caller::Cashier),
-        ReportCommand::Retention => Request::Retention(Caller::Cashier),
-        ReportCommand::Exceptions => Request::Exceptions(Caller::Cashier),
         ReportCommand::Ledger(no) => Request::Matter {
             no,
             caller: Caller::Cashier,
             ask: Ask::Accounting,
         },
-        ReportCommand::OwnLedger => Request::OwnLedger(Caller::Cashier),
+        ReportCommand::Firm(report) => Request::Report(Caller::Cashier, report),
     }
 }
 
@@ -129,11 +125,11 @@ pub fn run_report<M: Remarks, W: Write, B: Book>(
         return outcome;
     }
     match &command {
-        ReportCommand::Exceptions => tell_reasons(alloc, remarks, desk, today),
+        ReportCommand::Firm(Report::Exceptions) => tell_reasons(alloc, remarks, desk, today),
         ReportCommand::Reconcile(day) => {
             tell_rows(alloc, remarks, &TwiceTelling { remarks }, desk, *day)
         }
-        ReportCommand::Trial | ReportCommand::Journal if is_past => {
+        ReportCommand::Firm(Report::Trial | Report::Journal) if is_past => {
             tell_rows(alloc, remarks, &NowTelling { today, remarks }, desk, today)
         }
         _ => {}

@@ -1,39 +1,22 @@
 // Imports a bank's statement.
 
-ghost use Rattle.std.specs.Prelude.{◌≡◌, ◌⊎◌, option_map};
+ghost use Rattle.std.specs.Prelude.{◌≡◌, ◌≢◌, ◌⊎◌, option_map};
 ghost use Rattle.std.specs.Io.KnownBytes.{Appends};
 ghost use Rattle.trust_base.specs.declared.refusal.Refusal.TheVariants as refusals;
 ghost use Rattle.cashier.specs.Calls.{CountsStore, LeavesBook};
 ghost use Rattle.cashier.specs.Sheet.{refusal_line};
 ghost use Rattle.cashier.specs.Statement as spec;
-ghost use Rattle.cashier.specs.Statement.{Answers, EndsByNoFault, Sent, StatementEnds, counts_line, refused_end};
+ghost use Rattle.cashier.specs.Report.{refused_outcome};
+ghost use Rattle.cashier.specs.Statement.{Answers, EndsByNoFault, Sent, StatementEnds, counts_line};
 ghost use Rattle.statement_csv.specs.Items.{items};
 ghost use Rattle.trust_desk.specs.Crashes.{IsAfterFirst, MayLeave};
 
-use crate::outcome::{write_answer_line, write_refusal};
+use crate::outcome::{Outcome, outcome_of_refusal, write_answer_line, write_refusal};
 use std::alloc::Global;
 use std::io::{Read, Write};
 use trust_base::{Day, MAX_FILE_BYTES, Refusal};
 use trust_desk::{Desk, ImportEnd, ImportReply, ImportStop, ItemWatch, import_body};
 use trust_store::Book;
-
-/// How the import of a statement ended.
-#[derive(Clone, Copy)]
-pub enum StatementEnd {
-    /// Every item was handled, and the counts were written.
-    Done,
-    /// The statement was refused: it has another header, or is too large. If its reported length was too large, none of
-    /// its items was applied.
-    Refused,
-    /// A read failed. The items before that stay applied, and nothing was written.
-    ReadFault,
-    /// A write failed. Only a part of the line was written. The items that were applied stay so.
-    WriteFault,
-    /// The store failed. The line for that was written, and the items before stay applied.
-    Store,
-    /// Memory ran out. The line for that was written, and the items before stay applied.
-    NoMemory,
-}
 
 /// Whether a length in bytes is reported and is above the size limit of a file.
 pub fn is_told_longer(length: Option<u64>) -> bool
@@ -46,18 +29,14 @@ pub fn is_told_longer(length: Option<u64>) -> bool
 }
 
 // Writes the line of a refusal, which ends the run.
-fn refuse<W: Write>(writer: &mut W, refusal: &Refusal) -> StatementEnd
-    ensures { Sent (refusal_line refusal.now) (refused_end refusal.now) (W.contents writer.old)
+fn refuse<W: Write>(writer: &mut W, refusal: &Refusal) -> Outcome
+    ensures { Sent (refusal_line refusal.now) (refused_outcome refusal.now) (W.contents writer.old)
         (W.contents writer.new) result }
 {
     let Ok(()) = write_refusal(writer, refusal) else {
-        return StatementEnd::WriteFault;
+        return Outcome::OutputFault;
     };
-    match refusal {
-        Refusal::Store => StatementEnd::Store,
-        Refusal::Memory => StatementEnd::NoMemory,
-        _ => StatementEnd::Refused,
-    }
+    outcome_of_refusal(refusal)
 }
 
 /// Imports a bank's statement over a desk on a business day, and writes one line: the counts of its items, or its
@@ -65,6 +44,11 @@ fn refuse<W: Write>(writer: &mut W, refusal: &Refusal) -> StatementEnd
 ///
 /// A statement that reports a length above 4,194,304 bytes is refused, and nothing of it is applied. One that reports
 /// no length is read until it exceeds the limit; the items before that then stay applied, as they do after any fault.
+///
+/// The outcome is `Done` if every item was handled and the counts were written. It is `Refused` if the statement has
+/// another header or is too large, and the line for that was written. If the store failed or memory ran out, the line
+/// for that was written, and it is `StoreFault` or `MemoryFault`. If a read failed, it is `FileFault`, and nothing was
+/// written. If a write failed, it is `OutputFault`, and only a part of the line was written.
 ///
 /// `watch` is told about each item that is not applied, and about the end. The contract does not say what it is told.
 pub fn run_import<R: Read + Drop, W: Write, B: Book, V: ItemWatch>(
@@ -75,13 +59,14 @@ pub fn run_import<R: Read + Drop, W: Write, B: Book, V: ItemWatch>(
     desk: &mut Desk<B>,
     today: Day,
     watch: &V,
-) -> StatementEnd
+) -> Outcome
+    ensures began { result ≢ Outcome.CommandLine }
     ensures ends { B.clean desk.new → B.stands desk.old
         → StatementEnds today (B.firm desk.old) length (R.remaining reader) (B.firm desk.new)
         (W.contents writer.old) (W.contents writer.new) result }
 
-    // It ends with `Store` only if a call of the book returned `Store`.
-    ensures kept { LeavesBook B.clean B.sure B.stands B.lasts B.refusals (CountsStore StatementEnd.Store result)
+    // It ends with `StoreFault` only if a call of the book returned `Store`.
+    ensures kept { LeavesBook B.clean B.sure B.stands B.lasts B.refusals (CountsStore Outcome.StoreFault result)
         desk.old desk.new }
 
     // A crash may leave what it might have left before, or the rows after some first items. A settled book is still
@@ -102,12 +87,12 @@ pub fn run_import<R: Read + Drop, W: Write, B: Book, V: ItemWatch>(
                 return refuse(writer, &Refusal::Memory);
             };
             let Ok(()) = write_answer_line(writer, 200, body.as_slice()) else {
-                return StatementEnd::WriteFault;
+                return Outcome::OutputFault;
             };
-            StatementEnd::Done
+            Outcome::Done
         }
         ImportStop::Refused(refusal) => refuse(writer, refusal),
         ImportStop::Limit => refuse(writer, &Refusal::TooLarge),
-        ImportStop::ReadFault => StatementEnd::ReadFault,
+        ImportStop::ReadFault => Outcome::FileFault,
     }
 }

@@ -1,5 +1,5 @@
 -- What a record of a day sheet asks, and what the desk hears of it.
-use Rattle.std.specs.Prelude.{ℕ, Bool, true, false, ◌&&◌, ◌||◌, ◌==◌, List, []}
+use Rattle.std.specs.Prelude.{ℕ, Bool, true, false, ◌&&◌, ◌||◌, ◌==◌, List, [], ◌∷◌, find}
 use Rattle.std.specs.Prelude.{length, codes, Option, Some, None, unwrap_or, Result, Ok, Err, if◌then◌else◌}
 use Rattle.std.specs.List.{list_all}
 use Rattle.std.specs.Str.{bytes_eq, is_utf8}
@@ -20,73 +20,64 @@ use Rattle.trust_desk.specs.Heard.{Asks, Heard, Unread}
 use Rattle.trust_desk.specs.declared.requests.Request.{Request}
 use Rattle.trust_desk.specs.declared.requests.Request.TheVariants.{Dismiss, Matter}
 use Rattle.cashier_remarks.specs.declared.record.Verb.{Verb}
+use Rattle.cashier_remarks.specs.declared.record.VerbForm.{VerbForm}
 use Rattle.cashier_remarks.specs.declared.record.Verb.TheVariants as verb
 
 -- ---- the form of a record
 
--- the verb with this name
-abbrev pub verb_of : List ℕ → Option Verb
-verb_of bs =
-    if bytes_eq bs (codes "open") then Some verb.Open
-    else if bytes_eq bs (codes "seat") then Some verb.Seat
-    else if bytes_eq bs (codes "drop") then Some verb.Drop
-    else if bytes_eq bs (codes "deposit") then Some verb.Deposit
-    else if bytes_eq bs (codes "cancel") then Some verb.Cancel
-    else if bytes_eq bs (codes "propose") then Some verb.Propose
-    else if bytes_eq bs (codes "claim") then Some verb.Claim
-    else if bytes_eq bs (codes "award") then Some verb.Award
-    else if bytes_eq bs (codes "close") then Some verb.Close
-    else if bytes_eq bs (codes "purge") then Some verb.Purge
-    else if bytes_eq bs (codes "entry") then Some verb.Entry
-    else if bytes_eq bs (codes "show") then Some verb.Show
-    else None
+-- the form of a verb's records
+pub record Form : Type 0 where
+  -- the verb's name, which is the first field
+  pub name : List ℕ
+  pub verb : Verb
+  -- how many fields there are: the verb, the matter, the entry and the verb's own
+  pub field_count : ℕ
+  -- whether there is an entry; else its field is empty
+  pub names_entry : Bool
 
--- how many fields its records have: the verb, the matter, the entry and the verb's own
-abbrev pub count_of : Verb → ℕ
-count_of verb.Open = 5
-count_of verb.Seat = 5
-count_of verb.Drop = 4
-count_of verb.Deposit = 6
-count_of verb.Cancel = 3
-count_of verb.Propose = 9
-count_of verb.Claim = 6
-count_of verb.Award = 4
-count_of verb.Close = 3
-count_of verb.Purge = 3
-count_of verb.Entry = 3
-count_of verb.Show = 3
+abbrev form : List ℕ → Verb → ℕ → Bool → Form
+form name verb field_count names_entry =
+    record { name = name; verb = verb; field_count = field_count; names_entry = names_entry }
 
--- its records name an entry
-abbrev pub names_entry : Verb → Bool
-names_entry verb.Open = false
-names_entry verb.Seat = false
-names_entry verb.Drop = false
-names_entry verb.Deposit = true
-names_entry verb.Cancel = true
-names_entry verb.Propose = true
-names_entry verb.Claim = true
-names_entry verb.Award = true
-names_entry verb.Close = false
-names_entry verb.Purge = false
-names_entry verb.Entry = true
-names_entry verb.Show = false
+-- the forms of records
+unfoldable pub forms : List Form
+forms = form (codes "open") verb.Open 5 false
+    ∷ form (codes "seat") verb.Seat 5 false
+    ∷ form (codes "drop") verb.Drop 4 false
+    ∷ form (codes "deposit") verb.Deposit 6 true
+    ∷ form (codes "cancel") verb.Cancel 3 true
+    ∷ form (codes "propose") verb.Propose 9 true
+    ∷ form (codes "claim") verb.Claim 6 true
+    ∷ form (codes "award") verb.Award 4 true
+    ∷ form (codes "close") verb.Close 3 false
+    ∷ form (codes "purge") verb.Purge 3 false
+    ∷ form (codes "entry") verb.Entry 3 true
+    ∷ form (codes "show") verb.Show 3 false ∷ []
+
+-- the form that a row of the program's own table says
+abbrev pub form_in : VerbForm → Form
+form_in row = form row.name.now row.verb row.field_count row.names_entry
 
 -- the field at a place, counted from 0; empty if there is none
 abbrev pub text_at : List (List ℕ) → ℕ → List ℕ
 text_at fields i = unwrap_or (field_at fields i) []
 
--- the record has as many fields as its verb takes, each in UTF-8, and an entry only if the verb takes one
-abbrev pub is_of_form : List (List ℕ) → Verb → Bool
-is_of_form fields v =
-    length fields == count_of v && (names_entry v || length (text_at fields 2) == 0) && list_all is_utf8 fields
+-- the form of the verb that a record's first field names
+abbrev pub form_of : List (List ℕ) → Option Form
+form_of fields = find (λ f. bytes_eq (text_at fields 0) f.name) forms
 
-abbrev pub verb_if_formed : List (List ℕ) → Option Verb → Option Verb
+-- the record has as many fields as its verb takes, each in UTF-8, and an entry only if the verb takes one
+abbrev pub is_of_form : List (List ℕ) → Form → Bool
+is_of_form fields f =
+    length fields == f.field_count && (f.names_entry || length (text_at fields 2) == 0) && list_all is_utf8 fields
+
+abbrev pub verb_if_formed : List (List ℕ) → Option Form → Option Verb
 verb_if_formed fields None = None
-verb_if_formed fields (Some v) = if is_of_form fields v then Some v else None
+verb_if_formed fields (Some f) = if is_of_form fields f then Some f.verb else None
 
 -- the verb of a record, if the record has the verb's form
 abbrev pub verb_in : List (List ℕ) → Option Verb
-verb_in fields = verb_if_formed fields (verb_of (text_at fields 0))
+verb_in fields = verb_if_formed fields (form_of fields)
 
 -- ---- the asks, by the fields of a record
 

@@ -1,5 +1,12 @@
 //! What a person is told of a run as it goes, and what that is told of: a record of a day sheet, as a person types it,
 //! with what it asks; and the files that a command line names.
+//!
+//! # What is promised
+//!
+//! By public call, with the clauses of its contract in brackets.
+//!
+//! - `read_request`, `answer_record`: what a record asks, by the readers of `ask_fields`, or the first field that is
+//!   not of its form; the desk's answer to it, as the cashier.
 #![tactic(auto)]
 
 mod folder;
@@ -7,7 +14,7 @@ mod record;
 mod remarks;
 
 pub use folder::{Folder, Opened, Presence};
-pub use record::{Verb, answer_record};
+pub use record::{Verb, VerbForm, answer_record};
 pub use remarks::{
     AskedRemarks, Caution, ClearedTwice, EarlierLine, EntryFault, EntryLine, ExceptionRemark,
     ExceptionTelling, Excerpt, FileRemark, HeaderRemark, LineFault, LineRemark, NoRemarks,

@@ -1,6 +1,6 @@
 // One record of a day sheet.
 
-ghost use Rattle.std.specs.Prelude.{◌≡◌, [], false, unwrap_or};
+ghost use Rattle.std.specs.Prelude.{◌≡◌, [], false, option_map, unwrap_or};
 ghost use Rattle.std.specs.List.{list_all};
 ghost use Rattle.std.specs.Option.{option_copied};
 ghost use Rattle.std.specs.Str.{is_utf8};
@@ -12,7 +12,7 @@ ghost use Rattle.trust_desk.specs.Counts.{counted_reply};
 ghost use Rattle.trust_desk.specs.Crashes.{IsMade, MayLeave};
 ghost use Rattle.trust_desk.specs.FirmStep.{Steps, firm_step};
 ghost use Rattle.trust_desk.specs.Replies.{is_fault_reply};
-ghost use Rattle.cashier_remarks.specs.Records.{ask_of, asked_of, awarding_in, claiming_in, dismissing_in, has_dismissal_form, heard_of, proposing_in, text_given, verb_in, verb_of};
+ghost use Rattle.cashier_remarks.specs.Records.{ask_of, asked_of, awarding_in, claiming_in, dismissing_in, form_in, form_of, has_dismissal_form, heard_of, proposing_in, text_given};
 
 use ask_fields::{
     ClaimTexts, PaymentTexts, read_cancelling, read_claiming, read_depositing, read_dropping,
@@ -56,6 +56,108 @@ pub enum Verb {
     Show,
 }
 
+/// The form of a verb's records.
+pub struct VerbForm {
+    /// The verb's name, which is the first field.
+    pub name: &'static str,
+    /// The verb.
+    pub verb: Verb,
+    /// How many fields there are.
+    pub field_count: usize,
+    /// Whether the third field names an entry. Otherwise it is empty.
+    pub names_entry: bool,
+    /// A record with the names of its fields.
+    pub pattern: &'static str,
+}
+
+/// The forms of records, one for each verb.
+pub(crate) const FORMS: &[VerbForm] = &[
+    VerbForm {
+        name: "open",
+        verb: Verb::Open,
+        field_count: 5,
+        names_entry: false,
+        pattern: "open,MATTER,,CLIENT,LAWYER",
+    },
+    VerbForm {
+        name: "seat",
+        verb: Verb::Seat,
+        field_count: 5,
+        names_entry: false,
+        pattern: "seat,MATTER,,PERSON,ROLE",
+    },
+    VerbForm {
+        name: "drop",
+        verb: Verb::Drop,
+        field_count: 4,
+        names_entry: false,
+        pattern: "drop,MATTER,,PERSON",
+    },
+    VerbForm {
+        name: "deposit",
+        verb: Verb::Deposit,
+        field_count: 6,
+        names_entry: true,
+        pattern: "deposit,MATTER,ENTRY,AMOUNT,SOURCE,DESCRIPTION",
+    },
+    VerbForm {
+        name: "cancel",
+        verb: Verb::Cancel,
+        field_count: 3,
+        names_entry: true,
+        pattern: "cancel,MATTER,ENTRY",
+    },
+    VerbForm {
+        name: "propose",
+        verb: Verb::Propose,
+        field_count: 9,
+        names_entry: true,
+        pattern: "propose,MATTER,ENTRY,AMOUNT,FROM,OF,PAYEE,PURPOSE,INSTRUMENT",
+    },
+    VerbForm {
+        name: "claim",
+        verb: Verb::Claim,
+        field_count: 6,
+        names_entry: true,
+        pattern: "claim,MATTER,ENTRY,AMOUNT,CLAIMANT,REASON",
+    },
+    VerbForm {
+        name: "award",
+        verb: Verb::Award,
+        field_count: 4,
+        names_entry: true,
+        pattern: "award,MATTER,ENTRY,TO_CLIENT",
+    },
+    VerbForm {
+        name: "close",
+        verb: Verb::Close,
+        field_count: 3,
+        names_entry: false,
+        pattern: "close,MATTER,",
+    },
+    VerbForm {
+        name: "purge",
+        verb: Verb::Purge,
+        field_count: 3,
+        names_entry: false,
+        pattern: "purge,MATTER,",
+    },
+    VerbForm {
+        name: "entry",
+        verb: Verb::Entry,
+        field_count: 3,
+        names_entry: true,
+        pattern: "entry,MATTER,ENTRY",
+    },
+    VerbForm {
+        name: "show",
+        verb: Verb::Show,
+        field_count: 3,
+        names_entry: false,
+        pattern: "show,MATTER,",
+    },
+];
+
 /// The field of a record, or empty if there is none.
 pub(crate) fn field_bytes(row: &ByteRecord, i: usize) -> &[u8]
     ensures { result.now ≡ unwrap_or (field_at (fields_of row.now) i) [] }
@@ -63,75 +165,12 @@ pub(crate) fn field_bytes(row: &ByteRecord, i: usize) -> &[u8]
     row.get(i).unwrap_or(&[])
 }
 
-pub(crate) fn read_verb(name: &[u8]) -> Option<Verb>
-    ensures { result ≡ verb_of name.now }
+/// The form that a record's verb asks of it. `None` if its first field is the name of no verb.
+pub(crate) fn form_of(row: &ByteRecord) -> Option<&'static VerbForm>
+    ensures { option_map (λ form. form_in form.now) result ≡ form_of (fields_of row.now) }
 {
-    if name == b"open".as_slice() {
-        Some(Verb::Open)
-    } else if name == b"seat".as_slice() {
-        Some(Verb::Seat)
-    } else if name == b"drop".as_slice() {
-        Some(Verb::Drop)
-    } else if name == b"deposit".as_slice() {
-        Some(Verb::Deposit)
-    } else if name == b"cancel".as_slice() {
-        Some(Verb::Cancel)
-    } else if name == b"propose".as_slice() {
-        Some(Verb::Propose)
-    } else if name == b"claim".as_slice() {
-        Some(Verb::Claim)
-    } else if name == b"award".as_slice() {
-        Some(Verb::Award)
-    } else if name == b"close".as_slice() {
-        Some(Verb::Close)
-    } else if name == b"purge".as_slice() {
-        Some(Verb::Purge)
-    } else if name == b"entry".as_slice() {
-        Some(Verb::Entry)
-    } else if name == b"show".as_slice() {
-        Some(Verb::Show)
-    } else {
-        None
-    }
-}
-
-/// How many fields a record of this verb has.
-pub(crate) fn count_of(verb: Verb) -> usize
-    ensures { result ≡ spec.count_of verb }
-{
-    match verb {
-        Verb::Open => 5,
-        Verb::Seat => 5,
-        Verb::Drop => 4,
-        Verb::Deposit => 6,
-        Verb::Cancel => 3,
-        Verb::Propose => 9,
-        Verb::Claim => 6,
-        Verb::Award => 4,
-        Verb::Close => 3,
-        Verb::Purge => 3,
-        Verb::Entry => 3,
-        Verb::Show => 3,
-    }
-}
-
-pub(crate) fn names_entry(verb: Verb) -> bool
-    ensures { result ≡ spec.names_entry verb }
-{
-    match verb {
-        Verb::Open => false,
-        Verb::Seat => false,
-        Verb::Drop => false,
-        Verb::Deposit => true,
-        Verb::Cancel => true,
-        Verb::Propose => true,
-        Verb::Claim => true,
-        Verb::Award => true,
-        Verb::Close => false,
-        Verb::Purge => false,
-        Verb::Entry => true,
-        Verb::Show => false,
-    }
+    let name = field_bytes(row, 0);
+    FORMS.iter().find(|form| name == form.name.as_bytes())
 }
 
 pub(crate) fn is_text(field: &[u8]) -> bool
@@ -269,9 +308,9 @@ fn read_request(alloc: Global, row: &ByteRecord) -> Result<Request, Refusal>
     if is_dismissal(row) {
         return read_dismissal(alloc, row);
     }
-    let verb = read_verb(field_bytes(row, 0)).ok_or(BadField(Field::Record))?;
-    let is_of_form = row.len() == count_of(verb)
-        && (names_entry(verb) || field_bytes(row, 2).is_empty())
+    let form = form_of(row).ok_or(BadField(Field::Record))?;
+    let is_of_form = row.len() == form.field_count
+        && (form.names_entry || field_bytes(row, 2).is_empty())
         && is_all_text(row);
     if !is_of_form {
         return Err(BadField(Field::Record));
@@ -279,7 +318,7 @@ fn read_request(alloc: Global, row: &ByteRecord) -> Result<Request, Refusal>
     let Some(no) = MatterNo::read(field_bytes(row, 1)) else {
         return Err(BadField(Field::Matter));
     };
-    let ask = read_ask(alloc, verb, row)?;
+    let ask = read_ask(alloc, form.verb, row)?;
     Ok(Request::Matter {
         no,
         caller: Caller::Cashier,

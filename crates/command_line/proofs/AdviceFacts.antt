@@ -1,11 +1,11 @@
 -- What is wrong with words, by the errors of the parser on them and on their fronts.
-use Rattle.command_line.proofs.Names.{arith, ◌≡◌, ◌≢◌, ◌∙◌, ◌+◌, ◌<◌, ◌||◌, inl, ap, sym, refl, subst, Bool, ℕ, List, [], Option, Some, None, IfNone, IfSome, get_or, length, min, option_map, slice_get, take, slice_get-get_or, slice_get-map, list_any, option_or, Row, Text, fault_of, found_of, matches_of, rows_of, subcommand_of, subcommand_rows_of, ErrorKind, ArgMatches, clap_on_literals, Bor, HasCommand, HasWrongValue, IsFront, IsRepeated, IsStrayed, IsStray, IsTakenSoFar, IsWrong, IsWrongValue, LacksValue, LacksValueAt, Names, front_by, last_setting, names_day, setting_named, verb_name, FailsAs, IsParse, IsRefused, db_rule, operand_rule, options_app, program, quiet_rule, report_apps, run_apps, today_rule, words_of, Front, ints, nat_tests}
+use Rattle.command_line.proofs.Names.{arith, ◌≡◌, ◌≢◌, ◌∙◌, ◌+◌, ◌<◌, ◌||◌, inl, ap, sym, refl, subst, Bool, ℕ, List, [], Option, Some, None, IfNone, IfSome, get_or, length, min, option_map, slice_get, take, slice_get-get_or, slice_get-map, list_any, option_or, Row, Text, fault_of, found_of, matches_of, rows_of, subcommand_of, subcommand_rows_of, ErrorKind, ArgMatches, clap_on_literals, Bor, HasCommand, HasWrongValue, IsFront, IsRepeated, IsStrayed, IsStray, IsTakenSoFar, IsWrong, IsWrongValue, LacksValue, LacksValueAt, Names, front_by, last_setting, names_day, setting_named, command_text, FailsAs, IsParse, IsRefused, db_rule, operand_rule, options_app, program, quiet_rule, report_apps, run_apps, today_rule, words_of, Front, ints, nat_tests}
 use Rattle.std.proofs.lemmas.List.{get_or-map, length-map, take-map, take_min}
 use Rattle.std.proofs.lemmas.List.Folds.{list_any_more}
 use Rattle.std.proofs.lemmas.List.Sums.{fold_more}
 use Rattle.clap.specs.declared.error.kind.ErrorKind.TheVariants as kind
 use Rattle.command_line.specs.declared.advice.Setting.{Setting}
-use Rattle.command_line.specs.declared.advice.Verb.{Verb}
+use Rattle.command_line.specs.declared.advice.CommandName.{CommandName}
 use Rattle.command_line.specs.declared.advice.Wrong.{Wrong}
 use Rattle.command_line.specs.declared.faults.Front.TheVariants as fronts
 
@@ -80,9 +80,9 @@ lacks-value words i (Some setting) at named = record {
   named = front-is words (i + 1) (λ w. last_setting w ≡ Some setting) (sym named);
 }
 
-pub names : (words : List (Bor (List ℕ))) (i : ℕ) (d : Bor (List ℕ)) (front : Front) (verb : Verb) → i < length words → FailsAs (front-of words i) kind.MissingSubcommand
-    → front ≡ fronts.Met → IsFront (words_of (take (i + 1) words)) front → (get_or words i d).now ≡ verb_name verb → Names (words_of words) verb
-names words i d front verb less wanted e h name = record {
+pub names : (words : List (Bor (List ℕ))) (i : ℕ) (d : Bor (List ℕ)) (front : Front) (command : CommandName) → i < length words → FailsAs (front-of words i) kind.MissingSubcommand
+    → front ≡ fronts.Met → IsFront (words_of (take (i + 1) words)) front → (get_or words i d).now ≡ command_text command → Names (words_of words) command
+names words i d front command less wanted e h name = record {
   place = i;
   stands = word-at words i d less ∙ ap Some name;
   wanted = wanted;

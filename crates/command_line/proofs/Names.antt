@@ -14,7 +14,7 @@ pub use Rattle.std.specs.List.{list_any}
 pub use Rattle.std.specs.Option.{option_or}
 pub use Rattle.std.specs.Str.{bytes_eq}
 pub use Rattle.trust_base.specs.Texts.{day_of}
-pub use Rattle.command_line.specs.Advice.{HasCommand, HasWrongValue, IsFront, IsRepeated, IsStray, IsStrayed, IsTakenSoFar, IsWrong, IsWrongValue, LacksValue, LacksValueAt, Names, front_by, last_setting, names_day, setting_named, verb_name}
+pub use Rattle.command_line.specs.Advice.{HasCommand, HasWrongValue, IsFront, IsRepeated, IsStray, IsStrayed, IsTakenSoFar, IsWrong, IsWrongValue, LacksValue, LacksValueAt, Names, front_by, last_setting, names_day, setting_named, command_text}
 pub use Rattle.command_line.specs.Numerals.{IsNumberBetween}
 pub use Rattle.command_line.specs.Program.{FailsAs, Gives, IsParse, IsRefused, IsTask, LeavesNoPlan, Means, MeansCheck, MeansNothing, MeetsTask, apps_of, command_app, fault_by, task_text, with_commands, with_operands, words_of}
 unfoldable pub use Rattle.command_line.specs.Program.{db_rule, operand_rule, options_app, program, quiet_rule, report_apps, run_apps, today_rule}

@@ -12,8 +12,8 @@ use Rattle.command_line.specs.Program.{FailsAs, program}
 use Rattle.command_line.specs.declared.advice.Advice.{Advice}
 use Rattle.command_line.specs.declared.advice.Setting.{Setting}
 use Rattle.command_line.specs.declared.advice.Setting.TheVariants as settings
-use Rattle.command_line.specs.declared.advice.Verb.{Verb}
-use Rattle.command_line.specs.declared.advice.Verb.TheVariants as verbs
+use Rattle.command_line.specs.declared.advice.CommandName.{CommandName}
+use Rattle.command_line.specs.declared.advice.CommandName.TheVariants as commands
 use Rattle.command_line.specs.declared.advice.Wrong.{Wrong}
 use Rattle.command_line.specs.declared.advice.Wrong.TheVariants as wrong
 use Rattle.command_line.specs.declared.faults.Front.{Front}
@@ -22,52 +22,52 @@ use Rattle.command_line.specs.declared.faults.Front.TheVariants as fronts
 -- ---- texts
 
 -- the name of a command
-abbrev pub verb_name : Verb → Text
-verb_name verbs.Sheet = codes "sheet"
-verb_name verbs.Import = codes "import"
-verb_name verbs.Match = codes "match"
-verb_name verbs.Stream = codes "stream"
-verb_name verbs.Serve = codes "serve"
-verb_name verbs.Reconcile = codes "reconcile"
-verb_name verbs.Trial = codes "trial"
-verb_name verbs.Journal = codes "journal"
-verb_name verbs.Retention = codes "retention"
-verb_name verbs.Exceptions = codes "exceptions"
-verb_name verbs.Ledger = codes "ledger"
-verb_name verbs.Check = codes "check"
+abbrev pub command_text : CommandName → Text
+command_text commands.Sheet = codes "sheet"
+command_text commands.Import = codes "import"
+command_text commands.Match = codes "match"
+command_text commands.Stream = codes "stream"
+command_text commands.Serve = codes "serve"
+command_text commands.Reconcile = codes "reconcile"
+command_text commands.Trial = codes "trial"
+command_text commands.Journal = codes "journal"
+command_text commands.Retention = codes "retention"
+command_text commands.Exceptions = codes "exceptions"
+command_text commands.Ledger = codes "ledger"
+command_text commands.Check = codes "check"
 
 -- how a command is written after the options; without a command, all of them
-abbrev pub verb_usage : Option Verb → Text
-verb_usage None = codes "(sheet | import FILE | match FILE | stream | serve PORT COUNT | reconcile DAY | trial | "
+abbrev pub command_usage : Option CommandName → Text
+command_usage None = codes "(sheet | import FILE | match FILE | stream | serve PORT COUNT | reconcile DAY | trial | "
     ++ codes "journal | retention | exceptions | ledger MATTER|FIRM | check)"
-verb_usage (Some verbs.Sheet) = codes "sheet"
-verb_usage (Some verbs.Import) = codes "import FILE"
-verb_usage (Some verbs.Match) = codes "match FILE"
-verb_usage (Some verbs.Stream) = codes "stream"
-verb_usage (Some verbs.Serve) = codes "serve PORT COUNT"
-verb_usage (Some verbs.Reconcile) = codes "reconcile DAY"
-verb_usage (Some verbs.Trial) = codes "trial"
-verb_usage (Some verbs.Journal) = codes "journal"
-verb_usage (Some verbs.Retention) = codes "retention"
-verb_usage (Some verbs.Exceptions) = codes "exceptions"
-verb_usage (Some verbs.Ledger) = codes "ledger MATTER|FIRM"
-verb_usage (Some verbs.Check) = codes "check"
+command_usage (Some commands.Sheet) = codes "sheet"
+command_usage (Some commands.Import) = codes "import FILE"
+command_usage (Some commands.Match) = codes "match FILE"
+command_usage (Some commands.Stream) = codes "stream"
+command_usage (Some commands.Serve) = codes "serve PORT COUNT"
+command_usage (Some commands.Reconcile) = codes "reconcile DAY"
+command_usage (Some commands.Trial) = codes "trial"
+command_usage (Some commands.Journal) = codes "journal"
+command_usage (Some commands.Retention) = codes "retention"
+command_usage (Some commands.Exceptions) = codes "exceptions"
+command_usage (Some commands.Ledger) = codes "ledger MATTER|FIRM"
+command_usage (Some commands.Check) = codes "check"
 
 -- a command as it may be typed
-abbrev pub verb_example : Option Verb → Text
-verb_example None = codes "reconcile 2026-03-31"
-verb_example (Some verbs.Sheet) = codes "sheet < day.csv"
-verb_example (Some verbs.Import) = codes "import statement.csv"
-verb_example (Some verbs.Match) = codes "match bank.csv > statement.csv"
-verb_example (Some verbs.Stream) = codes "stream < messages.http"
-verb_example (Some verbs.Serve) = codes "serve 8080 100"
-verb_example (Some verbs.Reconcile) = codes "reconcile 2026-03-31"
-verb_example (Some verbs.Trial) = codes "trial"
-verb_example (Some verbs.Journal) = codes "journal"
-verb_example (Some verbs.Retention) = codes "retention"
-verb_example (Some verbs.Exceptions) = codes "exceptions"
-verb_example (Some verbs.Ledger) = codes "ledger 000001"
-verb_example (Some verbs.Check) = codes "check"
+abbrev pub command_example : Option CommandName → Text
+command_example None = codes "reconcile 2026-03-31"
+command_example (Some commands.Sheet) = codes "sheet < day.csv"
+command_example (Some commands.Import) = codes "import statement.csv"
+command_example (Some commands.Match) = codes "match bank.csv > statement.csv"
+command_example (Some commands.Stream) = codes "stream < messages.http"
+command_example (Some commands.Serve) = codes "serve 8080 100"
+command_example (Some commands.Reconcile) = codes "reconcile 2026-03-31"
+command_example (Some commands.Trial) = codes "trial"
+command_example (Some commands.Journal) = codes "journal"
+command_example (Some commands.Retention) = codes "retention"
+command_example (Some commands.Exceptions) = codes "exceptions"
+command_example (Some commands.Ledger) = codes "ledger 000001"
+command_example (Some commands.Check) = codes "check"
 
 -- what is wrong
 abbrev pub wrong_text : Wrong → Text
@@ -93,8 +93,8 @@ wrong_line (Some w) = codes "\nwrong: " ++ wrong_text w
 
 -- the lines of the advice, without the last newline
 abbrev pub advice_text : Advice → Text
-advice_text a = codes "usage: cashier_cli [--db PATH] [--quiet] --today DAY " ++ (verb_usage a.verb
-    ++ (codes "\nexample: cashier_cli --today 2026-03-31 " ++ (verb_example a.verb ++ wrong_line a.wrong)))
+advice_text a = codes "usage: cashier_cli [--db PATH] [--quiet] --today DAY " ++ (command_usage a.command
+    ++ (codes "\nexample: cashier_cli --today 2026-03-31 " ++ (command_example a.command ++ wrong_line a.wrong)))
 
 -- ---- what holds of the words
 
@@ -140,9 +140,9 @@ pub record IsStray (words : List Text) (word : Text) : Type 0 where
   pub refused : IsStrayed (take (place + 1) words)
 
 -- the words name the command: it stands where one is required, and with it none is required any more
-pub record Names (words : List Text) (verb : Verb) : Type 0 where
+pub record Names (words : List Text) (command : CommandName) : Type 0 where
   pub place : ℕ
-  pub stands : slice_get words place ≡ Some (verb_name verb)
+  pub stands : slice_get words place ≡ Some (command_text command)
   pub wanted : FailsAs (take place words) kind.MissingSubcommand
   pub met : HasCommand (take (place + 1) words)
 

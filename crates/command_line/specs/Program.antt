@@ -16,7 +16,9 @@ use Rattle.command_line.specs.declared.command.CliFault.TheVariants as faults
 use Rattle.command_line.specs.declared.command.Task.{Task}
 use Rattle.command_line.specs.declared.command.Task.TheVariants as tasks
 use Rattle.command_line.specs.declared.command.ReportCommand.{ReportCommand}
-use Rattle.command_line.specs.declared.command.ReportCommand.TheVariants as reports
+use Rattle.command_line.specs.declared.command.ReportCommand.TheVariants.{Reconcile, Ledger, Firm}
+use Rattle.trust_desk.specs.declared.requests.Report.{Report}
+use Rattle.trust_desk.specs.declared.requests.Report.TheVariants as reports
 
 -- `--today DAY`, required
 unfoldable pub today_rule : Rule
@@ -97,28 +99,27 @@ FailsAs words k = IsAmong k (fault_of program words)
 abbrev pub IsRefused : List Text → ErrorKind → Type 0
 IsRefused words k = (k ≡ kind.OutOfMemory) ⊎ FailsAs words k
 
--- the name of a report's command
-abbrev pub report_name : ReportCommand → Text
-report_name (reports.Reconcile day) = codes "reconcile"
-report_name reports.Trial = codes "trial"
-report_name reports.Journal = codes "journal"
-report_name reports.Retention = codes "retention"
-report_name reports.Exceptions = codes "exceptions"
-report_name (reports.Ledger matter) = codes "ledger"
-report_name reports.OwnLedger = codes "ledger"
+-- the name of the command of a report on the firm
+abbrev pub firm_report_name : Report → Text
+firm_report_name reports.Exceptions = codes "exceptions"
+firm_report_name reports.Trial = codes "trial"
+firm_report_name reports.Journal = codes "journal"
+firm_report_name reports.Retention = codes "retention"
+firm_report_name reports.OwnLedger = codes "ledger"
 
--- the values of the command are the operands of the report: the text of a day, a matter's six digits, or the word for
--- the firm
+-- the name of the command of what is to be printed
+abbrev pub report_name : ReportCommand → Text
+report_name (Reconcile day) = codes "reconcile"
+report_name (Ledger matter) = codes "ledger"
+report_name (Firm report) = firm_report_name report
+
+-- the values of the command are the operands: the text of a day, a matter's six digits, or, for the card of the firm's
+-- own money alone, the word for the firm
 abbrev pub HasReportOperands : List Row → ReportCommand → Type 0
-HasReportOperands values (reports.Reconcile day) =
-    option_and_then day_of (first_of (codes "DAY") values) ≡ Some day
-HasReportOperands values reports.Trial = ⊤
-HasReportOperands values reports.Journal = ⊤
-HasReportOperands values reports.Retention = ⊤
-HasReportOperands values reports.Exceptions = ⊤
-HasReportOperands values (reports.Ledger matter) =
-    option_and_then matter_of (first_of (codes "MATTER") values) ≡ Some matter
-HasReportOperands values reports.OwnLedger = first_of (codes "MATTER") values ≡ Some (codes "FIRM")
+HasReportOperands values (Reconcile day) = option_and_then day_of (first_of (codes "DAY") values) ≡ Some day
+HasReportOperands values (Ledger matter) = option_and_then matter_of (first_of (codes "MATTER") values) ≡ Some matter
+HasReportOperands values (Firm reports.OwnLedger) = first_of (codes "MATTER") values ≡ Some (codes "FIRM")
+HasReportOperands values (Firm report) = ⊤
 
 -- the name of a task's command
 abbrev pub task_text : Task → Text

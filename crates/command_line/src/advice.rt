@@ -1,13 +1,13 @@
 // The advice that is printed for words that mean nothing.
 
 ghost use Rattle.std.specs.Prelude.{◌≡◌, ◌⊎◌, IfNone, IfSome, Some};
-ghost use Rattle.command_line.specs.Advice.{advice_text, verb_example, verb_name, verb_usage, wrong_text};
+ghost use Rattle.command_line.specs.Advice.{advice_text, command_example, command_text, command_usage, wrong_text};
 
 use std::fmt;
 
 /// The commands.
 #[derive(Clone, Copy, PartialEq, Eq, Debug)]
-pub enum Verb {
+pub enum CommandName {
     /// Run a day sheet.
     Sheet,
     /// Import a bank statement.
@@ -75,72 +75,72 @@ pub enum Wrong<'a> {
 #[derive(Clone, Copy, PartialEq, Eq, Debug)]
 pub struct Advice<'a> {
     /// The command whose usage is printed; `None` for the usage of the whole program.
-    pub verb: Option<Verb>,
+    pub command: Option<CommandName>,
     /// What is wrong, if that is known.
     pub wrong: Option<Wrong<'a>>,
 }
 
 /// Returns the command with this name.
-pub fn verb_of(name: &str) -> Option<Verb>
-    ensures { IfSome result (λ verb. name.now ≡ verb_name verb) }
+pub fn command_called(name: &str) -> Option<CommandName>
+    ensures { IfSome result (λ command. name.now ≡ command_text command) }
 {
     match name {
-        "sheet" => Some(Verb::Sheet),
-        "import" => Some(Verb::Import),
-        "match" => Some(Verb::Match),
-        "stream" => Some(Verb::Stream),
-        "serve" => Some(Verb::Serve),
-        "reconcile" => Some(Verb::Reconcile),
-        "trial" => Some(Verb::Trial),
-        "journal" => Some(Verb::Journal),
-        "retention" => Some(Verb::Retention),
-        "exceptions" => Some(Verb::Exceptions),
-        "ledger" => Some(Verb::Ledger),
-        "check" => Some(Verb::Check),
+        "sheet" => Some(CommandName::Sheet),
+        "import" => Some(CommandName::Import),
+        "match" => Some(CommandName::Match),
+        "stream" => Some(CommandName::Stream),
+        "serve" => Some(CommandName::Serve),
+        "reconcile" => Some(CommandName::Reconcile),
+        "trial" => Some(CommandName::Trial),
+        "journal" => Some(CommandName::Journal),
+        "retention" => Some(CommandName::Retention),
+        "exceptions" => Some(CommandName::Exceptions),
+        "ledger" => Some(CommandName::Ledger),
+        "check" => Some(CommandName::Check),
         _ => None,
     }
 }
 
 // Returns how a command is written after the options.
-fn usage_of(verb: Option<Verb>) -> &'static str
-    ensures { result.now ≡ verb_usage verb }
+fn usage_of(command: Option<CommandName>) -> &'static str
+    ensures { result.now ≡ command_usage command }
 {
-    match verb {
+    match command {
         None =>
             "(sheet | import FILE | match FILE | stream | serve PORT COUNT | reconcile DAY | trial | \
             journal | retention | exceptions | ledger MATTER|FIRM | check)",
-        Some(Verb::Sheet) => "sheet",
-        Some(Verb::Import) => "import FILE",
-        Some(Verb::Match) => "match FILE",
-        Some(Verb::Stream) => "stream",
-        Some(Verb::Serve) => "serve PORT COUNT",
-        Some(Verb::Reconcile) => "reconcile DAY",
-        Some(Verb::Trial) => "trial",
-        Some(Verb::Journal) => "journal",
-        Some(Verb::Retention) => "retention",
-        Some(Verb::Exceptions) => "exceptions",
-        Some(Verb::Ledger) => "ledger MATTER|FIRM",
-        Some(Verb::Check) => "check",
+        Some(CommandName::Sheet) => "sheet",
+        Some(CommandName::Import) => "import FILE",
+        Some(CommandName::Match) => "match FILE",
+        Some(CommandName::Stream) => "stream",
+        Some(CommandName::Serve) => "serve PORT COUNT",
+        Some(CommandName::Reconcile) => "reconcile DAY",
+        Some(CommandName::Trial) => "trial",
+        Some(CommandName::Journal) => "journal",
+        Some(CommandName::Retention) => "retention",
+        Some(CommandName::Exceptions) => "exceptions",
+        Some(CommandName::Ledger) => "ledger MATTER|FIRM",
+        Some(CommandName::Check) => "check",
     }
 }
 
 // Returns an example of a command.
-fn example_of(verb: Option<Verb>) -> &'static str
-    ensures { result.now ≡ verb_example verb }
+fn example_of(command: Option<CommandName>) -> &'static str
+    ensures { result.now ≡ command_example command }
 {
-    match verb {
-        None | Some(Verb::Reconcile) => "reconcile 2026-03-31",
-        Some(Verb::Sheet) => "sheet < day.csv",
-        Some(Verb::Import) => "import statement.csv",
-        Some(Verb::Match) => "match bank.csv > statement.csv",
-        Some(Verb::Stream) => "stream < messages.http",
-        Some(Verb::Serve) => "serve 8080 100",
-        Some(Verb::Trial) => "trial",
-        Some(Verb::Journal) => "journal",
-        Some(Verb::Retention) => "retention",
-        Some(Verb::Exceptions) => "exceptions",
-        Some(Verb::Ledger) => "ledger 000001",
-        Some(Verb::Check) => "check",
+    match command {
+        None | Some(CommandName::Reconcile) => "reconcile 2026-03-31",
+        Some(CommandName::Sheet) => "sheet < day.csv",
+        Some(CommandName::Import) => "import statement.csv",
+        Some(CommandName::Match) => "match bank.csv > statement.csv",
+        Some(CommandName::Stream) => "stream < messages.http",
+        Some(CommandName::Serve) => "serve 8080 100",
+        Some(CommandName::Trial) => "trial",
+        Some(CommandName::Journal) => "journal",
+        Some(CommandName::Retention) => "retention",
+        Some(CommandName::Exceptions) => "exceptions",
+        Some(CommandName::Ledger) => "ledger 000001",
+        Some(CommandName::Check) => "check",
     }
 }
 
@@ -174,8 +174,8 @@ impl fmt::Display for Advice<'_> {
     ghost output = { λ advice. Some (advice_text advice) };
 
     fn fmt<W: fmt::Write>(&self, f: &mut fmt::Formatter<W>) -> fmt::Result {
-        let usage = usage_of(self.verb);
-        let example = example_of(self.verb);
+        let usage = usage_of(self.command);
+        let example = example_of(self.command);
         match self.wrong {
             None => write!(
                 f,

@@ -15,24 +15,17 @@ use clap::{Arg, ArgAction, ArgMatches, Command};
 use itoa::Buffer;
 use std::alloc::{AllocError, Global};
 use trust_base::{Day, MatterNo};
+use trust_desk::Report;
 
-/// A report to print.
+/// What a run is to print.
 #[derive(Clone, Copy, PartialEq, Eq, Debug)]
 pub enum ReportCommand {
     /// The three-way reconciliation of this day.
     Reconcile(Day),
-    /// The trial balance.
-    Trial,
-    /// The journal.
-    Journal,
-    /// The retention list.
-    Retention,
-    /// The list of exceptions.
-    Exceptions,
     /// The ledger card of this matter.
     Ledger(MatterNo),
-    /// The ledger card of the firm's own money.
-    OwnLedger,
+    /// This report on the firm.
+    Firm(Report),
 }
 
 /// What a run is to do.
@@ -171,14 +164,14 @@ fn task_of<'a>(name: &str, values: &ArgMatches<'a>) -> Option<Task<'a>>
         }),
         "check" => Some(Task::Check),
         "reconcile" => Some(Task::Report(ReportCommand::Reconcile(day_operand(values, "DAY")?))),
-        "trial" => Some(Task::Report(ReportCommand::Trial)),
-        "journal" => Some(Task::Report(ReportCommand::Journal)),
-        "retention" => Some(Task::Report(ReportCommand::Retention)),
-        "exceptions" => Some(Task::Report(ReportCommand::Exceptions)),
+        "trial" => Some(Task::Report(ReportCommand::Firm(Report::Trial))),
+        "journal" => Some(Task::Report(ReportCommand::Firm(Report::Journal))),
+        "retention" => Some(Task::Report(ReportCommand::Firm(Report::Retention))),
+        "exceptions" => Some(Task::Report(ReportCommand::Firm(Report::Exceptions))),
         "ledger" => {
             let card = values.get_str("MATTER")?;
             if is_firm(card) {
-                return Some(Task::Report(ReportCommand::OwnLedger));
+                return Some(Task::Report(ReportCommand::Firm(Report::OwnLedger)));
             }
             Some(Task::Report(ReportCommand::Ledger(MatterNo::read(card.as_bytes())?)))
         }

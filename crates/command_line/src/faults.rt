@@ -11,7 +11,7 @@ ghost use Rattle.command_line.specs.Advice.{setting_named};
 ghost use Rattle.command_line.specs.Numerals.{IsCount, IsPort};
 ghost use Rattle.command_line.specs.Program.{IsRefused, program, words_of};
 
-use crate::advice::{Advice, Setting, Verb, Wrong, verb_of};
+use crate::advice::{Advice, CommandName, Setting, Wrong, command_called};
 use crate::command::{count_of, is_firm, parse, port_of};
 use clap::ArgMatches;
 use clap::error::ErrorKind;
@@ -118,7 +118,7 @@ fn empty_setting<'a>(alloc: Global, words: &'a [&'a str]) -> Option<Setting>
 }
 
 // Returns the command that the words name. Also returns `None` if memory runs out.
-fn verb_named<'a>(alloc: Global, words: &'a [&'a str]) -> Option<Verb>
+fn command_named<'a>(alloc: Global, words: &'a [&'a str]) -> Option<CommandName>
     ensures { IfSome result (Names (words_of words.entry.now)) }
 {
     let mut is_wanted = false;
@@ -126,7 +126,7 @@ fn verb_named<'a>(alloc: Global, words: &'a [&'a str]) -> Option<Verb>
         match front_of(alloc, &words[..place + 1]) {
             Front::WantsCommand => is_wanted = true,
             Front::WantsValue => is_wanted = false,
-            Front::Met if is_wanted => return verb_of(words[place]),
+            Front::Met if is_wanted => return command_called(words[place]),
             _ => return None,
         }
     }
@@ -292,11 +292,11 @@ fn wrong_of<'a>(alloc: Global, words: &'a [&'a str]) -> Option<Wrong<'a>>
 /// the program's name. Either is known only if there is enough memory, and nothing is wrong if the words ask for
 /// help.
 pub fn advice_of<'a>(alloc: Global, words: &'a [&'a str]) -> Advice<'a>
-    ensures verb { IfSome result.verb (Names (words_of words.entry.now)) }
+    ensures command { IfSome result.command (Names (words_of words.entry.now)) }
     ensures wrong { IfSome result.wrong (IsWrong (words_of words.entry.now)) }
 {
     Advice {
-        verb: verb_named(alloc, words),
+        command: command_named(alloc, words),
         wrong: wrong_of(alloc, words),
     }
 }

@@ -14,7 +14,7 @@ use Rattle.firm_rows.specs.declared.movement.Movement.{Movement}
 use Rattle.firm_rows.specs.declared.movement.Owner.{Owner}
 use Rattle.firm_rows.specs.declared.movement.Owner.TheVariants as owner
 use Rattle.firm_rows.specs.declared.ledger.FirmLine.{FirmLine}
-use Rattle.firm_rows.specs.declared.ledger.StatementRow.{StatementRow}
+use Rattle.firm_rows.specs.declared.ledger.BalanceRow.{BalanceRow}
 use Rattle.firm_rows.specs.Sums.{sum_of}
 use Rattle.firm_rows.specs.FirmLines.{StaysWithin, balance_cmp}
 use Rattle.firm_rows.specs.Firm.{is_of_matter}
@@ -76,6 +76,6 @@ pub record IsOwnMoney (movements : List Movement) (lines : List FirmLine) : Type
   pub within : StaysWithin lines
 
 -- exceptions and balances are sorted
-pub record AreAscending (lines : List Line) (rows : List StatementRow) : Type 0 where
+pub record AreAscending (lines : List Line) (rows : List BalanceRow) : Type 0 where
   pub exceptions : IsStrictlySortedBy line_cmp lines
   pub balances : IsStrictlySortedBy balance_cmp rows

@@ -7,7 +7,7 @@ ghost use Rattle.firm_rows.specs.FirmLines.{balance_cmp};
 ghost use Rattle.firm_audit.specs.Audited.{AreAscending, Follow};
 
 use crate::Flaw;
-use firm_rows::StatementRow;
+use firm_rows::BalanceRow;
 use std::cmp::Ordering;
 use trust_base::Line;
 
@@ -31,10 +31,10 @@ impl Sorted for Line {
     }
 }
 
-impl Sorted for StatementRow {
+impl Sorted for BalanceRow {
     ghost before = { λ a b. balance_cmp a b ≡ Less };
 
-    fn is_before(&self, next: &StatementRow) -> bool {
+    fn is_before(&self, next: &BalanceRow) -> bool {
         matches!(self.compare(next), Ordering::Less)
     }
 }
@@ -53,7 +53,7 @@ pub(crate) fn out_of_order<T: Sorted>(rows: &[T]) -> Option<usize>
 }
 
 /// The first flaw in the order of exceptions and balances.
-pub(crate) fn order_flaw(exceptions: &[Line], balances: &[StatementRow]) -> Option<Flaw>
+pub(crate) fn order_flaw(exceptions: &[Line], balances: &[BalanceRow]) -> Option<Flaw>
     ensures { result ≡ None → AreAscending exceptions.now balances.now }
 {
     if let Some(place) = out_of_order(exceptions) {

@@ -6,19 +6,19 @@ pub use Rattle.firm_rows.proofs.Ordered.{all-append, all-map}
 pub use Rattle.firm_rows.proofs.Solvent.{row-share, shares-ledger, sound-solvent}
 pub use Rattle.firm_rows.proofs.Sums.{at, sum-agree, sum-append, sum-filter, sum-flat, sum-same}
 pub use Rattle.firm_rows.specs.Countable.{AreCountable, IsCountable, IsFirmLineInRange, IsMovementInRange, IsRowInRange}
-pub use Rattle.firm_rows.specs.Firm.{EntryRow, Firm, HeadRow, Row, SeatRow, after_change, after_edit, cleared_by, entry_pairs, head_pairs, of, pairs, put, seat_pairs}
+pub use Rattle.firm_rows.specs.Firm.{EntryRow, Firm, HeadRow, Row, SeatRow, after_change, after_edit, purged_by, entry_pairs, head_pairs, of, pairs, put, seat_pairs}
 pub use Rattle.firm_rows.specs.FirmLines.{balance_cmp, balance_of, place_of}
 pub use Rattle.firm_rows.specs.FirmSound.{FirmSound, IsInOrder}
 pub use Rattle.firm_rows.specs.Journal.{journal_sum, ledger_share, ledger_sum, row_share}
 pub use Rattle.firm_rows.specs.Sums.{sum_of}
 pub use Rattle.firm_rows.specs.declared.ledger.FirmLine.{FirmLine}
-pub use Rattle.firm_rows.specs.declared.ledger.StatementRow.{StatementRow}
+pub use Rattle.firm_rows.specs.declared.ledger.BalanceRow.{BalanceRow}
 pub use Rattle.firm_rows.specs.declared.movement.Movement.{Movement}
 pub use Rattle.matter_rows.specs.Balances.{held, ledger, pending, total}
 pub use Rattle.matter_rows.specs.Events.{Event}
 unfoldable pub use Rattle.matter_rows.specs.Events.{events_of}
 pub use Rattle.matter_rows.specs.Laws.{Covered}
-pub use Rattle.matter_rows.specs.Rows.{Rows, cleared_head, closed_on, entry_amount}
+pub use Rattle.matter_rows.specs.Rows.{Rows, purged_head, closed_on, entry_amount}
 pub use Rattle.matter_rows.specs.Shares.{cleared_deposit, held_deposit, paid}
 unfoldable pub use Rattle.matter_rows.specs.Shares.{held_share, pending_share, total_share}
 pub use Rattle.matter_rows.specs.Sound.{IsAtRest, IsAtRestIfClosed, IsBy, IsHeaded, IsRanged, IsRising, Sound}

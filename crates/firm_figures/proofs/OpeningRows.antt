@@ -1,15 +1,15 @@
 -- The balances dated by a day have its openings, and the latest closing before a day is found by a search.
-use Rattle.firm_figures.proofs.Names.{◌≡◌, ℕ, zero, suc, ◌-◌, ◌<◌, ◌≤◌, Bool, true, false, cond, List, [], ◌∷◌, ◌++◌, length, get_or, Option, Some, None, refl, sym, ap, ◌∙◌, subst, arith, append-nil, append_assoc, ◌&&◌, nat_le, nat_lt, if◌then◌else◌, AllByRecursion, filter, flat_map, IsNonDecreasingBy, IsStrictlySortedBy, nat_tests, Less, nat_cmp, ordering_then, All-from_recursion, recursion_from_All, filter_passes, StatementRow, balance_cmp, place_of, all-map, is_closing, is_closing_before, latest_before, after_closing, is_opening_by, opening_line, BalancesKept, no_balances, with_balance_kept, AreClosings, openings_after, openings_kept, OpeningsKept}
+use Rattle.firm_figures.proofs.Names.{◌≡◌, ℕ, zero, suc, ◌-◌, ◌<◌, ◌≤◌, Bool, true, false, cond, List, [], ◌∷◌, ◌++◌, length, get_or, Option, Some, None, refl, sym, ap, ◌∙◌, subst, arith, append-nil, append_assoc, ◌&&◌, nat_le, nat_lt, if◌then◌else◌, AllByRecursion, filter, flat_map, IsNonDecreasingBy, IsStrictlySortedBy, nat_tests, Less, nat_cmp, ordering_then, All-from_recursion, recursion_from_All, filter_passes, BalanceRow, balance_cmp, place_of, all-map, is_closing, is_closing_before, latest_before, after_closing, is_opening_by, opening_line, BalancesKept, no_balances, with_balance_kept, AreClosings, openings_after, openings_kept, OpeningsKept}
 use Rattle.std.proofs.Common.{fold}
 use Rattle.std.specs.Prelude.{not}
 use Rattle.std.proofs.lemmas.List.Kept.{IsStrictlySortedBy-filter}
 
-abbrev is_closing_by : ℕ → StatementRow → Bool
+abbrev is_closing_by : ℕ → BalanceRow → Bool
 is_closing_by p r = is_closing r.kind && nat_le r.day p
 
 -- What is kept.
 
-kept-from : (s : BalancesKept) (rows : List StatementRow) → fold with_balance_kept s rows ≡ record s { openings = s.openings ++ filter (is_opening_by s.day) rows; closings = s.closings ++ filter (is_closing_by s.day) rows }
+kept-from : (s : BalancesKept) (rows : List BalanceRow) → fold with_balance_kept s rows ≡ record s { openings = s.openings ++ filter (is_opening_by s.day) rows; closings = s.closings ++ filter (is_closing_by s.day) rows }
 kept-from s [] = λ i. record s { openings = sym (append-nil s.openings) i; closings = sym (append-nil s.closings) i }
 kept-from s (r ∷ rows) = cases (nat_le r.day s.day) (is_closing r.kind) (λ z. kept-from z rows)
   where
@@ -24,11 +24,11 @@ kept-from s (r ∷ rows) = cases (nat_le r.day s.day) (is_closing r.kind) (λ z.
 never-later : (x y p : ℕ) → y ≤ p → nat_le x p ≡ false → nat_lt x y ≡ false
 never-later x y p le late = grind (arith, nat_tests)
 
-latest-of : (day : ℕ) (found : Option StatementRow) (rows : List StatementRow) → (p : ℕ) → day ≤ p → fold (λ found r. if is_closing_before day r then Some r else found) found (filter (is_closing_by p) rows) ≡ fold (λ found r. if is_closing_before day r then Some r else found) found rows
+latest-of : (day : ℕ) (found : Option BalanceRow) (rows : List BalanceRow) → (p : ℕ) → day ≤ p → fold (λ found r. if is_closing_before day r then Some r else found) found (filter (is_closing_by p) rows) ≡ fold (λ found r. if is_closing_before day r then Some r else found) found rows
 latest-of day found [] p le = refl
 latest-of day found (r ∷ rows) p le = cases (is_closing r.kind) refl (nat_le r.day p) refl (λ z. latest-of day z rows p le)
   where
-    cases : (c : Bool) → is_closing r.kind ≡ c → (b : Bool) → nat_le r.day p ≡ b → ((z : Option StatementRow) → fold (λ found r. if is_closing_before day r then Some r else found) z (filter (is_closing_by p) rows) ≡ fold (λ found r. if is_closing_before day r then Some r else found) z rows) → fold (λ found r. if is_closing_before day r then Some r else found) found (cond (c && b) (r ∷ filter (is_closing_by p) rows) (filter (is_closing_by p) rows)) ≡ fold (λ found r. if is_closing_before day r then Some r else found) (if (c && nat_lt r.day day) then Some r else found) rows
+    cases : (c : Bool) → is_closing r.kind ≡ c → (b : Bool) → nat_le r.day p ≡ b → ((z : Option BalanceRow) → fold (λ found r. if is_closing_before day r then Some r else found) z (filter (is_closing_by p) rows) ≡ fold (λ found r. if is_closing_before day r then Some r else found) z rows) → fold (λ found r. if is_closing_before day r then Some r else found) found (cond (c && b) (r ∷ filter (is_closing_by p) rows) (filter (is_closing_by p) rows)) ≡ fold (λ found r. if is_closing_before day r then Some r else found) (if (c && nat_lt r.day day) then Some r else found) rows
     cases true kind true on rest = (λ i. fold (λ found r. if is_closing_before day r then Some r else found) (if (kind i && nat_lt r.day day) then Some r else found) (filter (is_closing_by p) rows)) ∙ rest (if nat_lt r.day day then Some r else found)
     cases true kind false late rest = rest found ∙ (λ i. fold (λ found r. if is_closing_before day r then Some r else found) (if sym (never-later r.day day p le late) i then Some r else found) rows)
     cases false kind b on rest = rest found
@@ -37,7 +37,7 @@ and-right : (a b : Bool) → (a && b) ≡ true → b ≡ true
 and-right a b is = grind arith
 
 -- each opening by the day, after the closings that are kept
-lines-of : (p : ℕ) (all rows : List StatementRow) → openings_after (filter (is_closing_by p) all) (filter (is_opening_by p) rows) ≡ flat_map (opening_line all p) rows
+lines-of : (p : ℕ) (all rows : List BalanceRow) → openings_after (filter (is_closing_by p) all) (filter (is_opening_by p) rows) ≡ flat_map (opening_line all p) rows
 lines-of p all [] = refl
 lines-of p all (r ∷ rows) = cases (is_opening_by p r) refl (lines-of p all rows)
   where
@@ -50,35 +50,35 @@ lines-of p all (r ∷ rows) = cases (is_opening_by p r) refl (lines-of p all row
 
 -- The closings ascend.
 
-recursion_from_get : (P : StatementRow → Type 0) (rows : List StatementRow) (d : StatementRow) → ((k : ℕ) → k < length rows → P (get_or rows k d)) → AllByRecursion P rows
+recursion_from_get : (P : BalanceRow → Type 0) (rows : List BalanceRow) (d : BalanceRow) → ((k : ℕ) → k < length rows → P (get_or rows k d)) → AllByRecursion P rows
 recursion_from_get P [] d f = tt
 recursion_from_get P (r ∷ rows) d f = (f 0 (omega arith), recursion_from_get P rows d (λ k h. f (suc k) (omega (arith, h))))
 
-all-filter : (P : StatementRow → Type 0) (q : StatementRow → Bool) (rows : List StatementRow) → ((r : StatementRow) → q r ≡ true → P r) → AllByRecursion P (filter q rows)
+all-filter : (P : BalanceRow → Type 0) (q : BalanceRow → Bool) (rows : List BalanceRow) → ((r : BalanceRow) → q r ≡ true → P r) → AllByRecursion P (filter q rows)
 all-filter P q rows f = all-map (λ r. q r ≡ true) P (filter q rows) f (recursion_from_All _ _ (filter_passes q rows))
 
-are-closings : (p : ℕ) (rows : List StatementRow) → AllByRecursion (λ (r : StatementRow). is_closing r.kind ≡ true) (filter (is_closing_by p) rows)
-are-closings p rows = all-filter (λ (r : StatementRow). is_closing r.kind ≡ true) (is_closing_by p) rows (λ r is. and-left (is_closing r.kind) (nat_le r.day p) is)
+are-closings : (p : ℕ) (rows : List BalanceRow) → AllByRecursion (λ (r : BalanceRow). is_closing r.kind ≡ true) (filter (is_closing_by p) rows)
+are-closings p rows = all-filter (λ (r : BalanceRow). is_closing r.kind ≡ true) (is_closing_by p) rows (λ r is. and-left (is_closing r.kind) (nat_le r.day p) is)
   where
     and-left : (a b : Bool) → (a && b) ≡ true → a ≡ true
     and-left a b is = grind arith
 
-closings-day : (a b : StatementRow) → is_closing a.kind ≡ true → is_closing b.kind ≡ true → balance_cmp a b ≡ Less → a.day ≤ b.day
+closings-day : (a b : BalanceRow) → is_closing a.kind ≡ true → is_closing b.kind ≡ true → balance_cmp a b ≡ Less → a.day ≤ b.day
 closings-day a b one other less = grind (arith, nat_tests, ordering_then, nat_cmp, place_of)
 
-all-below : (r : StatementRow) (rows : List StatementRow) → is_closing r.kind ≡ true → AllByRecursion (λ (x : StatementRow). is_closing x.kind ≡ true) rows → AllByRecursion (λ x. balance_cmp r x ≡ Less) rows → AllByRecursion (λ (x : StatementRow). r.day ≤ x.day) rows
+all-below : (r : BalanceRow) (rows : List BalanceRow) → is_closing r.kind ≡ true → AllByRecursion (λ (x : BalanceRow). is_closing x.kind ≡ true) rows → AllByRecursion (λ x. balance_cmp r x ≡ Less) rows → AllByRecursion (λ (x : BalanceRow). r.day ≤ x.day) rows
 all-below r [] one all less = tt
 all-below r (x ∷ rows) one all less = (closings-day r x one all.0 less.0, all-below r rows one all.1 less.1)
 
-rising-from : (rows : List StatementRow) → AllByRecursion (λ (r : StatementRow). is_closing r.kind ≡ true) rows → IsStrictlySortedBy balance_cmp rows → IsNonDecreasingBy (λ (r : StatementRow). r.day) rows
+rising-from : (rows : List BalanceRow) → AllByRecursion (λ (r : BalanceRow). is_closing r.kind ≡ true) rows → IsStrictlySortedBy balance_cmp rows → IsNonDecreasingBy (λ (r : BalanceRow). r.day) rows
 unfolding IsStrictlySortedBy
 rising-from [] all up i j d le lt = absurd (omega (arith, lt))
 rising-from (r ∷ rows) all up zero zero d le lt = omega arith
-rising-from (r ∷ rows) all up zero (suc j) d le lt = All-from_recursion (λ (x : StatementRow). r.day ≤ x.day) rows (all-below r rows all.0 all.1 up.0) j d (omega (arith, lt))
+rising-from (r ∷ rows) all up zero (suc j) d le lt = All-from_recursion (λ (x : BalanceRow). r.day ≤ x.day) rows (all-below r rows all.0 all.1 up.0) j d (omega (arith, lt))
 rising-from (r ∷ rows) all up (suc i) zero d le lt = absurd (omega (arith, le))
 rising-from (r ∷ rows) all up (suc i) (suc j) d le lt = rising-from rows all.1 up.1 i j d (omega (arith, le)) (omega (arith, lt))
 
-kept-rows : (p : ℕ) (rows : List StatementRow) → fold with_balance_kept (no_balances p) rows ≡ record { day = p; openings = filter (is_opening_by p) rows; closings = filter (is_closing_by p) rows }
+kept-rows : (p : ℕ) (rows : List BalanceRow) → fold with_balance_kept (no_balances p) rows ≡ record { day = p; openings = filter (is_opening_by p) rows; closings = filter (is_closing_by p) rows }
 kept-rows p rows = kept-from (no_balances p) rows
 
 pub openings-kept : OpeningsKept
@@ -92,7 +92,7 @@ openings-kept p rows = record {
 
 -- The latest of closings by day.
 
-none-passed : (day : ℕ) (found : Option StatementRow) (rows : List StatementRow) → AllByRecursion (λ (r : StatementRow). nat_lt r.day day ≡ false) rows → fold (λ found r. if is_closing_before day r then Some r else found) found rows ≡ found
+none-passed : (day : ℕ) (found : Option BalanceRow) (rows : List BalanceRow) → AllByRecursion (λ (r : BalanceRow). nat_lt r.day day ≡ false) rows → fold (λ found r. if is_closing_before day r then Some r else found) found rows ≡ found
 none-passed day found [] all = refl
 none-passed day found (r ∷ rows) all = cases (is_closing r.kind) (none-passed day found rows all.1)
   where
@@ -101,15 +101,15 @@ none-passed day found (r ∷ rows) all = cases (is_closing r.kind) (none-passed 
     cases false more = more
 
 -- where those up to a place are dated before the day, and no later one is, it is the one at the place
-last-passed : (day : ℕ) (found : Option StatementRow) (rows : List StatementRow) (j : ℕ) (d : StatementRow) → AllByRecursion (λ (r : StatementRow). is_closing r.kind ≡ true) rows → j < length rows → ((k : ℕ) → k ≤ j → nat_lt (get_or rows k d).day day ≡ true) → ((k : ℕ) → j < k → k < length rows → nat_lt (get_or rows k d).day day ≡ false) → fold (λ found r. if is_closing_before day r then Some r else found) found rows ≡ Some (get_or rows j d)
+last-passed : (day : ℕ) (found : Option BalanceRow) (rows : List BalanceRow) (j : ℕ) (d : BalanceRow) → AllByRecursion (λ (r : BalanceRow). is_closing r.kind ≡ true) rows → j < length rows → ((k : ℕ) → k ≤ j → nat_lt (get_or rows k d).day day ≡ true) → ((k : ℕ) → j < k → k < length rows → nat_lt (get_or rows k d).day day ≡ false) → fold (λ found r. if is_closing_before day r then Some r else found) found rows ≡ Some (get_or rows j d)
 last-passed day found [] j d all lt before behind = absurd (omega (arith, lt))
 last-passed day found (r ∷ rows) zero d all lt before behind =
-    (λ i. fold (λ found r. if is_closing_before day r then Some r else found) (if (all.0 i && before 0 (omega arith) i) then Some r else found) rows) ∙ ((none-passed day (Some r) rows (recursion_from_get (λ (x : StatementRow). nat_lt x.day day ≡ false) rows d (λ k h. behind (suc k) (omega arith) (omega (arith, h))))))
+    (λ i. fold (λ found r. if is_closing_before day r then Some r else found) (if (all.0 i && before 0 (omega arith) i) then Some r else found) rows) ∙ ((none-passed day (Some r) rows (recursion_from_get (λ (x : BalanceRow). nat_lt x.day day ≡ false) rows d (λ k h. behind (suc k) (omega arith) (omega (arith, h))))))
 last-passed day found (r ∷ rows) (suc j) d all lt before behind =
     (λ i. fold (λ found r. if is_closing_before day r then Some r else found) (if (all.0 i && before 0 (omega arith) i) then Some r else found) rows) ∙ ((last-passed day (Some r) rows j d all.1 (omega (arith, lt)) (λ k le. before (suc k) (omega (arith, le))) (λ k h l. behind (suc k) (omega (arith, h)) (omega (arith, l)))))
 
-pub latest-none : (day : ℕ) (rows : List StatementRow) → ((k : ℕ) (d : StatementRow) → k < length rows → nat_lt (get_or rows k d).day day ≡ false) → latest_before day rows ≡ None
-latest-none day rows behind = none-passed day None rows (recursion_from_All (λ (x : StatementRow). nat_lt x.day day ≡ false) rows behind)
+pub latest-none : (day : ℕ) (rows : List BalanceRow) → ((k : ℕ) (d : BalanceRow) → k < length rows → nat_lt (get_or rows k d).day day ≡ false) → latest_before day rows ≡ None
+latest-none day rows behind = none-passed day None rows (recursion_from_All (λ (x : BalanceRow). nat_lt x.day day ≡ false) rows behind)
 
-pub latest-at : (day : ℕ) (rows : List StatementRow) (i : ℕ) (d : StatementRow) → AllByRecursion (λ (r : StatementRow). is_closing r.kind ≡ true) rows → 0 < i → i ≤ length rows → ((k : ℕ) → k < i → nat_lt (get_or rows k d).day day ≡ true) → ((k : ℕ) → i ≤ k → k < length rows → nat_lt (get_or rows k d).day day ≡ false) → latest_before day rows ≡ Some (get_or rows (i - 1) d)
+pub latest-at : (day : ℕ) (rows : List BalanceRow) (i : ℕ) (d : BalanceRow) → AllByRecursion (λ (r : BalanceRow). is_closing r.kind ≡ true) rows → 0 < i → i ≤ length rows → ((k : ℕ) → k < i → nat_lt (get_or rows k d).day day ≡ true) → ((k : ℕ) → i ≤ k → k < length rows → nat_lt (get_or rows k d).day day ≡ false) → latest_before day rows ≡ Some (get_or rows (i - 1) d)
 latest-at day rows i d all some le before behind = last-passed day None rows (i - 1) d all (omega (arith, some, le)) (λ k h. before k (omega (arith, h, some))) (λ k h l. behind k (omega (arith, h, some)) l)

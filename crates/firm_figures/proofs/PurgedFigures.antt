@@ -1,19 +1,19 @@
 -- Purging changes no figure of a day that is not before the close.
-use Rattle.firm_figures.proofs.Names.{◌≡◌, ℕ, ◌≤◌, true, List, [], ◌∷◌, Option, Some, None, refl, sym, ap, ◌∙◌, subst, arith, ℤ, pos, ◌+ℤ◌, ◌-ℤ◌, ◌≤ℤ◌, nat_le, AllByRecursion, option_map, ints, nat_tests, Head, Entry, Rows, held_share, total_share, pending_share, held, total, ledger, pending, events_of, days_of, IsBy, IsHeaded, IsAtRest, IsAtRestIfClosed, Sound, Covered, sum_of, Row, Firm, of, FirmSound, entries_in, transit, outstanding, journal, own_by, ledgers, exceptions, matched, early, figures, figures_on, closing_on, Edit, changed_by, cleared_by, after_change, after_edit, IsClosedBy, PurgeChangesNoFigure, sum-agree, of_row, rows-entries, all-entries, transit_share, outstanding_share, IsClear, sound-cleared}
+use Rattle.firm_figures.proofs.Names.{◌≡◌, ℕ, ◌≤◌, true, List, [], ◌∷◌, Option, Some, None, refl, sym, ap, ◌∙◌, subst, arith, ℤ, pos, ◌+ℤ◌, ◌-ℤ◌, ◌≤ℤ◌, nat_le, AllByRecursion, option_map, ints, nat_tests, Head, Entry, Rows, held_share, total_share, pending_share, held, total, ledger, pending, events_of, days_of, IsBy, IsHeaded, IsAtRest, IsAtRestIfClosed, Sound, Covered, sum_of, Row, Firm, of, FirmSound, entries_in, transit, outstanding, journal, own_by, ledgers, exceptions, matched, early, figures, figures_on, closing_on, Edit, changed_by, purged_by, after_change, after_edit, IsClosedBy, PurgeChangesNoFigure, sum-agree, of_row, rows-entries, all-entries, transit_share, outstanding_share, IsClear, sound-cleared}
 use Rattle.trust_matter.specs.edit.Edit.TheVariants as edit
 use Rattle.firm_figures.proofs.DifferenceTold.{ledger_by, matched_by, early_by, transit-shares, outstanding-shares, ledger-shares, matched-shares, early-shares, journal-ledgers}
-use Rattle.firm_rows.proofs.Changed.{each-matter, of-cleared_by, of_other-cleared_by}
+use Rattle.firm_rows.proofs.Changed.{each-matter, of-purged_by, of_other-purged_by}
 
 -- A sum over all entries where those of one matter add nothing, before and after.
 module _ (g : Entry → ℤ) (m : ℕ) (rows : Rows) (firm : Firm) (empty : rows.entries ≡ []) (nothing : sum_of g (of m firm).entries ≡ pos 0) where
   abbrev cleared : Firm
-  cleared = cleared_by m rows firm
+  cleared = purged_by m rows firm
 
   at-each : (k : ℕ) → sum_of g (of k cleared).entries ≡ sum_of g (of k firm).entries
   at-each =
       each-matter (λ k. sum_of g (of k cleared).entries ≡ sum_of g (of k firm).entries) m
-      (ap (λ (r : Rows). sum_of g r.entries) (of-cleared_by m rows firm) ∙ (ap (sum_of g) empty ∙ sym nothing))
-      (λ k apart. ap (λ (r : Rows). sum_of g r.entries) (of_other-cleared_by k m rows firm apart))
+      (ap (λ (r : Rows). sum_of g r.entries) (of-purged_by m rows firm) ∙ (ap (sum_of g) empty ∙ sym nothing))
+      (λ k apart. ap (λ (r : Rows). sum_of g r.entries) (of_other-purged_by k m rows firm apart))
 
   pub sum-cleared : sum_of g (entries_in cleared.rows) ≡ sum_of g (entries_in firm.rows)
   sum-cleared =
@@ -124,7 +124,7 @@ module _ (p : ℕ) where
 
   module _ (law : Covered) (m : ℕ) (rows : Rows) (firm : Firm) (sound : FirmSound firm) (closed : IsClosedBy p (of m firm).head) (is : IsClear rows) where
     abbrev after : Firm
-    after = cleared_by m rows firm
+    after = purged_by m rows firm
 
     nothing : AddsNothing (of m firm).entries
     nothing = closed-adds law (of m firm) (sound.matters m) closed
@@ -164,11 +164,11 @@ module _ (p : ℕ) where
 
 pub purge-changes-no_figure : Covered → PurgeChangesNoFigure
 purge-changes-no_figure law p m change firm sound closed purge =
-    let left : Rows = changed_by (edit.Clear purge.day) change.last (of m firm) in
-    let same : after_change m change firm ≡ cleared_by m left firm = ap (λ (e : Edit). after_edit m e change.last firm) purge.clears in
+    let left : Rows = changed_by (edit.Purge purge.day) change.last (of m firm) in
+    let same : after_change m change firm ≡ purged_by m left firm = ap (λ (e : Edit). after_edit m e change.last firm) purge.clears in
     let clear : IsClear left = record { none = refl; sound = subst (λ (e : Edit). Sound (changed_by e change.last (of m firm))) purge.clears purge.fits.sound } in
     ap (figures_on p) same ∙ cases left clear (closing_on p firm.balances)
   where
-    cases : (left : Rows) → IsClear left → (o : Option ℤ) → option_map (λ closing. figures p closing (cleared_by m left firm)) o ≡ option_map (λ closing. figures p closing firm) o
+    cases : (left : Rows) → IsClear left → (o : Option ℤ) → option_map (λ closing. figures p closing (purged_by m left firm)) o ≡ option_map (λ closing. figures p closing firm) o
     cases left clear None = refl
     cases left clear (Some closing) = ap Some (same-figures p law m left firm sound closed clear closing)

@@ -1,5 +1,5 @@
 -- Purging changes none of the lists of entries as of a day that is not before the close.
-use Rattle.firm_figures.proofs.Names.{◌≡◌, ℕ, ◌+◌, ◌≤◌, Bool, false, List, [], ◌∷◌, ◌++◌, Option, Some, None, refl, sym, ap, ◌∙◌, subst, arith, pos, ◌≤ℤ◌, nat_lt, AllByRecursion, filter, flat_map, ints, flat_map-append, Head, Seat, Entry, Rows, held_share, pending_share, held_deposit, held, pending, days_of, IsBy, IsRanged, IsHeaded, IsAtRest, IsAtRestIfClosed, Sound, Covered, EntryLine, Row, HeadRow, SeatRow, EntryRow, Firm, of, pairs, head_pairs, seat_pairs, entry_pairs, put, FirmSound, booked_on, is_in_transit, is_outstanding, is_banked_early, is_back_early, line_where, early_lines, Edit, changed_by, cleared_by, after_change, after_edit, IsClear, IsClosedBy, AreListsLeft, PurgeChangesNoList, nat_tests}
+use Rattle.firm_figures.proofs.Names.{◌≡◌, ℕ, ◌+◌, ◌≤◌, Bool, false, List, [], ◌∷◌, ◌++◌, Option, Some, None, refl, sym, ap, ◌∙◌, subst, arith, pos, ◌≤ℤ◌, nat_lt, AllByRecursion, filter, flat_map, ints, flat_map-append, Head, Seat, Entry, Rows, held_share, pending_share, held_deposit, held, pending, days_of, IsBy, IsRanged, IsHeaded, IsAtRest, IsAtRestIfClosed, Sound, Covered, EntryLine, Row, HeadRow, SeatRow, EntryRow, Firm, of, pairs, head_pairs, seat_pairs, entry_pairs, put, FirmSound, booked_on, is_in_transit, is_outstanding, is_banked_early, is_back_early, line_where, early_lines, Edit, changed_by, purged_by, after_change, after_edit, IsClear, IsClosedBy, AreListsLeft, PurgeChangesNoList, nat_tests}
 use Rattle.trust_matter.specs.edit.Edit.TheVariants as edit
 use Rattle.firm_figures.proofs.PurgedFigures.{pending-least, all-pending-least, all-later}
 
@@ -87,7 +87,7 @@ waiting-none p test m n e is = rw is refl
 early-none : (p m n : ℕ) (e : Entry) → IsUnlisted p e → early_lines p (m, EntryRow n e) ≡ []
 early-none p m n e is = rw (is.early, is.back) refl
 
-clear-changes-no_list : Covered → (p m : ℕ) (rows : Rows) (firm : Firm) → FirmSound firm → IsClosedBy p (of m firm).head → IsClear rows → AreListsLeft p firm (cleared_by m rows firm)
+clear-changes-no_list : Covered → (p m : ℕ) (rows : Rows) (firm : Firm) → FirmSound firm → IsClosedBy p (of m firm).head → IsClear rows → AreListsLeft p firm (purged_by m rows firm)
 clear-changes-no_list law p m rows firm sound closed is =
     let none = closed-unlisted p law (of m firm) (sound.matters m) closed in
     record {
@@ -99,7 +99,7 @@ clear-changes-no_list law p m rows firm sound closed is =
 
 pub purge-changes-no_list : Covered → PurgeChangesNoList
 purge-changes-no_list law p m change firm sound closed purge =
-    let left : Rows = changed_by (edit.Clear purge.day) change.last (of m firm) in
-    let same : after_change m change firm ≡ cleared_by m left firm = ap (λ (e : Edit). after_edit m e change.last firm) purge.clears in
+    let left : Rows = changed_by (edit.Purge purge.day) change.last (of m firm) in
+    let same : after_change m change firm ≡ purged_by m left firm = ap (λ (e : Edit). after_edit m e change.last firm) purge.clears in
     let clear : IsClear left = record { none = refl; sound = subst (λ (e : Edit). Sound (changed_by e change.last (of m firm))) purge.clears purge.fits.sound } in
     subst (AreListsLeft p firm) (sym same) (clear-changes-no_list law p m left firm sound closed clear)

@@ -1,5 +1,5 @@
 -- What a reconciliation's sink keeps of the rows of a firm.
-use Rattle.firm_figures.proofs.Names.{arith, ◌≡◌, ℕ, List, [], ◌∷◌, Option, Some, None, refl, sym, ap, ◌∙◌, subst, ◌||◌, list_any, option_map, Line, Movement, FirmLine, StatementRow, Row, Firm, none_listed, with_row_listed, with_exception_listed, no_issued, with_row_issued, doubles_in, AreClosings, no_balances, with_balance_kept, PeriodKept, is_period_purged, is_purged_after, whole_period, with_row_purged, with_row, with_movement, with_own, with_exception, with_balance_told, all_taken, finished}
+use Rattle.firm_figures.proofs.Names.{arith, ◌≡◌, ℕ, List, [], ◌∷◌, Option, Some, None, refl, sym, ap, ◌∙◌, subst, ◌||◌, list_any, option_map, Line, Movement, FirmLine, BalanceRow, Row, Firm, none_listed, with_row_listed, with_exception_listed, no_issued, with_row_issued, doubles_in, AreClosings, no_balances, with_balance_kept, PeriodKept, is_period_purged, is_purged_after, whole_period, with_row_purged, with_row, with_movement, with_own, with_exception, with_balance_told, all_taken, finished}
 use Rattle.std.proofs.Common.{fold}
 use Rattle.firm_figures.specs.declared.figures.Figures.{Figures}
 use Rattle.firm_figures.specs.Reconciliations.{ReconciliationKept, nothing_kept, with_row_kept, with_movement_kept, with_own_kept, with_exception_kept, with_balance_noted, all_kept, kept_with, kept_told, reconciled, ReconciliationIsKept}
@@ -24,7 +24,7 @@ exceptions-kept : (s : ReconciliationKept) (xs : List Line) → fold with_except
 exceptions-kept s [] = refl
 exceptions-kept s (x ∷ xs) = exceptions-kept (with_exception_kept s x) xs
 
-balances-kept : (s : ReconciliationKept) (xs : List StatementRow) → fold with_balance_noted s xs ≡ record s { figures = fold with_balance_told s.figures xs; balances = fold with_balance_kept s.balances xs }
+balances-kept : (s : ReconciliationKept) (xs : List BalanceRow) → fold with_balance_noted s xs ≡ record s { figures = fold with_balance_told s.figures xs; balances = fold with_balance_kept s.balances xs }
 balances-kept s [] = refl
 balances-kept s (x ∷ xs) = balances-kept (with_balance_noted s x) xs
 

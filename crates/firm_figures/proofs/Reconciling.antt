@@ -1,5 +1,5 @@
 -- What a reconciler keeps of a firm's rows are its figures.
-use Rattle.firm_figures.proofs.Names.{◌≡◌, ℕ, Bool, cond, List, [], ◌∷◌, Option, Some, None, refl, sym, ap, ◌∙◌, arith, ℤ, pos, ◌+ℤ◌, ◌-ℤ◌, fold, find, filter, flat_map, option_map, int_wrap, w128, ints, int_wrap-add_left, int_wrap-add_right, int_wrap-sub_right, int_wrap_fits, Line, Entry, events_of, Movement, FirmLine, StatementRow, sum_of, Row, HeadRow, SeatRow, EntryRow, Firm, entries_in, is_event_by, is_moved_by, is_dated_by, is_counted, is_closing_of, transit, outstanding, journal, own_by, exceptions, matched, early, closing_on, figures, transit_share, outstanding_share, ledger_share_by, matched_share, early_share, added, less, Tallies, no_tallies, with_row, with_movement, with_own, with_exception, with_balance_told, first_of, figures_kept, finished, all_taken, AreInRange, FiguresKept, sum-same, sum-filter, of_row, all-entries, nat_tests}
+use Rattle.firm_figures.proofs.Names.{◌≡◌, ℕ, Bool, cond, List, [], ◌∷◌, Option, Some, None, refl, sym, ap, ◌∙◌, arith, ℤ, pos, ◌+ℤ◌, ◌-ℤ◌, fold, find, filter, flat_map, option_map, int_wrap, w128, ints, int_wrap-add_left, int_wrap-add_right, int_wrap-sub_right, int_wrap_fits, Line, Entry, events_of, Movement, FirmLine, BalanceRow, sum_of, Row, HeadRow, SeatRow, EntryRow, Firm, entries_in, is_event_by, is_moved_by, is_dated_by, is_counted, is_closing_of, transit, outstanding, journal, own_by, exceptions, matched, early, closing_on, figures, transit_share, outstanding_share, ledger_share_by, matched_share, early_share, added, less, Tallies, no_tallies, with_row, with_movement, with_own, with_exception, with_balance_told, first_of, figures_kept, finished, all_taken, AreInRange, FiguresKept, sum-same, sum-filter, of_row, all-entries, nat_tests}
 use Rattle.firm_figures.proofs.DifferenceTold.{ledger_by, matched_by, early_by, transit-shares, outstanding-shares, ledger-shares, matched-shares, early-shares}
 
 -- An entry's shares are those of its events and lines.
@@ -73,10 +73,10 @@ exceptions-fold s (l ∷ ls) = exceptions-fold (with_exception s l) ls
 first-none : (c : Option ℤ) → c ≡ first_of c None
 first-none c = grind (arith, ints)
 
-first-more : (c : Option ℤ) (b : Bool) (r : StatementRow) (rest : Option StatementRow) → first_of (first_of c (cond b (Some r.amount) None)) (option_map (λ r. r.amount) rest) ≡ first_of c (option_map (λ r. r.amount) (cond b (Some r) rest))
+first-more : (c : Option ℤ) (b : Bool) (r : BalanceRow) (rest : Option BalanceRow) → first_of (first_of c (cond b (Some r.amount) None)) (option_map (λ r. r.amount) rest) ≡ first_of c (option_map (λ r. r.amount) (cond b (Some r) rest))
 first-more c b r rest = grind (arith, ints)
 
-balances-fold : (s : Tallies) (rs : List StatementRow) → fold with_balance_told s rs ≡ record s { closing = first_of s.closing (closing_on s.day rs) }
+balances-fold : (s : Tallies) (rs : List BalanceRow) → fold with_balance_told s rs ≡ record s { closing = first_of s.closing (closing_on s.day rs) }
 balances-fold s [] = λ i. record s { closing = first-none s.closing i }
 balances-fold s (r ∷ rs) = balances-fold (with_balance_told s r) rs ∙ (λ i. record s { closing = first-more s.closing (is_closing_of s.day r) r (find (is_closing_of s.day) rs) i })
 

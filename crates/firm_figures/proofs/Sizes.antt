@@ -1,5 +1,5 @@
 -- The figures of lists in memory fit 128 bits.
-use Rattle.firm_figures.proofs.Names.{◌≡◌, ℕ, ◌*◌, ◌≤◌, Bool, cond, List, [], ◌∷◌, length, Some, sym, ◌∙◌, subst, arith, ℤ, pos, negsuc, ◌+ℤ◌, ◌-ℤ◌, ◌≤ℤ◌, ◌||◌, find, AllByRecursion, option_map, w128, FitsSigned, ints, fits_signed_from_abs, IsAmount, IsBankAmount, Line, Entry, entry_amount, FirmLine, StatementRow, sum_of, IsRowInRange, IsCountable, Row, Firm, entries_in, is_by, booked_on, undone_on, returned_on, banked_on, back_on, is_banked_early, is_back_early, is_in_transit, is_outstanding, is_dated_by, is_counted, own_by, exceptions, is_closing_of, closing_on, transit_share, outstanding_share, ledger_share_by, matched_share, early_share, FiguresFit, FiguresTold, sum-same, sum-filter, all-map, cleared_amount}
+use Rattle.firm_figures.proofs.Names.{◌≡◌, ℕ, ◌*◌, ◌≤◌, Bool, cond, List, [], ◌∷◌, length, Some, sym, ◌∙◌, subst, arith, ℤ, pos, negsuc, ◌+ℤ◌, ◌-ℤ◌, ◌≤ℤ◌, ◌||◌, find, AllByRecursion, option_map, w128, FitsSigned, ints, fits_signed_from_abs, IsAmount, IsBankAmount, Line, Entry, entry_amount, FirmLine, BalanceRow, sum_of, IsRowInRange, IsCountable, Row, Firm, entries_in, is_by, booked_on, undone_on, returned_on, banked_on, back_on, is_banked_early, is_back_early, is_in_transit, is_outstanding, is_dated_by, is_counted, own_by, exceptions, is_closing_of, closing_on, transit_share, outstanding_share, ledger_share_by, matched_share, early_share, FiguresFit, FiguresTold, sum-same, sum-filter, all-map, cleared_amount}
 use Rattle.firm_figures.proofs.DifferenceTold.{ledger_by, matched_by, early_by, transit-shares, outstanding-shares, ledger-shares, matched-shares, early-shares, journal-ledgers}
 use Rattle.firm_figures.proofs.Reconciling.{entry-ledger, entry-matched, entry-early, figures-kept}
 
@@ -93,7 +93,7 @@ figures-fit p closing firm sound is bank =
     }
 
 -- the closing balance that is found is one of the balances
-closing-found : (p : ℕ) (rows : List StatementRow) (z : ℤ) → AllByRecursion (λ r. IsBankAmount r.amount) rows → closing_on p rows ≡ Some z → IsBankAmount z
+closing-found : (p : ℕ) (rows : List BalanceRow) (z : ℤ) → AllByRecursion (λ r. IsBankAmount r.amount) rows → closing_on p rows ≡ Some z → IsBankAmount z
 closing-found p [] z all is = absurd (cc)
 closing-found p (r ∷ rows) z all is =
     grind (arith, ints, is_closing_of, option_map, find, (closing-found p rows z all.1))

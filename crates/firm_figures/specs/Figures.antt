@@ -16,7 +16,7 @@ use Rattle.firm_rows.specs.declared.movement.Movement.{Movement}
 use Rattle.firm_rows.specs.declared.ledger.FirmLine.{FirmLine}
 use Rattle.firm_rows.specs.declared.ledger.BalanceKind.{BalanceKind}
 use Rattle.firm_rows.specs.declared.ledger.BalanceKind.TheVariants as kind
-use Rattle.firm_rows.specs.declared.ledger.StatementRow.{StatementRow}
+use Rattle.firm_rows.specs.declared.ledger.BalanceRow.{BalanceRow}
 use Rattle.firm_figures.specs.declared.figures.Figures.{Figures}
 use Rattle.firm_rows.specs.Sums.{sum_of}
 use Rattle.firm_rows.specs.Firm.{Row, Firm, entries_among}
@@ -267,11 +267,11 @@ is_closing kind.Opening = false
 is_closing kind.Closing = true
 
 -- the row is a closing balance of p
-abbrev pub is_closing_of : ℕ → StatementRow → Bool
+abbrev pub is_closing_of : ℕ → BalanceRow → Bool
 is_closing_of p row = is_closing row.kind && row.day == p
 
 -- the closing balance of p, if the bank reported one
-abbrev pub closing_on : ℕ → List StatementRow → Option ℤ
+abbrev pub closing_on : ℕ → List BalanceRow → Option ℤ
 closing_on p rows = option_map (λ r. r.amount) (find (is_closing_of p) rows)
 
 -- the figures as of p, if there is a closing balance of p

@@ -3,21 +3,21 @@ use Rattle.std.specs.Prelude.{◌≡◌, ℕ, Bool, true, not, ◌&&◌, nat_le,
 use Rattle.std.specs.List.{AllByRecursion, flat_map}
 use Rattle.std.specs.List.Sorted.{IsNonDecreasingBy, IsStrictlySortedBy}
 use Rattle.std.specs.Ordering.{int_eq}
-use Rattle.firm_rows.specs.declared.ledger.StatementRow.{StatementRow}
+use Rattle.firm_rows.specs.declared.ledger.BalanceRow.{BalanceRow}
 use Rattle.firm_rows.specs.FirmLines.{balance_cmp}
 use Rattle.firm_figures.specs.declared.day_lists.OpeningLine.{OpeningLine}
 use Rattle.firm_figures.specs.Figures.{is_closing}
 
 -- a closing dated before this day
-abbrev pub is_closing_before : ℕ → StatementRow → Bool
+abbrev pub is_closing_before : ℕ → BalanceRow → Bool
 is_closing_before day r = is_closing r.kind && nat_lt r.day day
 
 -- the last of these in the list, which is the latest if the balances are sorted
-abbrev pub latest_before : ℕ → List StatementRow → Option StatementRow
+abbrev pub latest_before : ℕ → List BalanceRow → Option BalanceRow
 latest_before day rows = fold (λ found r. if is_closing_before day r then Some r else found) None rows
 
 -- an opening whose latest closing has another amount
-abbrev pub after_closing : StatementRow → Option StatementRow → List OpeningLine
+abbrev pub after_closing : BalanceRow → Option BalanceRow → List OpeningLine
 after_closing r None = []
 after_closing r (Some c) =
     if int_eq r.amount c.amount
@@ -25,14 +25,14 @@ after_closing r (Some c) =
     else (record { day = r.day; amount = r.amount; after = c.day; closing = c.amount } ∷ [])
 
 -- an opening dated by p
-abbrev pub is_opening_by : ℕ → StatementRow → Bool
+abbrev pub is_opening_by : ℕ → BalanceRow → Bool
 is_opening_by p r = not (is_closing r.kind) && nat_le r.day p
 
-abbrev pub opening_line : List StatementRow → ℕ → StatementRow → List OpeningLine
+abbrev pub opening_line : List BalanceRow → ℕ → BalanceRow → List OpeningLine
 opening_line rows p r = if is_opening_by p r then after_closing r (latest_before r.day rows) else []
 
 -- the lines of OPENING as of p
-abbrev pub opening_list : ℕ → List StatementRow → List OpeningLine
+abbrev pub opening_list : ℕ → List BalanceRow → List OpeningLine
 opening_list p rows = flat_map (opening_line rows p) rows
 
 -- How they are built from balances that arrive one at a time.
@@ -40,39 +40,39 @@ opening_list p rows = flat_map (opening_line rows p) rows
 -- the balances dated by the day, openings and closings apart
 pub record BalancesKept : Type 0 where
   pub day : ℕ
-  pub openings : List StatementRow
-  pub closings : List StatementRow
+  pub openings : List BalanceRow
+  pub closings : List BalanceRow
 
 abbrev pub no_balances : ℕ → BalancesKept
 no_balances p = record { day = p; openings = []; closings = [] }
 
-abbrev pub with_dated : BalancesKept → StatementRow → BalancesKept
+abbrev pub with_dated : BalancesKept → BalanceRow → BalancesKept
 with_dated s r =
     if is_closing r.kind
     then record s { closings = s.closings ++ r ∷ [] }
     else record s { openings = s.openings ++ r ∷ [] }
 
-abbrev pub with_balance_kept : BalancesKept → StatementRow → BalancesKept
+abbrev pub with_balance_kept : BalancesKept → BalanceRow → BalancesKept
 with_balance_kept s r = if nat_le r.day s.day then with_dated s r else s
 
 -- closings in order of day
-pub record AreClosings (rows : List StatementRow) : Type 0 where
-  pub rising : IsNonDecreasingBy (λ (r : StatementRow). r.day) rows
-  pub closings : AllByRecursion (λ (r : StatementRow). is_closing r.kind ≡ true) rows
+pub record AreClosings (rows : List BalanceRow) : Type 0 where
+  pub rising : IsNonDecreasingBy (λ (r : BalanceRow). r.day) rows
+  pub closings : AllByRecursion (λ (r : BalanceRow). is_closing r.kind ≡ true) rows
 
 -- the lines of openings, each with the latest of these closings before it
-abbrev pub openings_after : List StatementRow → List StatementRow → List OpeningLine
+abbrev pub openings_after : List BalanceRow → List BalanceRow → List OpeningLine
 openings_after closings openings =
-    flat_map (λ (r : StatementRow). after_closing r (latest_before r.day closings)) openings
+    flat_map (λ (r : BalanceRow). after_closing r (latest_before r.day closings)) openings
 
 abbrev pub openings_kept : BalancesKept → List OpeningLine
 openings_kept s = openings_after s.closings s.openings
 
 -- what is stored from all balances gives the openings that differ; if the balances are sorted, so are the closings by
 -- day
-pub record AreOpeningsKept (p : ℕ) (rows : List StatementRow) : Type 0 where
+pub record AreOpeningsKept (p : ℕ) (rows : List BalanceRow) : Type 0 where
   pub lines : openings_kept (fold with_balance_kept (no_balances p) rows) ≡ opening_list p rows
   pub rising : IsStrictlySortedBy balance_cmp rows → AreClosings (fold with_balance_kept (no_balances p) rows).closings
 
 abbrev pub OpeningsKept : Type 0
-OpeningsKept = (p : ℕ) (rows : List StatementRow) → AreOpeningsKept p rows
+OpeningsKept = (p : ℕ) (rows : List BalanceRow) → AreOpeningsKept p rows

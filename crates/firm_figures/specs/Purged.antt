@@ -50,7 +50,7 @@ IsClosedBy p head = (day : ℕ) × ((closed_on head ≡ Some day) × (day ≤ p)
 pub record IsPurge (m : ℕ) (firm : Firm) (change : MatterChange) : Type 0 where
   pub fits : IsChange (of m firm) change
   pub day : ℕ
-  pub clears : change.edit ≡ edit.Clear day
+  pub clears : change.edit ≡ edit.Purge day
 
 -- the lists that go with the figures, except that of payments with the same instrument
 pub record AreListsLeft (p : ℕ) (before after : Firm) : Type 0 where

@@ -4,7 +4,7 @@ use Rattle.std.specs.Option.{option_map}
 use Rattle.trust_base.specs.declared.line.Line.{Line}
 use Rattle.firm_rows.specs.declared.movement.Movement.{Movement}
 use Rattle.firm_rows.specs.declared.ledger.FirmLine.{FirmLine}
-use Rattle.firm_rows.specs.declared.ledger.StatementRow.{StatementRow}
+use Rattle.firm_rows.specs.declared.ledger.BalanceRow.{BalanceRow}
 use Rattle.firm_rows.specs.Countable.{IsCountable}
 use Rattle.firm_rows.specs.Firm.{Row, Firm}
 use Rattle.firm_rows.specs.FirmSound.{FirmSound}
@@ -93,7 +93,7 @@ with_own_kept s l = record s { figures = with_own s.figures l }
 abbrev pub with_exception_kept : ReconciliationKept → Line → ReconciliationKept
 with_exception_kept s l = record s { figures = with_exception s.figures l; lists = with_exception_listed s.lists l }
 
-abbrev pub with_balance_noted : ReconciliationKept → StatementRow → ReconciliationKept
+abbrev pub with_balance_noted : ReconciliationKept → BalanceRow → ReconciliationKept
 with_balance_noted s r = record s { figures = with_balance_told s.figures r; balances = with_balance_kept s.balances r }
 
 -- what is stored from the rows, movements, lines, exceptions and balances of a firm, in their order

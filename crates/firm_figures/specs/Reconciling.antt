@@ -10,7 +10,7 @@ use Rattle.matter_rows.specs.Rows.{entry_amount}
 use Rattle.matter_rows.specs.Clearings.{cleared_amount}
 use Rattle.firm_rows.specs.declared.movement.Movement.{Movement}
 use Rattle.firm_rows.specs.declared.ledger.FirmLine.{FirmLine}
-use Rattle.firm_rows.specs.declared.ledger.StatementRow.{StatementRow}
+use Rattle.firm_rows.specs.declared.ledger.BalanceRow.{BalanceRow}
 use Rattle.firm_rows.specs.Firm.{Row, HeadRow, SeatRow, EntryRow, Firm}
 use Rattle.firm_rows.specs.FirmSound.{FirmSound}
 use Rattle.firm_figures.specs.Figures.{is_by, booked_on, undone_on, returned_on, banked_on, back_on, is_banked_early, is_back_early, is_in_transit, is_outstanding, is_moved_by, is_dated_by, is_counted, is_closing_of, closing_on, figures, figures_on}
@@ -103,7 +103,7 @@ abbrev pub first_of : Option ℤ → Option ℤ → Option ℤ
 first_of None o = o
 first_of (Some z) o = Some z
 
-abbrev pub with_balance_told : Tallies → StatementRow → Tallies
+abbrev pub with_balance_told : Tallies → BalanceRow → Tallies
 with_balance_told s r = record s { closing = first_of s.closing (cond (is_closing_of s.day r) (Some r.amount) None) }
 
 -- The figures from what is stored.

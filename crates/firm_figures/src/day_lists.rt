@@ -11,7 +11,7 @@ ghost use Rattle.firm_figures.specs.Figures.{day_by, day_where, unless, booked_o
 ghost use Rattle.firm_figures.specs.Listing.{entry_line};
 ghost use Rattle.firm_figures.specs.Openings.{AreClosings, latest_before, openings_after};
 
-use firm_rows::StatementRow;
+use firm_rows::BalanceRow;
 use std::alloc::{AllocError, Global};
 use std::cmp::Ordering;
 use trust_base::{BankAmount, Day, EntryNo, Label, Line, MatterNo};
@@ -308,7 +308,7 @@ pub(crate) fn doubles_of(alloc: Global, issued: Vec<Issued>) -> Result<Vec<Issue
 }
 
 // The latest closing dated before a day.
-fn latest_before(day: Day, closings: &[StatementRow]) -> Option<StatementRow>
+fn latest_before(day: Day, closings: &[BalanceRow]) -> Option<BalanceRow>
     ensures { AreClosings closings.now → result ≡ latest_before day closings.now }
 {
     let passed = closings.partition_point(|closing| closing.day.get() < day.get());
@@ -321,8 +321,8 @@ fn latest_before(day: Day, closings: &[StatementRow]) -> Option<StatementRow>
 /// The openings that differ from the latest closing before them, if the closings are in order of day.
 pub(crate) fn openings_after(
     alloc: Global,
-    closings: &[StatementRow],
-    openings: &[StatementRow],
+    closings: &[BalanceRow],
+    openings: &[BalanceRow],
 ) -> Result<Vec<OpeningLine>, AllocError>
     ensures { AreClosings closings.now → IfOk result (λ lines. lines.items ≡ openings_after closings.now openings.now) }
 {

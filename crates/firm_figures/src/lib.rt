@@ -1,5 +1,31 @@
 //! A firm's figures as of a day and the lists that go with them, its journal, its trial balance and its retention list.
 //! Each is built from rows that arrive one at a time.
+//!
+//! # What is promised
+//!
+//! By public call, with the clauses of its contract in brackets.
+//!
+//! - `laws` `figures_agree`: in every sound firm, as of every day with a closing balance, the journal is the sum of the
+//!   ledgers, and what the adjusted bank balance and the journal differ by is exceptions, early lines and the gap.
+//! - `ReconciliationSink`; `laws` `reconciliation_is_kept`: of the rows, movements, lines, exceptions and balances of a
+//!   sound firm, given one by one, `finish` gives the ten figures and the six lists of the definitions, or None if no
+//!   closing balance of the day is kept. The figures are exact if fewer than 2^64 rows of each kind came, with amounts
+//!   in range, which each book says of what it gave. A refused row leaves the sink as it was.
+//! - `laws` `reconciler_keeps_figures`, `lister_keeps_lists`, `issued_is_kept`, `openings_are_kept`: the parts of that
+//!   by themselves; the lists want no premise.
+//! - `Issued`, `OpeningLine`: payments by an instrument that another has, by one stable sort and a look at the
+//!   neighbours; openings that differ from the latest closing before them, by a search among the closings of the day.
+//! - `laws` `purging_changes_no_figure`: purging a matter changes no figure of a day that is not before its close day,
+//!   nor four of the lists; nor those of any day that can still be asked for after it, since a day before the close of
+//!   a purged matter is PeriodPurged (`figures_left`, `lists_left`).
+//!
+//! - `JournalSink`; `laws` `journal_is_kept`: the movements in the order of acceptance, each with the sum so far, exact
+//!   for all that can be counted.
+//! - `TrialSink`; `laws` `trial_is_kept`: the open matters with their ledgers, the firm's own balance, and TOTAL, exact
+//!   for all that can be counted.
+//! - `laws` `lists_agree`: in every sound firm no sum so far of the journal is below zero, and the last is TOTAL.
+//! - `laws` `listed_are_open`: every matter of the trial balance is open.
+//! - `RetentionSink`; `laws` `retention_is_kept`: the closed matters with the day until which their records are kept.
 #![tactic(auto)]
 
 mod day_lists;

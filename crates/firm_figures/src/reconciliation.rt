@@ -15,8 +15,8 @@ use crate::day_lists::{
 };
 use crate::figures::{Figures, Sums, added, less, together};
 use firm_rows::{
-    BalanceKind, BalanceSink, ExceptionSink, FirmLine, FirmLineSink, MatterRow, MatterRowSink,
-    Movement, MovementSink, StatementRow,
+    BalanceKind, BalanceRow, BalanceSink, ExceptionSink, FirmLine, FirmLineSink, MatterRow,
+    MatterRowSink, Movement, MovementSink,
 };
 use std::alloc::{AllocError, Global};
 use std::marker::Model;
@@ -55,8 +55,8 @@ pub struct ReconciliationSink {
     sums: Sums,
     lists: ReconciliationLists,
     issued: Vec<Issued>,
-    openings: Vec<StatementRow>,
-    closings: Vec<StatementRow>,
+    openings: Vec<BalanceRow>,
+    closings: Vec<BalanceRow>,
     // Whether a matter that was closed after the day was purged.
     purged: bool,
 }
@@ -305,7 +305,7 @@ impl FirmLineSink for ReconciliationSink {
 impl BalanceSink for ReconciliationSink {
     ghost balanced = { with_balance_noted };
 
-    fn balance(&mut self, row: &StatementRow) -> Result<(), AllocError> {
+    fn balance(&mut self, row: &BalanceRow) -> Result<(), AllocError> {
         if row.day.get() <= self.day.get() {
             match row.kind {
                 BalanceKind::Opening => self.openings.push(*row)?,

@@ -1,8 +1,8 @@
 -- A firm stays sound where a matter is left without an entry and its movements go.
-use Rattle.firm_rows.proofs.Names.{◌≡◌, ◌≢◌, ℕ, zero, suc, ◌≤◌, Bool, true, false, not, cond, List, [], ◌∷◌, map, take, refl, sym, ap, ◌∙◌, subst, arith, pos, ◌≤ℤ◌, filter, AllByRecursion, ints, nat_tests, Entry, Rows, entry_at, last_of, ledger, events_in, Sound, Movement, Owner, Firm, of, is_of_matter, moved_without, cleared_by, event_of, is_of_entry, is_of_firm, events_moved, days_moved, moved_for, AreMovedInTime, FirmSound, PurgedMovesNothing, PurgeLeavesOthers}
+use Rattle.firm_rows.proofs.Names.{◌≡◌, ◌≢◌, ℕ, zero, suc, ◌≤◌, Bool, true, false, not, cond, List, [], ◌∷◌, map, take, refl, sym, ap, ◌∙◌, subst, arith, pos, ◌≤ℤ◌, filter, AllByRecursion, ints, nat_tests, Entry, Rows, entry_at, last_of, ledger, events_in, Sound, Movement, Owner, Firm, of, is_of_matter, moved_without, purged_by, event_of, is_of_entry, is_of_firm, events_moved, days_moved, moved_for, AreMovedInTime, FirmSound, PurgedMovesNothing, PurgeLeavesOthers}
 use Rattle.firm_rows.specs.declared.movement.Owner.TheVariants as owner
-use Rattle.firm_rows.proofs.Changed.{each-matter, of-cleared_by, of_other-cleared_by}
-use Rattle.firm_rows.proofs.Order.{in_order-cleared_by}
+use Rattle.firm_rows.proofs.Changed.{each-matter, of-purged_by, of_other-purged_by}
+use Rattle.firm_rows.proofs.Order.{in_order-purged_by}
 
 -- rows that a matter may be left with: sound, and without an entry
 pub record IsClear (rows : Rows) : Type 0 where
@@ -63,19 +63,19 @@ other-sum m k (v ∷ vs) apart = grind (arith, ints, other-sum m k vs apart, mat
 
 module _ (m : ℕ) (rows : Rows) (firm : Firm) (sound : FirmSound firm) (is : IsClear rows) where
   abbrev after : Firm
-  after = cleared_by m rows firm
+  after = purged_by m rows firm
 
   matters : (k : ℕ) → Sound (of k after)
-  matters = each-matter (λ k. Sound (of k after)) m (subst Sound (sym (of-cleared_by m rows firm)) is.sound) (λ k apart. subst Sound (sym (of_other-cleared_by k m rows firm apart)) (sound.matters k))
+  matters = each-matter (λ k. Sound (of k after)) m (subst Sound (sym (of-purged_by m rows firm)) is.sound) (λ k apart. subst Sound (sym (of_other-purged_by k m rows firm apart)) (sound.matters k))
 
   none : (of m after).entries ≡ []
-  none = ap (λ (r : Rows). r.entries) (of-cleared_by m rows firm) ∙ is.none
+  none = ap (λ (r : Rows). r.entries) (of-purged_by m rows firm) ∙ is.none
 
   events : (k n : ℕ) → events_moved k n after.movements ≡ events_in (entry_at (of k after).entries n)
   events k n =
       each-matter (λ j. events_moved j n after.movements ≡ events_in (entry_at (of j after).entries n)) m
       (ap (map event_of) (passing-gone m (is_of_entry m n) (entry-own m n) firm.movements) ∙ ap (λ (es : List Entry). events_in (entry_at es n)) (sym none))
-      (λ k apart. ap (map event_of) (passing-kept m (is_of_entry k n) (λ o own. entry-other m k n o apart own) firm.movements) ∙ (sound.events k n ∙ ap (λ (r : Rows). events_in (entry_at r.entries n)) (sym (of_other-cleared_by k m rows firm apart))))
+      (λ k apart. ap (map event_of) (passing-kept m (is_of_entry k n) (λ o own. entry-other m k n o apart own) firm.movements) ∙ (sound.events k n ∙ ap (λ (r : Rows). events_in (entry_at r.entries n)) (sym (of_other-purged_by k m rows firm apart))))
       k
 
   days : (k : ℕ) → k ≢ m → days_moved k after.movements ≡ days_moved k firm.movements
@@ -88,14 +88,14 @@ module _ (m : ℕ) (rows : Rows) (firm : Firm) (sound : FirmSound firm) (is : Is
   in_time k =
       each-matter (λ j. AreMovedInTime j after) m
       (record { rising = rw no_days tt; by_last = rw no_days tt })
-      (λ k apart. let before = sound.in_time k in let same : last_of (of k firm).head ≡ last_of (of k after).head = ap (λ (r : Rows). last_of r.head) (sym (of_other-cleared_by k m rows firm apart)) in record { rising = rw (days k apart) before.rising; by_last = subst (λ last. AllByRecursion (λ day. day ≤ last) (days_moved k after.movements)) same (rw (days k apart) before.by_last) })
+      (λ k apart. let before = sound.in_time k in let same : last_of (of k firm).head ≡ last_of (of k after).head = ap (λ (r : Rows). last_of r.head) (sym (of_other-purged_by k m rows firm apart)) in record { rising = rw (days k apart) before.rising; by_last = subst (λ last. AllByRecursion (λ day. day ≤ last) (days_moved k after.movements)) same (rw (days k apart) before.by_last) })
       k
 
   ledgers : (k : ℕ) → moved_for k after.movements ≡ ledger (of k after).entries
   ledgers =
       each-matter (λ k. moved_for k after.movements ≡ ledger (of k after).entries) m
       (gone firm.movements ∙ ap ledger (sym none))
-      (λ k apart. other-sum m k firm.movements apart ∙ (sound.ledgers k ∙ ap (λ (r : Rows). ledger r.entries) (sym (of_other-cleared_by k m rows firm apart))))
+      (λ k apart. other-sum m k firm.movements apart ∙ (sound.ledgers k ∙ ap (λ (r : Rows). ledger r.entries) (sym (of_other-purged_by k m rows firm apart))))
     where
       gone : (vs : List Movement) → moved_for m (moved_without m vs) ≡ pos 0
       gone [] = refl
@@ -110,7 +110,7 @@ module _ (m : ℕ) (rows : Rows) (firm : Firm) (sound : FirmSound firm) (is : Is
 
   pub sound-cleared : FirmSound after
   sound-cleared = record {
-    in_order = in_order-cleared_by m rows firm sound.in_order;
+    in_order = in_order-purged_by m rows firm sound.in_order;
     matters = matters;
     events = events;
     own = ap (map event_of) (passing-kept m is_of_firm (firm-other m) firm.movements) ∙ sound.own;

@@ -1,5 +1,5 @@
 -- Each change of a firm's rows changes those of one matter at most, and leaves a sound firm sound.
-use Rattle.firm_rows.proofs.Names.{◌≡◌, ℕ, Option, Some, None, arith, nat_tests, Line, Covered, as_firm_line, balance_row, Firm, of, after_change, with_firm_line, with_statement, OfMatter, Repeated, Unmatched, OfFirm, OfBalance, matched_by, FirmSound, IsInOrder, ChangesOne, StaysSound, StaysInOrder, LineFits}
+use Rattle.firm_rows.proofs.Names.{◌≡◌, ℕ, Option, Some, None, arith, nat_tests, Line, Covered, as_firm_line, balance_row, Firm, of, after_change, with_firm_line, with_balance_row, OfMatter, Repeated, Unmatched, OfFirm, OfBalance, matched_by, FirmSound, IsInOrder, ChangesOne, StaysSound, StaysInOrder, LineFits}
 use Rattle.trust_matter.specs.declared.line_verdict.LineVerdict.TheVariants as verdict
 use Rattle.firm_rows.proofs.Balances.{balances-sorted}
 use Rattle.firm_rows.proofs.Changed.{changes-own, changes-no_other}
@@ -32,14 +32,14 @@ change-stays-in_order (OfMatter m line change) firm order = in_order-matched lin
 change-stays-in_order (Repeated line) firm order = match-in_order line firm order
 change-stays-in_order (Unmatched line) firm order = stray-stays-in_order line firm order
 change-stays-in_order (OfFirm line) firm order = match-in_order line (with_firm_line (as_firm_line line) firm) (record { rows = order.rows; exceptions = order.exceptions; balances = order.balances })
-change-stays-in_order (OfBalance kind line) firm order = match-in_order line (with_statement (balance_row kind line) firm) (record { rows = order.rows; exceptions = order.exceptions; balances = balances-sorted (balance_row kind line) firm.balances order.balances })
+change-stays-in_order (OfBalance kind line) firm order = match-in_order line (with_balance_row (balance_row kind line) firm) (record { rows = order.rows; exceptions = order.exceptions; balances = balances-sorted (balance_row kind line) firm.balances order.balances })
 
 pub change-stays-sound : Covered → StaysSound
 change-stays-sound law (OfMatter m line change) firm sound fits = sound-matched line (after_change m change firm) (stays-sound law m change firm sound fits)
 change-stays-sound law (Repeated line) firm sound fits = match-sound line firm sound
 change-stays-sound law (Unmatched line) firm sound fits = stray-stays-sound line firm sound
 change-stays-sound law (OfFirm line) firm sound fits = match-sound line (with_firm_line (as_firm_line line) firm) (own_line-sound (as_firm_line line) firm sound fits)
-change-stays-sound law (OfBalance kind line) firm sound fits = match-sound line (with_statement (balance_row kind line) firm) (statement-sound (balance_row kind line) firm sound)
+change-stays-sound law (OfBalance kind line) firm sound fits = match-sound line (with_balance_row (balance_row kind line) firm) (statement-sound (balance_row kind line) firm sound)
 
 -- What is decided of a line of a matter fits.
 pub line-fits : LineFits

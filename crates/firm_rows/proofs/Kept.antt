@@ -6,7 +6,7 @@ use Rattle.firm_rows.proofs.Sums.{sum-append}
 use Rattle.firm_rows.proofs.InTime.{RiseTo, days-same, rise-own}
 use Rattle.firm_rows.proofs.Order.{in_order-rewritten_by}
 use Rattle.firm_rows.proofs.Clearing.{sound-cleared}
-use Rattle.firm_rows.proofs.Changed.{each-matter, IsNoClear, EditCases, edit-cases, of-rewritten_by, of_other-rewritten_by}
+use Rattle.firm_rows.proofs.Changed.{each-matter, IsNoPurge, EditCases, edit-cases, of-rewritten_by, of_other-rewritten_by}
 use Rattle.firm_rows.proofs.Told.{events-append, firm-append, joined-other, joined-firm, moved-other, events-told, ledger-told}
 
 -- no ledger of a sound matter is below zero
@@ -31,7 +31,7 @@ pub record IsKept (rows : Rows) (e : Edit) (last : ℕ) : Type 0 where
   pub seen : last_of (changed_by e last rows).head ≡ last
   pub dated : IsMovedWithin (last_of rows.head) last (movement_of rows.entries e)
 
-module _ (m : ℕ) (e : Edit) (last : ℕ) (firm : Firm) (sound : FirmSound firm) (is : IsKept (of m firm) e last) (keeps : IsNoClear e) where
+module _ (m : ℕ) (e : Edit) (last : ℕ) (firm : Firm) (sound : FirmSound firm) (is : IsKept (of m firm) e last) (keeps : IsNoPurge e) where
   abbrev old : Rows
   old = of m firm
 

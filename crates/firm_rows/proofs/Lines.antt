@@ -1,5 +1,5 @@
 -- A line of the bank, the firm's rows and its exceptions.
-use Rattle.firm_rows.proofs.Names.{List, Line, StatementRow, Firm, after_match, after_stray, FirmSound, IsInOrder, arith, ints, nat_tests}
+use Rattle.firm_rows.proofs.Names.{List, Line, BalanceRow, Firm, after_match, after_stray, FirmSound, IsInOrder, arith, ints, nat_tests}
 use Rattle.trust_base.specs.LineOrder.{line_cmp}
 use Rattle.trust_base.proofs.LineFacts.{line_total, line_same}
 use Rattle.firm_rows.specs.Exceptions.{WithLineAdds, WithoutLineTakes, WithLineAgain}
@@ -27,7 +27,7 @@ stray-stays-in_order line firm order = record { rows = order.rows; exceptions = 
 -- And sound.
 
 -- exceptions and balances are no matter's rows, and move nothing
-pub with-others : (firm : Firm) (lines : List Line) (balances : List StatementRow) → FirmSound firm
+pub with-others : (firm : Firm) (lines : List Line) (balances : List BalanceRow) → FirmSound firm
     → IsInOrder (record firm { exceptions = lines; balances = balances }) → FirmSound (record firm { exceptions = lines; balances = balances })
 with-others firm lines balances sound order = grind (arith, ints, nat_tests)
 

@@ -1,5 +1,5 @@
 -- What is kept of the firm's own lines and of the balances stays kept.
-use Rattle.firm_rows.proofs.Names.{◌≡◌, ℕ, Bool, true, false, cond, List, [], ◌∷◌, Option, Some, None, refl, sym, ap, ◌∙◌, ℤ, find, list_any, option_map, option_or, Ordering, Less, Equal, Greater, is_lt, nat_cmp, ordering_reverse, ordering_then, false≢true, arith, nat_tests, Decides-eqb, Decides-int_eq, tied_back, tied_itself, Line, Edit, StatementRow, is_kept_as, as_firm_line, place_of, balance_cmp, balance_row, is_balance_on, kept_balance, with_balance, Firm, after_edit, after_change, matched_by, ints}
+use Rattle.firm_rows.proofs.Names.{◌≡◌, ℕ, Bool, true, false, cond, List, [], ◌∷◌, Option, Some, None, refl, sym, ap, ◌∙◌, ℤ, find, list_any, option_map, option_or, Ordering, Less, Equal, Greater, is_lt, nat_cmp, ordering_reverse, ordering_then, false≢true, arith, nat_tests, Decides-eqb, Decides-int_eq, tied_back, tied_itself, Line, Edit, BalanceRow, is_kept_as, as_firm_line, place_of, balance_cmp, balance_row, is_balance_on, kept_balance, with_balance, Firm, after_edit, after_change, matched_by, ints}
 use Rattle.std.proofs.Common.{filter}
 use Rattle.std.proofs.Math.Bool.{or-true}
 use Rattle.std.proofs.lemmas.List.Folds.{find-append, list_any-append}
@@ -38,21 +38,21 @@ find-filter p q b tells (x ∷ xs) = grind (arith, find-filter p q b tells xs, t
 -- A balance.
 
 -- of the kind and day
-on-parts : (kind : BalanceKind) (day : ℕ) (row : StatementRow) → is_balance_on kind day row ≡ true → (place_of row.kind ≡ place_of kind) × (row.day ≡ day)
+on-parts : (kind : BalanceKind) (day : ℕ) (row : BalanceRow) → is_balance_on kind day row ≡ true → (place_of row.kind ≡ place_of kind) × (row.day ≡ day)
 on-parts kind day row is = (grind (arith, nat_tests), grind (arith, nat_tests))
 
 -- all of one kind and day stand alike beside another
-alike : (kind : BalanceKind) (day : ℕ) (one other row : StatementRow) → is_balance_on kind day one ≡ true → is_balance_on kind day other ≡ true → balance_cmp one row ≡ balance_cmp other row
+alike : (kind : BalanceKind) (day : ℕ) (one other row : BalanceRow) → is_balance_on kind day one ≡ true → is_balance_on kind day other ≡ true → balance_cmp one row ≡ balance_cmp other row
 alike kind day one other row is also = grind (arith, nat_tests, on-parts, ordering_then, nat_cmp)
 
-turned : (one other : StatementRow) (r : Ordering) → balance_cmp one other ≡ r → balance_cmp other one ≡ ordering_reverse r
+turned : (one other : BalanceRow) (r : Ordering) → balance_cmp one other ≡ r → balance_cmp other one ≡ ordering_reverse r
 turned one other r is = balance_total.antisymm other one ∙ ap ordering_reverse is
 
-on-itself : (row : StatementRow) → is_balance_on row.kind row.day row ≡ true
+on-itself : (row : BalanceRow) → is_balance_on row.kind row.day row ≡ true
 on-itself row = tied-on row row (tied_itself balance_total row)
 
 -- what is put in is found
-put-found : (row : StatementRow) (rows : List StatementRow) → kept_balance row.kind row.day (with_balance row rows) ≡ Some row.amount
+put-found : (row : BalanceRow) (rows : List BalanceRow) → kept_balance row.kind row.day (with_balance row rows) ≡ Some row.amount
 put-found row rows =
     let p = is_balance_on row.kind row.day in
     let before = filter (λ r. is_lt (balance_cmp r row)) rows in
@@ -62,17 +62,17 @@ put-found row rows =
     grind (arith, ints, nat_tests, find, on-itself, option_map, find-append, option_or)
 
 -- what is kept is found where another is put in
-module _ (kind : BalanceKind) (day : ℕ) (amount : ℤ) (row : StatementRow) (rows : List StatementRow) (off : is_balance_on kind day row ≡ false) where
-  abbrev p : StatementRow → Bool
+module _ (kind : BalanceKind) (day : ℕ) (amount : ℤ) (row : BalanceRow) (rows : List BalanceRow) (off : is_balance_on kind day row ≡ false) where
+  abbrev p : BalanceRow → Bool
   p = is_balance_on kind day
 
-  abbrev before : List StatementRow
+  abbrev before : List BalanceRow
   before = filter (λ r. is_lt (balance_cmp r row)) rows
 
-  abbrev behind : List StatementRow
+  abbrev behind : List BalanceRow
   behind = filter (λ r. is_lt (balance_cmp row r)) rows
 
-  abbrev own : StatementRow
+  abbrev own : BalanceRow
   own = record { kind = kind; day = day; amount = amount }
 
   low : balance_cmp own row ≡ Less → find p before ≡ find p rows
@@ -84,22 +84,22 @@ module _ (kind : BalanceKind) (day : ℕ) (amount : ℤ) (row : StatementRow) (r
     find-filter p (λ r. is_lt (balance_cmp row r)) true (λ x on. ap is_lt (turned x row Greater (alike kind day x own row on (on-itself own) ∙ is))) rows,
   )
 
-  first : (o : Option StatementRow) (more : Option StatementRow) → option_map (λ (r : StatementRow). r.amount) o ≡ Some amount → option_map (λ (r : StatementRow). r.amount) (option_or o more) ≡ Some amount
+  first : (o : Option BalanceRow) (more : Option BalanceRow) → option_map (λ (r : BalanceRow). r.amount) o ≡ Some amount → option_map (λ (r : BalanceRow). r.amount) (option_or o more) ≡ Some amount
   first o more is = grind (arith)
 
-  found : (r : Ordering) → balance_cmp own row ≡ r → kept_balance kind day rows ≡ Some amount → option_map (λ (x : StatementRow). x.amount) (option_or (find p before) (find p (row ∷ behind))) ≡ Some amount
-  found Less is kept = first (find p before) (find p (row ∷ behind)) (ap (option_map (λ (x : StatementRow). x.amount)) (low is) ∙ kept)
+  found : (r : Ordering) → balance_cmp own row ≡ r → kept_balance kind day rows ≡ Some amount → option_map (λ (x : BalanceRow). x.amount) (option_or (find p before) (find p (row ∷ behind))) ≡ Some amount
+  found Less is kept = first (find p before) (find p (row ∷ behind)) (ap (option_map (λ (x : BalanceRow). x.amount)) (low is) ∙ kept)
   found Equal is kept = absurd (false≢true (sym off ∙ tied-on own row (tied_back balance_total own row is)))
   found Greater is kept = rw (off, (high is).0, (high is).1) kept
 
   pub stays-found : kept_balance kind day rows ≡ Some amount → kept_balance kind day (with_balance row rows) ≡ Some amount
-  stays-found kept = ap (option_map (λ (x : StatementRow). x.amount)) (find-append p before (row ∷ behind)) ∙ found (balance_cmp own row) refl kept
+  stays-found kept = ap (option_map (λ (x : BalanceRow). x.amount)) (find-append p before (row ∷ behind)) ∙ found (balance_cmp own row) refl kept
 
 pub balance-kept : BalanceIsKept
 balance-kept kind line firm = put-found (balance_row kind line) firm.balances
 
 -- another of a kind and day of which none is kept
-is-other : (kind : BalanceKind) (day : ℕ) (amount : ℤ) (row : StatementRow) (rows : List StatementRow) → kept_balance row.kind row.day rows ≡ None → kept_balance kind day rows ≡ Some amount → is_balance_on kind day row ≡ false
+is-other : (kind : BalanceKind) (day : ℕ) (amount : ℤ) (row : BalanceRow) (rows : List BalanceRow) → kept_balance row.kind row.day rows ≡ None → kept_balance kind day rows ≡ Some amount → is_balance_on kind day row ≡ false
 is-other kind day amount row rows none kept = grind (arith, nat_tests, on-parts, option_map)
 
 pub balances-stay : BalancesStay

@@ -1,7 +1,7 @@
 -- The rows of each matter stand together, also after a change.
-use Rattle.firm_rows.proofs.Names.{◌≡◌, ◌≢◌, ℕ, ◌<◌, ◌≤◌, Bool, true, List, [], ◌++◌, sym, ap, ◌∙◌, subst, arith, append_assoc, append-nil, ◌⊎◌, inl, inr, nat_lt, cases_lt, nat_tests, Edit, Rows, MatterChange, changed_by, Row, Firm, of, pairs, put, rewritten_by, cleared_by, after_change, IsInOrder}
+use Rattle.firm_rows.proofs.Names.{◌≡◌, ◌≢◌, ℕ, ◌<◌, ◌≤◌, Bool, true, List, [], ◌++◌, sym, ap, ◌∙◌, subst, arith, append_assoc, append-nil, ◌⊎◌, inl, inr, nat_lt, cases_lt, nat_tests, Edit, Rows, MatterChange, changed_by, Row, Firm, of, pairs, put, rewritten_by, purged_by, after_change, IsInOrder}
 use Rattle.firm_rows.proofs.Joined.{before, behind, passing, passing-append, passing-put, passing_twice, passing_never, passing_swap, pairs_pass, pairs_fail}
-use Rattle.firm_rows.proofs.Changed.{each-matter, EditCases, edit-cases, of-cleared_by, of_other-cleared_by}
+use Rattle.firm_rows.proofs.Changed.{each-matter, EditCases, edit-cases, of-purged_by, of_other-purged_by}
 
 -- what passes a test passes it again
 passing_kept : (t s : ℕ → Bool) (xs : List (ℕ × Row)) → ((x : ℕ) → s x ≡ true → t x ≡ true) → passing t (passing s xs) ≡ passing s xs
@@ -55,17 +55,17 @@ put-other k m own rows xs apart is = cases (cases_lt k m)
         put-rear k own low (pairs m rows ++ behind m xs) all none
         ∙ ap (λ ys. low ++ ys) (put-rear k own (pairs m rows) (behind m xs) all_own none_own ∙ ap (λ ys. pairs m rows ++ ys) (put-passing k own (λ x. nat_lt m x) xs (grind (arith, nat_tests)) is))
 
-rows-put : (m : ℕ) (rows : Rows) (firm : Firm) → IsInOrder firm → (k : ℕ) → put k (of k (cleared_by m rows firm)) (put m rows firm.rows) ≡ put m rows firm.rows
+rows-put : (m : ℕ) (rows : Rows) (firm : Firm) → IsInOrder firm → (k : ℕ) → put k (of k (purged_by m rows firm)) (put m rows firm.rows) ≡ put m rows firm.rows
 rows-put m rows firm order =
-    each-matter (λ k. put k (of k (cleared_by m rows firm)) (put m rows firm.rows) ≡ put m rows firm.rows) m
-    (ap (λ r. put m r (put m rows firm.rows)) (of-cleared_by m rows firm) ∙ put-again m rows firm.rows)
-    (λ k apart. ap (λ r. put k r (put m rows firm.rows)) (of_other-cleared_by k m rows firm apart) ∙ put-other k m (of k firm) rows firm.rows apart (order.rows k))
+    each-matter (λ k. put k (of k (purged_by m rows firm)) (put m rows firm.rows) ≡ put m rows firm.rows) m
+    (ap (λ r. put m r (put m rows firm.rows)) (of-purged_by m rows firm) ∙ put-again m rows firm.rows)
+    (λ k apart. ap (λ r. put k r (put m rows firm.rows)) (of_other-purged_by k m rows firm apart) ∙ put-other k m (of k firm) rows firm.rows apart (order.rows k))
 
 pub in_order-rewritten_by : (m : ℕ) (e : Edit) (last : ℕ) (firm : Firm) → IsInOrder firm → IsInOrder (rewritten_by m e last firm)
 in_order-rewritten_by m e last firm order = record { rows = rows-put m (changed_by e last (of m firm)) firm order; exceptions = order.exceptions; balances = order.balances }
 
-pub in_order-cleared_by : (m : ℕ) (rows : Rows) (firm : Firm) → IsInOrder firm → IsInOrder (cleared_by m rows firm)
-in_order-cleared_by m rows firm order = record { rows = rows-put m rows firm order; exceptions = order.exceptions; balances = order.balances }
+pub in_order-purged_by : (m : ℕ) (rows : Rows) (firm : Firm) → IsInOrder firm → IsInOrder (purged_by m rows firm)
+in_order-purged_by m rows firm order = record { rows = rows-put m rows firm order; exceptions = order.exceptions; balances = order.balances }
 
 pub stays-in_order : (m : ℕ) (change : MatterChange) (firm : Firm) → IsInOrder firm → IsInOrder (after_change m change firm)
 stays-in_order m change firm order = cases (edit-cases m change.edit change.last firm)
@@ -73,4 +73,4 @@ stays-in_order m change firm order = cases (edit-cases m change.edit change.last
     cases : EditCases m change.edit change.last firm → IsInOrder (after_change m change firm)
     cases (inl same) = subst IsInOrder (sym same.1) order
     cases (inr (inl is)) = subst IsInOrder (sym is.0) (in_order-rewritten_by m change.edit change.last firm order)
-    cases (inr (inr is)) = subst IsInOrder (sym is.after) (in_order-cleared_by m (changed_by change.edit change.last (of m firm)) firm order)
+    cases (inr (inr is)) = subst IsInOrder (sym is.after) (in_order-purged_by m (changed_by change.edit change.last (of m firm)) firm order)

@@ -14,7 +14,7 @@ use Rattle.trust_matter.specs.Changes as changes
 use Rattle.trust_matter.proofs.Entries.{entry_at-append, entry_at-with, none-past}
 use Rattle.trust_matter.proofs.Sums.{total-append, total-with}
 use Rattle.firm_rows.specs.declared.movement.Owner.TheVariants as owner
-use Rattle.firm_rows.proofs.Changed.{IsNoClear}
+use Rattle.firm_rows.proofs.Changed.{IsNoPurge}
 use Rattle.firm_rows.proofs.Sums.{sum-append}
 
 pub events-append : (m n : ℕ) (xs ys : List Movement) → events_moved m n (xs ++ ys) ≡ events_moved m n xs ++ events_moved m n ys
@@ -65,11 +65,11 @@ events-with es x old k there moved =
 events-same : (es : List Entry) (k : ℕ) → events_in (entry_at es k) ≡ events_in (entry_at es k) ++ []
 events-same es k = sym (append-nil (events_in (entry_at es k)))
 
-events-edited : (rows : Rows) (e : Edit) (k : ℕ) → IsNoClear e → IsPlace rows e → AreMoved rows.entries e (movement_of rows.entries e) → events_in (entry_at (edited rows.entries e) k) ≡ events_in (entry_at rows.entries k) ++ by_entry k (movement_of rows.entries e)
+events-edited : (rows : Rows) (e : Edit) (k : ℕ) → IsNoPurge e → IsPlace rows e → AreMoved rows.entries e (movement_of rows.entries e) → events_in (entry_at (edited rows.entries e) k) ≡ events_in (entry_at rows.entries k) ++ by_entry k (movement_of rows.entries e)
 events-edited rows e k keeps place moved = grind (arith, ints, nat_tests, events-same, events-append_entry, events-with)
 
 -- the events of a matter's entries after a change are those before it, and then what it moved
-pub events-told : (m : ℕ) (rows : Rows) (e : Edit) (k : ℕ) → IsNoClear e → IsPlace rows e → AreMoved rows.entries e (movement_of rows.entries e) → events_in (entry_at (edited rows.entries e) k) ≡ events_in (entry_at rows.entries k) ++ events_moved m k (joined_movement m (movement_of rows.entries e))
+pub events-told : (m : ℕ) (rows : Rows) (e : Edit) (k : ℕ) → IsNoPurge e → IsPlace rows e → AreMoved rows.entries e (movement_of rows.entries e) → events_in (entry_at (edited rows.entries e) k) ≡ events_in (entry_at rows.entries k) ++ events_moved m k (joined_movement m (movement_of rows.entries e))
 events-told m rows e k keeps place moved = events-edited rows e k keeps place moved ∙ ap (λ ys. events_in (entry_at rows.entries k) ++ ys) (sym (joined-own m k (movement_of rows.entries e)))
 
 -- The ledger after an edit.
@@ -95,9 +95,9 @@ ledger-with es n old x news there moved =
     let share = share-events x ∙ (ap (sum_of (λ e. e.amount)) (moved ∙ ap (λ o. events_in o ++ news) there) ∙ sum-append (λ (e : Event). e.amount) (events_of old) news) in
     omega (arith, ints, total-with total_share es n old x there, total-with held_share es n old x there, share, share-events old)
 
-ledger-edited : (rows : Rows) (e : Edit) → IsNoClear e → IsPlace rows e → AreMoved rows.entries e (movement_of rows.entries e) → ledger (edited rows.entries e) ≡ ledger rows.entries +ℤ sum_of (λ v. v.amount) (events_by (movement_of rows.entries e))
+ledger-edited : (rows : Rows) (e : Edit) → IsNoPurge e → IsPlace rows e → AreMoved rows.entries e (movement_of rows.entries e) → ledger (edited rows.entries e) ≡ ledger rows.entries +ℤ sum_of (λ v. v.amount) (events_by (movement_of rows.entries e))
 ledger-edited rows e keeps place moved = grind (arith, ints, nat_tests, ledger-append, ledger-with)
 
 -- the ledger of a matter after a change is that before it, and what it moved
-pub ledger-told : (m : ℕ) (rows : Rows) (e : Edit) → IsNoClear e → IsPlace rows e → AreMoved rows.entries e (movement_of rows.entries e) → ledger (edited rows.entries e) ≡ ledger rows.entries +ℤ moved_for m (joined_movement m (movement_of rows.entries e))
+pub ledger-told : (m : ℕ) (rows : Rows) (e : Edit) → IsNoPurge e → IsPlace rows e → AreMoved rows.entries e (movement_of rows.entries e) → ledger (edited rows.entries e) ≡ ledger rows.entries +ℤ moved_for m (joined_movement m (movement_of rows.entries e))
 ledger-told m rows e keeps place moved = ledger-edited rows e keeps place moved ∙ ap (λ z. ledger rows.entries +ℤ z) (sym (moved-own m (movement_of rows.entries e)))

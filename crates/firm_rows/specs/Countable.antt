@@ -7,7 +7,7 @@ use Rattle.trust_base.specs.declared.line.Line.{Line}
 use Rattle.trust_matter.specs.Rows.{entry_amount}
 use Rattle.firm_rows.specs.declared.movement.Movement.{Movement}
 use Rattle.firm_rows.specs.declared.ledger.FirmLine.{FirmLine}
-use Rattle.firm_rows.specs.declared.ledger.StatementRow.{StatementRow}
+use Rattle.firm_rows.specs.declared.ledger.BalanceRow.{BalanceRow}
 use Rattle.firm_rows.specs.Firm.{Row, HeadRow, SeatRow, EntryRow, Firm}
 
 -- the most rows of one kind: one less than 2^64
@@ -29,7 +29,7 @@ IsFirmLineInRange l = IsBankAmount l.amount
 abbrev pub IsLineInRange : Line → Type 0
 IsLineInRange l = IsBankAmount l.amount
 
-abbrev pub IsBalanceInRange : StatementRow → Type 0
+abbrev pub IsBalanceInRange : BalanceRow → Type 0
 IsBalanceInRange row = IsBankAmount row.amount
 
 -- fewer than 2^64 rows, each with its amount in range

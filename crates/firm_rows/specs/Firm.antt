@@ -16,7 +16,7 @@ use Rattle.firm_rows.specs.declared.movement.Movement.{Movement}
 use Rattle.firm_rows.specs.declared.movement.Owner.{Owner}
 use Rattle.firm_rows.specs.declared.movement.Owner.TheVariants as owner
 use Rattle.firm_rows.specs.declared.ledger.FirmLine.{FirmLine}
-use Rattle.firm_rows.specs.declared.ledger.StatementRow.{StatementRow}
+use Rattle.firm_rows.specs.declared.ledger.BalanceRow.{BalanceRow}
 use Rattle.firm_rows.specs.declared.sink.MatterRow.{MatterRow}
 use Rattle.firm_rows.specs.declared.sink.MatterRow.TheVariants as given
 use Rattle.firm_rows.specs.FirmLines.{with_balance}
@@ -41,7 +41,7 @@ pub record Firm : Type 0 where
   pub movements : List Movement
   pub firm_lines : List FirmLine
   pub exceptions : List Line
-  pub balances : List StatementRow
+  pub balances : List BalanceRow
 
 -- a firm without rows
 abbrev pub empty_firm : Firm
@@ -129,13 +129,13 @@ kept_movements m (edit.Open opening) movements = movements
 kept_movements m (edit.Seat seat) movements = movements
 kept_movements m (edit.Unseat person) movements = movements
 kept_movements m (edit.Close day) movements = movements
-kept_movements m (edit.Clear day) movements = moved_without m movements
+kept_movements m (edit.Purge day) movements = moved_without m movements
 kept_movements m (edit.Append entry) movements = movements
 kept_movements m (edit.Exchange entry) movements = movements
 
 -- the firm with a matter's rows replaced and its movements removed
-abbrev pub cleared_by : ℕ → Rows → Firm → Firm
-cleared_by m rows firm = record firm { rows = put m rows firm.rows; movements = moved_without m firm.movements }
+abbrev pub purged_by : ℕ → Rows → Firm → Firm
+purged_by m rows firm = record firm { rows = put m rows firm.rows; movements = moved_without m firm.movements }
 
 -- the firm after an edit of a matter, with the matter's new last day and what the edit moves
 abbrev pub rewritten_by : ℕ → Edit → ℕ → Firm → Firm
@@ -151,7 +151,7 @@ after_edit m (edit.Open opening) last firm = rewritten_by m (edit.Open opening) 
 after_edit m (edit.Seat seat) last firm = rewritten_by m (edit.Seat seat) last firm
 after_edit m (edit.Unseat person) last firm = rewritten_by m (edit.Unseat person) last firm
 after_edit m (edit.Close day) last firm = rewritten_by m (edit.Close day) last firm
-after_edit m (edit.Clear day) last firm = cleared_by m (changed_by (edit.Clear day) last (of m firm)) firm
+after_edit m (edit.Purge day) last firm = purged_by m (changed_by (edit.Purge day) last (of m firm)) firm
 after_edit m (edit.Append entry) last firm = rewritten_by m (edit.Append entry) last firm
 after_edit m (edit.Exchange entry) last firm = rewritten_by m (edit.Exchange entry) last firm
 
@@ -191,5 +191,5 @@ with_firm_line l firm =
 -- A balance that the bank reported.
 
 -- the firm with one more balance
-abbrev pub with_statement : StatementRow → Firm → Firm
-with_statement row firm = record firm { balances = with_balance row firm.balances }
+abbrev pub with_balance_row : BalanceRow → Firm → Firm
+with_balance_row row firm = record firm { balances = with_balance row firm.balances }

@@ -10,7 +10,7 @@ use Rattle.firm_rows.specs.declared.ledger.Verdict.{Verdict}
 use Rattle.firm_rows.specs.declared.ledger.Verdict.TheVariants as told
 use Rattle.firm_rows.specs.declared.ledger.BalanceKind.{BalanceKind}
 use Rattle.firm_rows.specs.FirmLines.{balance_of, IsOwnBalance, as_firm_line, balance_row, kept_balance}
-use Rattle.firm_rows.specs.Firm.{Firm, of, after_change, after_match, after_stray, with_firm_line, with_statement}
+use Rattle.firm_rows.specs.Firm.{Firm, of, after_change, after_match, after_stray, with_firm_line, with_balance_row}
 
 -- a change of a matter, with the bank line that made it, if any; a repeated line; an unmatched line; an applied line of
 -- the firm's own; and an applied balance
@@ -32,7 +32,7 @@ after (OfMatter m line change) firm = matched_by line (after_change m change fir
 after (Repeated line) firm = after_match line firm
 after (Unmatched line) firm = after_stray line firm
 after (OfFirm line) firm = after_match line (with_firm_line (as_firm_line line) firm)
-after (OfBalance kind line) firm = after_match line (with_statement (balance_row kind line) firm)
+after (OfBalance kind line) firm = after_match line (with_balance_row (balance_row kind line) firm)
 
 -- what a change of the firm does to the rows of matter n: only those of the matter that it names change
 abbrev pub rows_after : ℕ → FirmChange → Rows → Rows

@@ -12,7 +12,7 @@ use Rattle.firm_rows.specs.declared.ledger.Verdict.{Verdict}
 use Rattle.firm_rows.specs.declared.ledger.Verdict.TheVariants as told
 use Rattle.firm_rows.specs.declared.ledger.BalanceKind.{BalanceKind}
 use Rattle.firm_rows.specs.declared.ledger.BalanceKind.TheVariants as kind
-use Rattle.firm_rows.specs.declared.ledger.StatementRow.{StatementRow}
+use Rattle.firm_rows.specs.declared.ledger.BalanceRow.{BalanceRow}
 use Rattle.firm_rows.specs.Sums.{sum_of}
 use Rattle.firm_rows.specs.declared.limits.TheConstants.{MAX_OWN}
 
@@ -62,23 +62,23 @@ place_of kind.Opening = 0
 place_of kind.Closing = 1
 
 -- openings before closings, each by day
-abbrev pub balance_cmp : StatementRow → StatementRow → Ordering
+abbrev pub balance_cmp : BalanceRow → BalanceRow → Ordering
 balance_cmp a b = ordering_then (nat_cmp (place_of a.kind) (place_of b.kind)) (nat_cmp a.day b.day)
 
 -- the balances with one more, inserted in order
-abbrev pub with_balance : StatementRow → List StatementRow → List StatementRow
+abbrev pub with_balance : BalanceRow → List BalanceRow → List BalanceRow
 with_balance row rows =
     filter (λ r. is_lt (balance_cmp r row)) rows ++ (row ∷ filter (λ r. is_lt (balance_cmp row r)) rows)
 
 -- the line as a balance of this kind
-abbrev pub balance_row : BalanceKind → Line → StatementRow
+abbrev pub balance_row : BalanceKind → Line → BalanceRow
 balance_row k line = record { kind = k; day = line.date; amount = line.amount }
 
 -- the row is the balance of this kind and day
-abbrev pub is_balance_on : BalanceKind → ℕ → StatementRow → Bool
+abbrev pub is_balance_on : BalanceKind → ℕ → BalanceRow → Bool
 is_balance_on k day row = place_of row.kind == place_of k && row.day == day
 
-abbrev pub kept_balance : BalanceKind → ℕ → List StatementRow → Option ℤ
+abbrev pub kept_balance : BalanceKind → ℕ → List BalanceRow → Option ℤ
 kept_balance k day rows = option_map (λ row. row.amount) (find (is_balance_on k day) rows)
 
 -- the verdict on a balance, given the one on file for its kind and day, if any

@@ -66,13 +66,13 @@ StaysInOrder = (change : FirmChange) (firm : Firm) → IsInOrder firm → IsInOr
 abbrev pub PurgedMovesNothing : Type 0
 PurgedMovesNothing =
     (m day last : ℕ) (firm : Firm)
-    → filter (λ v. is_of_matter m v.owner) (after_edit m (edit.Clear day) last firm).movements ≡ []
+    → filter (λ v. is_of_matter m v.owner) (after_edit m (edit.Purge day) last firm).movements ≡ []
 
 -- the movements of every other matter stay, in their order
 abbrev pub PurgeLeavesOthers : Type 0
 PurgeLeavesOthers =
     (n m day last : ℕ) (firm : Firm) → n ≢ m
-    → filter (λ v. is_of_matter n v.owner) (after_edit m (edit.Clear day) last firm).movements
+    → filter (λ v. is_of_matter n v.owner) (after_edit m (edit.Purge day) last firm).movements
     ≡ filter (λ v. is_of_matter n v.owner) firm.movements
 
 -- Every verdict on a line is a change that fits.

@@ -38,7 +38,7 @@ pub enum BalanceKind {
 
 /// A balance that the bank reported.
 #[derive(Clone, Copy, Debug)]
-pub struct StatementRow {
+pub struct BalanceRow {
     pub kind: BalanceKind,
     pub day: Day,
     pub amount: BankAmount,
@@ -95,12 +95,12 @@ impl BalanceKind {
     }
 }
 
-impl StatementRow {
+impl BalanceRow {
     /// The line as a balance of this kind. Allocates nothing.
-    pub fn of(kind: BalanceKind, line: &Line) -> StatementRow
+    pub fn of(kind: BalanceKind, line: &Line) -> BalanceRow
         ensures { result ≡ balance_row kind line.now }
     {
-        StatementRow {
+        BalanceRow {
             kind,
             day: line.date,
             amount: line.amount,
@@ -108,7 +108,7 @@ impl StatementRow {
     }
 
     /// Orders balances: openings before closings, each by day.
-    pub fn compare(&self, other: &StatementRow) -> Ordering
+    pub fn compare(&self, other: &BalanceRow) -> Ordering
         ensures { result ≡ balance_cmp self.now other.now }
     {
         let by_kind = self.kind.place().cmp(&other.kind.place());

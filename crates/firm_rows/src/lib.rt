@@ -1,4 +1,26 @@
 //! The joined rows of a firm, its movements, and what is true of both at every moment.
+//!
+//! # What is promised
+//!
+//! By public call, with the clauses of its contract in brackets.
+//!
+//! - `decide_firm_line`, `FirmLedger`: a line of the firm's own is a repeat, is applied if its date is not after the
+//!   business day, its amount is not zero and the balance stays within 0 to 500.00, and matches nothing otherwise (ABA
+//!   Model Rule 1.15(b)).
+//! - `decide_balance`: an opening or closing balance is a repeat if it is kept, is applied if none of its day is kept
+//!   and it is not of the future, and matches nothing otherwise.
+//! - `laws` `changes_one_matter`: a change of the firm, of whatever kind, changes one matter's own rows, or none.
+//! - `laws` `firm_stays_sound`: a sound firm stays sound by every change that fits; **every movement of the journal is
+//!   that of one event of one entry, or of one line of the firm's own, and every such event has one movement**; a
+//!   matter's movements do not go back in time, and add up to its ledger, and at no place of the list to less than
+//!   zero.
+//! - `laws` `firm_stays_in_order`, `exceptions_are_a_set`: the order by itself; a line joins the exceptions, or leaves
+//!   them, and no other line moves; one that is there already changes nothing.
+//! - `laws` `verdicts_fit`: what `decide_line`, `decide_firm_line` and `decide_balance` say makes a change that fits.
+//! - `laws` `applied_stays_kept`: a line of the firm's own that is applied is kept, and so is a balance, with its
+//!   amount; what is kept stays kept by every change that fits, purging too.
+//! - `laws` `sound_is_solvent`: the ledgers of all matters and the firm's own add up to at least zero and to what the
+//!   journal moved.
 #![tactic(auto)]
 
 pub mod laws;
@@ -8,7 +30,7 @@ mod movement;
 mod sink;
 
 pub use ledger::{
-    BalanceKind, FirmLedger, FirmLine, StatementRow, Verdict, decide_balance, decide_firm_line,
+    BalanceKind, BalanceRow, FirmLedger, FirmLine, Verdict, decide_balance, decide_firm_line,
     is_own_balance,
 };
 pub use limits::MAX_OWN;

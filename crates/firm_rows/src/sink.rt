@@ -3,7 +3,7 @@
 ghost use Rattle.std.specs.Prelude.{◌≡◌, ℕ, OnOk, OnErr};
 ghost use Rattle.firm_rows.specs.Firm.{Row, HeadRow, SeatRow, EntryRow, row_of};
 
-use crate::ledger::{FirmLine, StatementRow};
+use crate::ledger::{BalanceRow, FirmLine};
 use crate::movement::Movement;
 use std::alloc::AllocError;
 use trust_base::{EntryNo, Line, MatterNo};
@@ -112,13 +112,13 @@ pub trait FirmLineSink {
 
 /// Receives the opening and closing balances of a firm in order. If memory runs out, the sink is unchanged.
 pub trait BalanceSink {
-    ghost use Rattle.firm_rows.specs.declared.ledger.StatementRow.{StatementRow};
+    ghost use Rattle.firm_rows.specs.declared.ledger.BalanceRow.{BalanceRow};
 
     /// The sink after a balance.
-    ghost balanced: { Self → StatementRow → Self };
+    ghost balanced: { Self → BalanceRow → Self };
 
     /// Receives an opening or a closing balance.
-    fn balance(&mut self, row: &StatementRow) -> Result<(), AllocError>
+    fn balance(&mut self, row: &BalanceRow) -> Result<(), AllocError>
         ensures ok { OnOk result (self.new ≡ balanced self.old row.now) }
         ensures err { OnErr result (self.new ≡ self.old) };
 }

@@ -8,6 +8,7 @@ pub use Rattle.std.proofs.lemmas.Bool.{and_parts}
 pub use Rattle.std.specs.Str.{IsAscii, IsUtf8}
 unfoldable pub use Rattle.std.specs.Str.{is_utf8}
 pub use Rattle.matter_bodies.specs.Json.{array_of, count_value, items_of, members_of, object_of, or_null, value_tokens}
-pub use Rattle.matter_bodies.specs.Values.{member_of, role_name, seat_object}
+pub use Rattle.matter_bodies.specs.Values.{member_of, seat_object}
+pub use Rattle.matter_rows.specs.Rows.{role_name}
 pub use Rattle.std.proofs.lemmas.Bool.Decides.{nat_tests}
 pub use Rattle.std.proofs.lemmas.Int.{ints}

@@ -2,16 +2,11 @@
 use Rattle.std.specs.Prelude.{ℕ, List, [], ◌∷◌, codes, map}
 use Rattle.std.specs.Borrow.{Bor}
 use Rattle.serde_json.specs.Data.{Data, null, string}
-use Rattle.matter_rows.specs.declared.seat.Role.{Role}
-use Rattle.matter_rows.specs.declared.seat.Role.TheVariants as role
+use Rattle.matter_rows.specs.Rows.{role_name}
 use Rattle.matter_rows.specs.declared.seat.Seat.{Seat}
 use Rattle.matter_bodies.specs.declared.bodies.Value.{Value}
 use Rattle.matter_bodies.specs.declared.bodies.Value.TheVariants as value
 use Rattle.matter_bodies.specs.Json.{object_of, array_of, amount_value, day_value, matter_value, entry_value, count_value}
-
-abbrev pub role_name : Role → List ℕ
-role_name role.Client = codes "client"
-role_name role.Lawyer = codes "lawyer"
 
 abbrev pub seat_object : Seat → Data
 seat_object s = object_of ((codes "person", string s.person) ∷ (codes "role", string (role_name s.role)) ∷ [])

@@ -5,7 +5,7 @@ ghost use Rattle.std.specs.Option.{option_copied};
 ghost use Rattle.serde_json.specs.Data.{string as text_data};
 ghost use Rattle.serde_json.specs.Written.{compact_text};
 ghost use Rattle.matter_parts.specs.Parts.{IsPart};
-ghost use Rattle.matter_rows.specs.Rows.{Rows, closed_on as closed_in};
+ghost use Rattle.matter_rows.specs.Rows.{Rows, closed_on as closed_in, role_name as role_word};
 ghost use Rattle.matter_rows.specs.Sound.{Sound};
 ghost use Rattle.matter_rows.specs.declared.entry.Entry.TheVariants.{Claim as claim_entry, Deposit as deposit_entry, Fee as fee_entry, Payment as payment_entry};
 ghost use Rattle.matter_bodies.specs.Bodies.{against_entry as claimed_fee_in, against_name as ground_name_in, balance_sums, bank_day_value, bank_ref_value};
@@ -13,7 +13,7 @@ ghost use Rattle.matter_bodies.specs.Bodies.{claim_left_value, claimant_of as cl
 ghost use Rattle.matter_bodies.specs.Bodies.{fund_name as fund_name_in, import_body, matter_body, matter_members, opened_value, purge_body, purge_members};
 ghost use Rattle.matter_bodies.specs.Bodies.{purged_on, receipt_body};
 ghost use Rattle.matter_bodies.specs.Json.{amount_value, array_of, day_value, entry_value, object_of, or_null, value_tokens};
-ghost use Rattle.matter_bodies.specs.Values.{data_of, member_of, role_name as role_word, seat_object};
+ghost use Rattle.matter_bodies.specs.Values.{data_of, member_of, seat_object};
 
 use json::Writer;
 use std::alloc::{AllocError, Global};

@@ -1,5 +1,5 @@
 -- What is kept after a change is a part of the rows after it.
-use Rattle.matter_parts.proofs.Names.{◌≡◌, ◌≢◌, ℕ, ◌+◌, ◌||◌, ltb, true, false, List, [], ◌∷◌, ◌++◌, length, refl, ap, sym, ◌∙◌, arith, subst, Option, Some, None, eqb, is_some, pos, Result, OnOk, ints, length_push, nat_tests, Entry, Head, Seat, left_of, seen_on, closed_head, cleared_head, entry_at, with_entry, Rows, as_made, role_in, seats_with, seats_without, target, Sound, AreInOrder, IsHeaded, entry_at-append, entry_at-with, within, length-with, draw-apart, left-append, left-with, Numbered, Edit, Figures, Kept, Left, TotalsAfter, IsWritten, kept_as, entry_put, other_written, changed, changed_by, MatterChange, edited, head_after, seats_after, IsOther, AreLeft, IsPlace, IsExchange, IsChange, Part, no_figures, is_held, kept_in, AreFigures, IsPart, IsEntryOf, AreKept, HoldsOn, IsWhole, entries_kept, AreNumbered, more}
+use Rattle.matter_parts.proofs.Names.{◌≡◌, ◌≢◌, ℕ, ◌+◌, ◌||◌, ltb, true, false, List, [], ◌∷◌, ◌++◌, length, refl, ap, sym, ◌∙◌, arith, subst, Option, Some, None, eqb, is_some, pos, Result, OnOk, ints, length_push, nat_tests, Entry, Head, Seat, left_of, seen_on, closed_head, purged_head, entry_at, with_entry, Rows, as_made, role_in, seats_with, seats_without, target, Sound, AreInOrder, IsHeaded, entry_at-append, entry_at-with, within, length-with, draw-apart, left-append, left-with, Numbered, Edit, Figures, Kept, Left, TotalsAfter, IsWritten, kept_as, entry_put, other_written, changed, changed_by, MatterChange, edited, head_after, seats_after, IsOther, AreLeft, IsPlace, IsExchange, IsChange, Part, no_figures, is_held, kept_in, AreFigures, IsPart, IsEntryOf, AreKept, HoldsOn, IsWhole, entries_kept, AreNumbered, more}
 use Rattle.matter_parts.specs.declared.edit.Opening.{Opening}
 use Rattle.matter_parts.specs.declared.edit.Edit.TheVariants as edit
 use Rattle.matter_parts.proofs.AllKept.{entries-end, numbered-end, entries-at, numbered-at, entries-other, numbered-other, length-kept}
@@ -178,11 +178,11 @@ held-none m rows n p h = cases (kept_in m.kept n) refl h
 
 -- nothing is kept but the head
 abbrev cleared_part : Part → ℕ → ℕ → Part
-cleared_part m on last = record { head = cleared_head m.head on last; seats = []; figures = no_figures; kept = [] }
+cleared_part m on last = record { head = purged_head m.head on last; seats = []; figures = no_figures; kept = [] }
 
-pub after-clear : (m m' : Part) (c : MatterChange) (on last : ℕ) → c.edit ≡ edit.Clear on → last ≡ c.last → m' ≡ cleared_part m on last → IsAfter m c m'
-after-clear m m' c on last is seen made =
-    grind (arith, ints, nat_tests, changed_by, cleared_head, figures-none, as-told, held-none)
+pub after-purge : (m m' : Part) (c : MatterChange) (on last : ℕ) → c.edit ≡ edit.Purge on → last ≡ c.last → m' ≡ cleared_part m on last → IsAfter m c m'
+after-purge m m' c on last is seen made =
+    grind (arith, ints, nat_tests, changed_by, purged_head, figures-none, as-told, held-none)
 
 pub ok-map : {X E : Type 0} (A B : Type 0) (r : Result X E) → OnOk r A → (A → B) → OnOk r B
 ok-map h1 h2 h3 h f = grind (arith, ints, nat_tests)

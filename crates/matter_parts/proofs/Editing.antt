@@ -28,7 +28,7 @@ MayEdit es t n (edit.Open o) = Unit {0}
 MayEdit es t n (edit.Seat s) = Unit {0}
 MayEdit es t n (edit.Unseat p) = Unit {0}
 MayEdit es t n (edit.Close d) = Unit {0}
-MayEdit es t n (edit.Clear d) = Unit {0}
+MayEdit es t n (edit.Purge d) = Unit {0}
 
 pub backed-none : AreBacked []
 backed-none = record { few = omega arith; ranged = tt; named = tt; available = search rules; left = λ n e there. absurd (cc) }

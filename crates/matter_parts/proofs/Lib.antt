@@ -1,7 +1,6 @@
 pub mod AllKept
 pub mod Applied
 pub mod ByPlace
-pub mod Collected
 pub mod MadeChange
 pub mod Naming
 pub mod NeverStore

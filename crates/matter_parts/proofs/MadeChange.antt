@@ -11,7 +11,7 @@ movement-same m rows (edit.Open o) v p h = refl
 movement-same m rows (edit.Seat s) v p h = refl
 movement-same m rows (edit.Unseat q) v p h = refl
 movement-same m rows (edit.Close d) v p h = refl
-movement-same m rows (edit.Clear d) v p h = refl
+movement-same m rows (edit.Purge d) v p h = refl
 movement-same m rows (edit.Append x) v p h = refl
 movement-same m rows (edit.Exchange x) v p h = rw (h.1.kept, (p.kept x.number h.0 h.1.kept).there) refl
 

@@ -109,7 +109,7 @@ changes-are m rows t n (edit.Open o) v p s may h = none-moved m v rows.entries p
 changes-are m rows t n (edit.Seat x) v p s may h = none-moved m v rows.entries p.figures h
 changes-are m rows t n (edit.Unseat q) v p s may h = none-moved m v rows.entries p.figures h
 changes-are m rows t n (edit.Close d) v p s may h = none-moved m v rows.entries p.figures h
-changes-are m rows t n (edit.Clear d) v p s may h = (same-figures no_figures v.figures [] h.figures figures-none, record { left = h.left; other = h.other })
+changes-are m rows t n (edit.Purge d) v p s may h = (same-figures no_figures v.figures [] h.figures figures-none, record { left = h.left; other = h.other })
 changes-are m rows t n (edit.Append x) v p s may h =
     let es = rows.entries in
     let fs = es ++ x.entry ∷ [] in

@@ -10,7 +10,7 @@ pub use Rattle.matter_rows.proofs.Store.{IsBalance, available-balance, claims-ba
 pub use Rattle.matter_rows.proofs.Sums.{total-append, total-with}
 pub use Rattle.matter_rows.specs.Balances.{available, claims, disputed, fees, funds, held, is_against, is_fee, is_general_claim, is_settled, left_at, left_in, left_of, passes, total_of}
 unfoldable pub use Rattle.matter_rows.specs.Balances.{names}
-pub use Rattle.matter_rows.specs.Rows.{Rows, as_made, cleared_head, closed_head, closed_on, entry_at, last_of, role_in, seats_with, seats_without, seen_on, with_entry}
+pub use Rattle.matter_rows.specs.Rows.{Rows, as_made, purged_head, closed_head, closed_on, entry_at, last_of, role_in, seats_with, seats_without, seen_on, with_entry}
 pub use Rattle.matter_rows.specs.Shares.{AreSmallShares, IsSmallShare, IsSmallSum, against_no, draw_on, fund_no, no_shares, number_or_none, shares_of, target}
 unfoldable pub use Rattle.matter_rows.specs.Shares.{available_share, claim_share, disputed_share, draw, fee_share, held_share, pending_share, worth}
 pub use Rattle.matter_rows.specs.Sound.{AreBacked, AreInOrder, IsAtRestIfClosed, IsBy, IsFundedInTime, IsHeaded, IsRanged, IsRising, Sound}

@@ -36,7 +36,7 @@ never-store m rows t n (edit.Open o) s p may ht hn = no-entry m rows s p
 never-store m rows t n (edit.Seat x) s p may ht hn = no-entry m rows s p
 never-store m rows t n (edit.Unseat q) s p may ht hn = no-entry m rows s p
 never-store m rows t n (edit.Close d) s p may ht hn = no-entry m rows s p
-never-store m rows t n (edit.Clear d) s p may ht hn = λ no-move.
+never-store m rows t n (edit.Purge d) s p may ht hn = λ no-move.
     no-move (record { figures = no_figures; left = 0; other = None })
     (record { figures = small-figures no_figures [] figures-none backed-none; left = omega arith; other = small-none })
     assumption

@@ -4,7 +4,7 @@ use Rattle.matter_rows.specs.declared.head.Head.{Head}
 use Rattle.matter_rows.specs.declared.seat.Seat.{Seat}
 use Rattle.matter_rows.specs.declared.entry.Entry.{Entry}
 use Rattle.matter_rows.specs.declared.movement.EntryMovement.{EntryMovement}
-use Rattle.matter_rows.specs.Rows.{Rows, entry_at, with_entry, as_made, last_of, closed_on, is_purged, role_in, seats_with, seats_without, cleared_head, closed_head, seen_on}
+use Rattle.matter_rows.specs.Rows.{Rows, entry_at, with_entry, as_made, last_of, closed_on, is_purged, role_in, seats_with, seats_without, purged_head, closed_head, seen_on}
 use Rattle.matter_rows.specs.Events.{Event, events_of, events_in, moved_beyond}
 use Rattle.matter_rows.specs.Shares.{target}
 use Rattle.matter_rows.specs.declared.limits.TheConstants.{MAX_TOTAL}
@@ -42,7 +42,7 @@ edited es (edit.Open o) = es
 edited es (edit.Seat s) = es
 edited es (edit.Unseat p) = es
 edited es (edit.Close d) = es
-edited es (edit.Clear d) = []
+edited es (edit.Purge d) = []
 
 abbrev pub seats_after : List Seat → Edit → List Seat
 seats_after seats (edit.Open o) = o.seat ∷ []
@@ -50,7 +50,7 @@ seats_after seats (edit.Seat s) = seats_with seats s
 seats_after seats (edit.Unseat p) = seats_without seats p
 seats_after seats edit.Nothing = seats
 seats_after seats (edit.Close d) = seats
-seats_after seats (edit.Clear d) = []
+seats_after seats (edit.Purge d) = []
 seats_after seats (edit.Append x) = seats
 seats_after seats (edit.Exchange x) = seats
 
@@ -58,7 +58,7 @@ abbrev pub head_after : Option Head → Edit → ℕ → Option Head
 head_after h edit.Nothing last = h
 head_after h (edit.Open o) last = Some o.head
 head_after h (edit.Close day) last = closed_head h day last
-head_after h (edit.Clear day) last = cleared_head h day last
+head_after h (edit.Purge day) last = purged_head h day last
 head_after h (edit.Seat s) last = seen_on h last
 head_after h (edit.Unseat p) last = seen_on h last
 head_after h (edit.Append x) last = seen_on h last
@@ -83,7 +83,7 @@ movement_of es (edit.Open o) = None
 movement_of es (edit.Seat s) = None
 movement_of es (edit.Unseat p) = None
 movement_of es (edit.Close d) = None
-movement_of es (edit.Clear d) = None
+movement_of es (edit.Purge d) = None
 
 abbrev pub entry_event : EntryMovement → Event
 entry_event m = record { day = m.day; amount = m.amount }
@@ -101,7 +101,7 @@ AreMoved es (edit.Open o) m = m ≡ None
 AreMoved es (edit.Seat s) m = m ≡ None
 AreMoved es (edit.Unseat p) m = m ≡ None
 AreMoved es (edit.Close d) m = m ≡ None
-AreMoved es (edit.Clear d) m = m ≡ None
+AreMoved es (edit.Purge d) m = m ≡ None
 
 -- the movement of an edit, if any, is booked between the two days, inclusive
 abbrev pub IsMovedWithin : ℕ → ℕ → Option EntryMovement → Type 0
@@ -123,7 +123,7 @@ IsPlace rows (edit.Open o) = rows.head ≡ None
 IsPlace rows (edit.Seat s) = IsSome rows.head × (role_in rows.seats s.person ≡ None)
 IsPlace rows (edit.Unseat p) = IsSome rows.head × IsSome (role_in rows.seats p)
 IsPlace rows (edit.Close day) = IsSome rows.head × (closed_on rows.head ≡ None)
-IsPlace rows (edit.Clear day) = IsSome (closed_on rows.head) × (is_purged rows.head ≡ false)
+IsPlace rows (edit.Purge day) = IsSome (closed_on rows.head) × (is_purged rows.head ≡ false)
 IsPlace rows (edit.Append x) = IsSome rows.head × (x.number ≡ length rows.entries + 1)
 IsPlace rows (edit.Exchange x) = IsSome rows.head × ((old : Entry) × IsExchange rows.entries x old)
 
@@ -151,7 +151,7 @@ AreLefts fs (edit.Open o) v = NoneLeft v
 AreLefts fs (edit.Seat s) v = NoneLeft v
 AreLefts fs (edit.Unseat p) v = NoneLeft v
 AreLefts fs (edit.Close d) v = NoneLeft v
-AreLefts fs (edit.Clear d) v = NoneLeft v
+AreLefts fs (edit.Purge d) v = NoneLeft v
 
 -- a change of these rows: it fits, leaves them sound, and carries their own totals and movement; its movement is not
 -- before the matter's last day, nor after the last day that it leaves
@@ -174,6 +174,6 @@ last_after (Some h) (edit.Open o) day = day
 last_after (Some h) (edit.Seat s) day = day
 last_after (Some h) (edit.Unseat p) day = day
 last_after (Some h) (edit.Close d) day = day
-last_after (Some h) (edit.Clear d) day = day
+last_after (Some h) (edit.Purge d) day = day
 last_after (Some h) (edit.Append x) day = day
 last_after (Some h) (edit.Exchange x) day = day

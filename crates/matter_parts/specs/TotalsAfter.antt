@@ -74,7 +74,7 @@ pub record NoneMoved (m : Part) (v : TotalsAfter) : Type 0 where
   pub other : v.other ≡ None
 
 -- no entry stays: all totals are zero, and nothing that is left is written
-pub record AllCleared (v : TotalsAfter) : Type 0 where
+pub record AllPurged (v : TotalsAfter) : Type 0 where
   pub figures : v.figures ≡ no_figures
   pub left : v.left ≡ 0
   pub other : v.other ≡ None
@@ -87,7 +87,7 @@ EditMoved m (edit.Open o) v = NoneMoved m v
 EditMoved m (edit.Seat s) v = NoneMoved m v
 EditMoved m (edit.Unseat p) v = NoneMoved m v
 EditMoved m (edit.Close d) v = NoneMoved m v
-EditMoved m (edit.Clear d) v = AllCleared v
+EditMoved m (edit.Purge d) v = AllPurged v
 
 -- the movement of an edit in the journal, computed from the loaded entries
 abbrev pub movement_kept : Part → Edit → Option EntryMovement
@@ -99,7 +99,7 @@ movement_kept m (edit.Open o) = None
 movement_kept m (edit.Seat s) = None
 movement_kept m (edit.Unseat p) = None
 movement_kept m (edit.Close d) = None
-movement_kept m (edit.Clear d) = None
+movement_kept m (edit.Purge d) = None
 
 -- the change that an edit makes to a matter in memory
 pub record IsMade (m : Part) (e : Edit) (last : ℕ) (c : MatterChange) : Type 0 where

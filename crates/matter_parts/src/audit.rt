@@ -67,7 +67,7 @@ fn are_totals(figures: &Figures, entries: &[Entry]) -> bool
 }
 
 // Whether a closed matter has no money left and nothing waiting. True of a matter that is not closed.
-pub(crate) fn is_empty_if_closed(head: &Option<Head>, figures: &Figures) -> bool
+fn is_empty_if_closed(head: &Option<Head>, figures: &Figures) -> bool
     ensures { IsTrue result ↔ AreEmptyIfClosed (closed_on head.now) figures.now }
 {
     let Some(head) = head else {

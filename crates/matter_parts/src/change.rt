@@ -184,13 +184,13 @@ pub fn change_of(matter: &Matter, edit: Edit, last: Day) -> Result<Change, Refus
             let place = first as usize + second as usize;
             (moves, new.entry.event(new.number, place))
         }
-        Edit::Clear(_) => {
-            let cleared = TotalsAfter {
+        Edit::Purge(_) => {
+            let purged = TotalsAfter {
                 figures: Figures::none(),
                 left: 0,
                 other: None,
             };
-            (cleared, None)
+            (purged, None)
         }
         Edit::Nothing | Edit::Open(_) | Edit::Seat(_) | Edit::Unseat(_) | Edit::Close(_) => {
             let unwritten = TotalsAfter {

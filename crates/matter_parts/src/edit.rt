@@ -29,7 +29,7 @@ pub enum Edit {
     /// The matter is closed on a day.
     Close(Day),
     /// The matter is purged on a day: its seats and entries are removed, and only a stub of the head stays.
-    Clear(Day),
+    Purge(Day),
     /// An entry is added after the others.
     Append(Numbered),
     /// An entry replaces the one with its number.
@@ -45,7 +45,7 @@ impl Drop for Edit {
             Edit::Seat(_seat) => (),
             Edit::Unseat(_person) => (),
             Edit::Close(_day) => (),
-            Edit::Clear(_day) => (),
+            Edit::Purge(_day) => (),
             Edit::Append(_added) => (),
             Edit::Exchange(_changed) => (),
         }

@@ -1,11 +1,10 @@
 //! The totals and counts of a matter.
 
-ghost use Rattle.std.specs.Prelude.{◌≡◌, ◌+◌, ◌-◌, ◌<◌, ◌≤◌, ◌≤ℤ◌, ◌-ℤ◌, ◌+ℤ◌, pos, IfSome, IfNone, [], ◌++◌, ◌∷◌, None, ◌≢◌, ◌↔◌, length, IsTrue};
+ghost use Rattle.std.specs.Prelude.{◌≡◌, ◌-◌, ◌<◌, ◌↔◌, IsTrue};
 ghost use Rattle.matter_rows.specs.Balances.{available};
-ghost use Rattle.matter_rows.specs.Sound.{AreBacked};
-ghost use Rattle.matter_parts.specs.Parts.{AreSmall, no_figures, AreFigures};
+ghost use Rattle.matter_parts.specs.Parts.{AreSmall, no_figures};
 
-use matter_rows::{Entry, MAX_TOTAL, moved, sums_of};
+use matter_rows::MAX_TOTAL;
 use trust_base::MAX_ENTRY;
 
 /// The totals of a matter in cents, the number of its entries, and that of the payments proposed or issued.
@@ -52,27 +51,6 @@ pub struct Balances {
     pub disputed: u64,
     /// Cleared deposits less payments issued or cleared. The money of an issued payment may still be at the bank.
     pub total: u64,
-}
-
-// Adds up the totals of all entries; `None` if one is out of range. The fees and claims are right if each entry names
-// one that exists.
-pub(crate) fn figures_of(entries: &[Entry]) -> Option<Figures>
-    requires { length entries.now ≤ MAX_ENTRY }
-    ensures small { IfSome result AreSmall }
-    ensures some { IfSome result (λ f. AreBacked entries.now → AreFigures f entries.now) }
-    ensures available { IfSome result (λ f. pos f.available ≡ available entries.now) }
-    ensures none { IfNone result (AreBacked entries.now → ⊥) }
-{
-    let sums = sums_of(entries);
-    Some(Figures {
-        entries: entries.len() as u64,
-        pending: moved(0, 0, sums.pending)?,
-        held: moved(0, 0, sums.held)?,
-        available: moved(0, 0, sums.available)?,
-        disputed: moved(0, 0, sums.disputed)?,
-        fees: moved(0, 0, sums.fees)?,
-        claims: moved(0, 0, sums.claims)?,
-    })
 }
 
 // Whether all totals and counts are in range.

@@ -1,19 +1,18 @@
 //! The loaded entries of a matter, each with what is left of it.
 
-ghost use Rattle.std.specs.Prelude.{◌≡◌, true, ◌+◌, ◌<◌, ◌≤◌, ◌++◌, ◌∷◌, [], None, IfOk, OnOk, OnErr, ◌==◌, ◌≢◌, ◌↔◌, length, All, IsTrue, IfErr};
+ghost use Rattle.std.specs.Prelude.{◌≡◌, true, ◌+◌, ◌<◌, ◌≤◌, [], None, IfOk, OnOk, OnErr, ◌==◌, ◌↔◌, length, All, IsTrue};
 ghost use Rattle.std.specs.Option.{option_copied};
 ghost use Rattle.std.specs.List.{filter, position};
-ghost use Rattle.matter_rows.specs.Sound.{AreBacked};
 ghost use Rattle.matter_parts.specs.NamedEntries.{has_number};
-ghost use Rattle.matter_parts.specs.Parts.{kept_at, kept_in, IsEntryOf, AreAllKept, AreNumbered};
+ghost use Rattle.matter_parts.specs.Parts.{kept_in, AreNumbered};
 ghost use Rattle.matter_parts.specs.Applied.{entry_put, other_written};
 
 use crate::change::Left;
 use crate::named_entries::NamedEntries;
-use matter_rows::{Entry, MAX_TOTAL, drawn_on, moved};
+use matter_rows::{Entry, MAX_TOTAL};
 use std::alloc::{AllocError, Global};
 use std::marker::Model;
-use trust_base::{EntryNo, MAX_ENTRY, StoreFault};
+use trust_base::EntryNo;
 
 /// A loaded entry, and what is left of it in cents, if it is a fee or a claim on the general fund; otherwise 0.
 #[derive(Drop)]
@@ -221,48 +220,6 @@ pub fn set_left(kept: &mut KeptEntries, given: Option<Left>)
     if let Some(i) = kept.place_of(given.number.get()) {
         kept.entries[i].left = given.left;
     }
-}
-
-// Returns the entry at an index, with its number and what is left of it. `Store` if what is left is out of range.
-#[tactic(auto, using(std::proofs::lemmas::Int::ints))]
-fn kept_at(entries: &[Entry], place: usize) -> Result<Kept, StoreFault>
-    requires few { length entries.now ≤ MAX_ENTRY }
-    requires there { place < length entries.now }
-    ensures number { IfOk result (λ k. k.number ≡ place + 1) }
-    ensures small { IfOk result (λ k. k.left ≤ MAX_TOTAL) }
-    ensures own { IfOk result (λ k. IsEntryOf entries.now (place + 1) k) }
-    ensures err { IfErr result (λ f. f ≡ StoreFault.Store → AreBacked entries.now → ⊥) }
-{
-    let entry = &entries[place];
-    let Some(number) = EntryNo::from_number((place + 1) as u16) else {
-        return Err(StoreFault::Store);
-    };
-    let Some(left) = moved(0, drawn_on(entries, number), entry.worth()) else {
-        return Err(StoreFault::Store);
-    };
-    let entry = entry.copied()?;
-    Ok(Kept {
-        number,
-        left,
-        entry,
-    })
-}
-
-// All entries with their numbers and what is left of each.
-pub(crate) fn all_kept(alloc: Global, entries: &[Entry]) -> Result<KeptEntries, StoreFault>
-    requires { length entries.now ≤ MAX_ENTRY }
-    ensures ok { IfOk result (λ ks. AreAllKept ks entries.now) }
-    ensures err { IfErr result (λ f. f ≡ StoreFault.Store → AreBacked entries.now → ⊥) }
-{
-    let mut kept = Vec::new(alloc);
-    for place in 0..entries.len() {
-        let one = kept_at(entries, place)?;
-        kept.push(one)?;
-    }
-    Ok(KeptEntries {
-        entries: kept,
-        is_numbered: true,
-    })
 }
 
 // Whether what is left of each entry is in range.

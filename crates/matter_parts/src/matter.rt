@@ -1,28 +1,25 @@
 //! A matter in memory: its head, seats and totals, and those of its entries that are loaded.
 
-ghost use Rattle.std.specs.Prelude.{◌≡◌, ℕ, ◌+◌, ◌<◌, ◌≤◌, ◌++◌, ◌∷◌, [], true, false, find, is_some, None, pos, nat_lt, IfSome, IfOk, OnOk, OnErr, MatchOption, ◌≢◌, ◌↔◌, All, IsTrue, IsOk, IfErr, ◌&&◌, not};
+ghost use Rattle.std.specs.Prelude.{◌≡◌, ℕ, ◌+◌, ◌<◌, ◌≤◌, ◌++◌, ◌∷◌, [], true, false, find, is_some, None, pos, nat_lt, IfSome, IfOk, OnOk, OnErr, MatchOption, ◌↔◌, All, IsOk, IfErr, ◌&&◌, not};
 ghost use Rattle.std.specs.Option.{option_copied};
-ghost use Rattle.matter_rows.specs.Rows.{Rows, is_purged, is_gone, unopened, role_in, last_of, closed_on, next_number, seats_with, seats_without, has_other_lawyer, is_number, seen_on, closed_head, cleared_head, entry_amount};
+ghost use Rattle.matter_rows.specs.Rows.{Rows, is_purged, is_gone, unopened, role_in, last_of, closed_on, next_number, seats_with, seats_without, has_other_lawyer, is_number, seen_on, closed_head, purged_head, entry_amount};
 ghost use Rattle.matter_rows.specs.Shares.{number_or_none};
 ghost use Rattle.matter_rows.specs.declared.limits.TheConstants.{MAX_TOTAL};
 ghost use Rattle.matter_rows.specs.Sound.{Sound, AreInOrder};
 ghost use Rattle.matter_rows.specs.Balances.{exceeds};
 ghost use Rattle.matter_parts.specs.NamedEntries.{has_number};
-ghost use Rattle.matter_parts.specs.Parts.{Part, no_figures, IsPart, IsWhole, HoldsOn, kept_at, is_held, is_named, named_part, target_by, AreSmall, AreInRange, WholeHoldsAll, is_held_or_none, AreEmptyIfClosed};
+ghost use Rattle.matter_parts.specs.Parts.{Part, no_figures, IsPart, IsWhole, HoldsOn, kept_at, is_held, is_named, named_part, target_by, AreSmall, AreInRange, WholeHoldsAll, is_held_or_none};
 ghost use Rattle.matter_parts.specs.Changes.{IsChange, AreSmallTotals, changed};
 ghost use Rattle.matter_parts.specs.Applied.{IsWritten};
 
-use crate::audit::is_empty_if_closed;
 use crate::change::{Change, TotalsAfter};
 use crate::edit::{Edit, Numbered, Opening};
-use crate::figures::{Figures, are_small, figures_of};
-use crate::kept::{
-    Kept, KeptEntries, all_kept, are_small_lefts, found, kept_copied, kept_of, put, set_left,
-};
+use crate::figures::{Figures, are_small};
+use crate::kept::{Kept, KeptEntries, are_small_lefts, found, kept_copied, kept_of, put, set_left};
 use crate::named_entries::NamedEntries;
 use matter_rows::{
-    Entry, Head, Holder, Role, Seat, add_seat, are_in_form, are_in_order, clear_on, close_on,
-    drop_seat, has_other_lawyer, head_copied, role_of, seats_copied, see_on,
+    Entry, Head, Holder, Role, Seat, add_seat, close_on, drop_seat, has_other_lawyer, head_copied,
+    purge_on, role_of, seats_copied, see_on,
 };
 use std::alloc::{AllocError, Global};
 use std::marker::Model;
@@ -247,7 +244,7 @@ impl Matter {
     }
 
     /// Returns the last day, if `day` is before it.
-    pub fn last_behind(&self, day: Day) -> Option<Day>
+    pub fn last_if_after(&self, day: Day) -> Option<Day>
         ensures { MatchOption result (nat_lt day (last_of self.now.head) ≡ false)
             (λ last. (nat_lt day (last_of self.now.head) ≡ true) × (last ≡ last_of self.now.head)) }
     {
@@ -305,8 +302,8 @@ impl Matter {
                 self.close(*day, change.last());
                 Ok(())
             }
-            Edit::Clear(day) => {
-                self.clear(*day, change.last());
+            Edit::Purge(day) => {
+                self.purge(*day, change.last());
                 Ok(())
             }
             Edit::Append(added) => self.keep(added, change.moves(), change.last()),
@@ -351,11 +348,11 @@ impl Matter {
     }
 
     // Removes everything but the stub of the head.
-    fn clear(&mut self, day: Day, last: Day)
+    fn purge(&mut self, day: Day, last: Day)
         ensures { self.new
-            ≡ record { head = cleared_head self.old.head day last; seats = []; figures = no_figures; kept = [] } }
+            ≡ record { head = purged_head self.old.head day last; seats = []; figures = no_figures; kept = [] } }
     {
-        clear_on(&mut self.head, day, last);
+        purge_on(&mut self.head, day, last);
         self.seats.clear();
         self.figures = Figures::none();
         self.kept.clear();
@@ -385,38 +382,6 @@ impl Matter {
         self.figures = moves.figures;
         see_on(&mut self.head, last);
         Ok(())
-    }
-
-    /// The matter of whole rows: a head, seats and all entries in order. It loads all of them. Returns `Store` exactly
-    /// if the rows are not sound, and `Memory` if memory runs out.
-    pub fn of_rows(
-        alloc: Global,
-        head: Option<Head>,
-        seats: Vec<Seat>,
-        entries: &[Entry],
-    ) -> Result<Matter, StoreFault>
-        ensures sound { IfOk result (λ m. Sound (record { head = head; seats = seats.items; entries = entries.now })) }
-        ensures ok { IfOk result (λ m. IsWhole m (record { head = head; seats = seats.items; entries = entries.now })) }
-        ensures store { IfErr result (λ f. f ≡ StoreFault.Store
-            → Sound (record { head = head; seats = seats.items; entries = entries.now }) → ⊥) }
-    {
-        if entries.len() > MAX_ENTRY as usize {
-            return Err(StoreFault::Store);
-        }
-        if !are_in_order(seats.as_slice()) {
-            return Err(StoreFault::Store);
-        }
-        if !are_in_form(&head, seats.as_slice(), entries) {
-            return Err(StoreFault::Store);
-        }
-        let Some(figures) = figures_of(entries) else {
-            return Err(StoreFault::Store);
-        };
-        if !is_empty_if_closed(&head, &figures) {
-            return Err(StoreFault::Store);
-        }
-        let kept = all_kept(alloc, entries)?;
-        Ok(Matter::made(head, seats, figures, kept))
     }
 
     /// The matter of stored figures: a head, seats, totals and counts, and some of the entries, each with what is left

@@ -1,5 +1,5 @@
 -- The rows of a matter: its head, its seats by person, and its entries by number.
-use Rattle.std.specs.Prelude.{ℕ, Bool, true, false, not, cond, List, [], ◌∷◌, ◌++◌, ◌+◌, ◌-◌, ◌==◌, nat_lt, Option, Some, None, find, if◌then◌else◌, ◌&&◌}
+use Rattle.std.specs.Prelude.{ℕ, Bool, true, false, not, codes, cond, List, [], ◌∷◌, ◌++◌, ◌+◌, ◌-◌, ◌==◌, nat_lt, Option, Some, None, find, if◌then◌else◌, ◌&&◌}
 use Rattle.std.specs.List.{filter, list_any}
 use Rattle.std.specs.Option.{option_map}
 use Rattle.std.specs.Str.{bytes_eq}
@@ -125,9 +125,9 @@ closed_head None day last = None
 closed_head (Some h) day last = Some (record h { closed = Some day; last = last })
 
 -- the stub that is left of a head when the matter is purged on a day, with another last day
-abbrev pub cleared_head : Option Head → ℕ → ℕ → Option Head
-cleared_head None day last = None
-cleared_head (Some h) day last = Some (record h { holder = holder.Purged day; last = last })
+abbrev pub purged_head : Option Head → ℕ → ℕ → Option Head
+purged_head None day last = None
+purged_head (Some h) day last = Some (record h { holder = holder.Purged day; last = last })
 
 abbrev pub is_number : Option ℕ → ℕ → Bool
 is_number None n = false
@@ -152,6 +152,11 @@ is_issued_state payment.Declined = false
 is_issued_state (payment.Issued day) = true
 is_issued_state (payment.Cleared c) = false
 is_issued_state (payment.Voided v) = false
+
+-- the name of a role, as it is typed and told
+abbrev pub role_name : Role → List ℕ
+role_name role.Client = codes "client"
+role_name role.Lawyer = codes "lawyer"
 
 abbrev pub is_lawyer : Role → Bool
 is_lawyer role.Client = false

@@ -1,7 +1,7 @@
 //! The entries of a matter, of all kinds.
 
-ghost use Rattle.std.specs.Prelude.{◌≡◌, IfOk, ◌+◌, ◌-◌, ◌<◌, ◌≤◌, ◌≤ℤ◌, ◌-ℤ◌, ◌+ℤ◌, ◌≢◌, ◌↔◌, IsTrue, true, ◌++◌, ◌&&◌};
-ghost use Rattle.matter_rows.specs.Shares.{shares_of, no_shares, worth, draw, target, AreSmallShares, IsSmallShare, number_or_none, draw_on};
+ghost use Rattle.std.specs.Prelude.{◌≡◌, IfOk, ◌-◌, ◌<◌, ◌↔◌, IsTrue, true, ◌&&◌};
+ghost use Rattle.matter_rows.specs.Shares.{shares_of, no_shares, worth, draw, target, AreSmallShares, IsSmallShare, number_or_none};
 ghost use Rattle.matter_rows.specs.Events.{events_of, nth_moved};
 ghost use Rattle.matter_rows.specs.Sound.{Sound, IsRanged, IsBy, IsRising, IsFundedInTime};
 ghost use Rattle.matter_rows.specs.Clearings.{has_its_amount, is_return};
@@ -171,24 +171,6 @@ impl Entry {
                 }
             }
             _ => None,
-        }
-    }
-
-    // What the entry draws on the entry with this number.
-    pub(crate) fn draw_on(&self, number: EntryNo) -> i64
-        ensures is { result ≡ draw_on number self.now }
-        ensures small { IsSmallShare result }
-    {
-        let drawn = self.draw();
-        match self.target() {
-            None => 0,
-            Some(target) => {
-                if target.get() == number.get() {
-                    drawn
-                } else {
-                    0
-                }
-            }
         }
     }
 

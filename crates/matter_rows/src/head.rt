@@ -2,7 +2,7 @@
 
 ghost use Rattle.std.specs.Prelude.{◌≡◌, IfOk, ◌==◌};
 ghost use Rattle.std.specs.Option.{option_copied};
-ghost use Rattle.matter_rows.specs.Rows.{seen_on, closed_head, cleared_head};
+ghost use Rattle.matter_rows.specs.Rows.{seen_on, closed_head, purged_head};
 
 use std::alloc::AllocError;
 use trust_base::{Day, Label};
@@ -69,8 +69,8 @@ pub fn see_on(head: &mut Option<Head>, day: Day)
 }
 
 /// Makes the head that of a purged matter: the day of the purge replaces the client. Sets the last day.
-pub fn clear_on(head: &mut Option<Head>, day: Day, last: Day)
-    ensures { head.new ≡ cleared_head head.old day last }
+pub fn purge_on(head: &mut Option<Head>, day: Day, last: Day)
+    ensures { head.new ≡ purged_head head.old day last }
 {
     match head {
         None => {}

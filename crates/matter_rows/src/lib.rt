@@ -1,5 +1,14 @@
 //! The rows of a matter: its head, its seats and its entries, what each entry adds to each balance and moves in the
 //! journal.
+//!
+//! # What is promised
+//!
+//! By public call, with the clauses of its contract in brackets.
+//!
+//! - `Matter::part`, `Matter::holds`: the part of the named entries and of those that they draw on; whether an entry is
+//!   kept or isn't there.
+//! - `laws` `sound_is_covered`: a matter's cleared deposits less its payments are what is available, disputed, left of
+//!   fees and left of claims, each at least zero.
 #![tactic(auto)]
 
 mod claim;
@@ -22,11 +31,11 @@ pub use clearing::Clearing;
 pub use deposit::{Deposit, DepositState, ReturnedDeposit};
 pub use entry::Entry;
 pub use fee::Fee;
-pub use head::{Head, Holder, clear_on, close_on, head_copied, see_on};
+pub use head::{Head, Holder, close_on, head_copied, purge_on, see_on};
 pub use limits::MAX_TOTAL;
 pub use movement::EntryMovement;
 pub use payment::{ClearedPayment, Fund, Payment, PaymentState, VoidedPayment};
 pub use seat::{Role, Seat, add_seat, drop_seat, has_other_lawyer, role_of, seats_copied};
 pub use shares::{Shares, moved, no_shares};
 pub use soundness::{are_in_form, are_in_order};
-pub use totals::{drawn_on, sums_of};
+pub use totals::sums_of;

@@ -11,7 +11,7 @@ pub use Rattle.std.specs.Io.KnownBytes.{IsAtEnd, Keeps, prepend_known}
 pub use Rattle.std.specs.List.{list_all}
 pub use Rattle.trust_base.specs.declared.refusal.Refusal.{Refusal}
 pub use Rattle.portal_messages.specs.FieldPlaces.{pairs_from, IsFirstOf}
-pub use Rattle.portal_messages.specs.Fields.{body_size, path_of, size_behind, values_of, body_limit, size_of}
+pub use Rattle.portal_messages.specs.Fields.{body_size, path_of, size_after, values_of, body_limit, size_of}
 pub use Rattle.portal_messages.specs.Heads.{BeginsWith, FIELD_LIMIT, HEAD_LIMIT, HasNoHead, IsHeadAt, front_of, is_ended, is_line_byte}
 pub use Rattle.portal_messages.specs.Sources.{IsLast, unread}
 pub use Rattle.portal_messages.specs.declared.message.Message.{Message}

@@ -66,5 +66,5 @@ abbrev pub pairs_of : RequestHead → List (List ℕ × List ℕ)
 pairs_of head = map name_and_value head.fields
 
 -- the size of the body after a head
-abbrev pub size_behind : RequestHead → Result ℕ Refusal
-size_behind head = body_size head.method head.target (pairs_of head)
+abbrev pub size_after : RequestHead → Result ℕ Refusal
+size_after head = body_size head.method head.target (pairs_of head)

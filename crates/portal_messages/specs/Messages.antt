@@ -5,7 +5,7 @@ use Rattle.trust_base.specs.declared.refusal.Refusal.TheVariants.{BadMessage, Le
 use Rattle.httparse.specs.Grammar.{RequestHead}
 use Rattle.portal_messages.specs.declared.message.Message.{Message}
 use Rattle.portal_messages.specs.Heads.{BeginsWith, HasNoHead, is_ended}
-use Rattle.portal_messages.specs.Fields.{pairs_of, size_behind, values_of}
+use Rattle.portal_messages.specs.Fields.{pairs_of, size_after, values_of}
 
 -- the message of a head and a body
 abbrev pub message_of : RequestHead → List ℕ → Message
@@ -23,7 +23,7 @@ pub record IsMessage (bytes : List ℕ) (m : Message) (rest : List ℕ) : Type 0
   pub after : List ℕ
   pub begins : BeginsWith bytes head after
   pub size : ℕ
-  pub sized : size_behind head ≡ Ok size
+  pub sized : size_after head ≡ Ok size
   pub whole : size ≤ length after
   pub message : m ≡ message_of head (take size after)
   pub follows : rest ≡ drop size after
@@ -40,7 +40,7 @@ pub record RefusesBody (bytes : List ℕ) (r : Refusal) : Type 0 where
   pub head : RequestHead
   pub after : List ℕ
   pub begins : BeginsWith bytes head after
-  pub refused : size_behind head ≡ Err r
+  pub refused : size_after head ≡ Err r
 
 -- the bytes begin with a head whose body is cut short
 pub record CutsBody (bytes : List ℕ) : Type 0 where
@@ -48,7 +48,7 @@ pub record CutsBody (bytes : List ℕ) : Type 0 where
   pub after : List ℕ
   pub begins : BeginsWith bytes head after
   pub size : ℕ
-  pub sized : size_behind head ≡ Ok size
+  pub sized : size_after head ≡ Ok size
   pub short : length after < size
 
 -- neither a message nor a clean end follows, with the refusal for it: no head or a bad length, a coding, too large, a

@@ -29,15 +29,14 @@ pub use Rattle.portal_requests.specs.Asked.{entry_ask, matter_ask, numbered_ask}
 pub use Rattle.portal_requests.specs.Bodies.{body_in, has_keys, is_key, is_object, object_with, text_in, texts}
 pub use Rattle.portal_requests.specs.Callers.{caller_of}
 pub use Rattle.portal_requests.specs.Dismissals.{dismissing, dismissing_in, line_in, line_keys}
-pub use Rattle.portal_requests.specs.Paths.{behind_slash, day_part, entry_part, has_matter, named_in, up_to_slash}
+pub use Rattle.portal_requests.specs.Paths.{after_slash, day_part, entry_part, has_matter, named_in, up_to_slash}
 pub use Rattle.portal_requests.specs.Places.{method_of}
-pub use Rattle.portal_requests.specs.Requests.{as_of, asked_at, called, heard_as, of_matter, placed, reported, routed, with_statement}
+pub use Rattle.portal_requests.specs.Requests.{as_of, asked_at, called, heard_as, of_matter, placed, routed}
 unfoldable pub use Rattle.portal_requests.specs.Requests.{heard_of, request}
 pub use Rattle.portal_requests.specs.Routing.{place_of}
 pub use Rattle.portal_requests.specs.Table.{IsTaken, row_in, rows_of}
 unfoldable pub use Rattle.portal_requests.specs.Table.{AreTaken, TABLE, route_rows, the_routes}
 pub use Rattle.portal_requests.specs.declared.routes.EntryPlace.{EntryPlace}
 pub use Rattle.portal_requests.specs.declared.routes.Place.{Place}
-pub use Rattle.portal_requests.specs.declared.routes.ReportPlace.{ReportPlace}
 pub use Rattle.std.proofs.lemmas.Bool.Decides.{nat_tests}
 pub use Rattle.std.proofs.lemmas.Int.{ints}

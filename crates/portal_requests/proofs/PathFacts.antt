@@ -1,10 +1,9 @@
 -- The parts of a path, and which matter a message names by its path.
-use Rattle.portal_requests.proofs.Names.{◌≡◌, ◌∙◌, ℕ, Bool, true, false, cond, List, [], ◌∷◌, Option, Some, None, Result, Ok, Err, refl, sym, ap, subst, arith, codes, nat_le, option_map, take, unwrap_or, ⊤, bytes_eq, IsText, Scan, parse_route, RouteOf, route_from, RowsOf, first, InsertError, Line, day_of, matter_of, Field, BadMethod, Ask, Caller, is_the, names, Message, path_of, ReportPlace, Place, entry_ask, matter_ask, body_in, caller_of, dismissing, dismissing_in, line_in, line_keys, day_part, entry_part, has_matter, named_in, method_of, as_of, asked_at, called, heard_as, heard_of, of_matter, placed, reported, request, routed, with_statement, place_of, TABLE, route_rows, row_in, the_routes, matchit_on_literals, ints, nat_tests}
+use Rattle.portal_requests.proofs.Names.{◌≡◌, ◌∙◌, ℕ, Bool, true, false, cond, List, [], ◌∷◌, Option, Some, None, Result, Ok, Err, refl, sym, ap, subst, arith, codes, nat_le, option_map, take, unwrap_or, ⊤, bytes_eq, IsText, Scan, parse_route, RouteOf, route_from, RowsOf, first, InsertError, Line, day_of, matter_of, Field, BadMethod, Ask, Caller, is_the, names, Message, path_of, Place, entry_ask, matter_ask, body_in, caller_of, dismissing, dismissing_in, line_in, line_keys, day_part, entry_part, has_matter, named_in, method_of, as_of, asked_at, called, heard_as, heard_of, of_matter, placed, request, routed, place_of, TABLE, route_rows, row_in, the_routes, matchit_on_literals, ints, nat_tests}
 use Rattle.std.specs.Borrow.{Bor}
 use Rattle.std.specs.Prelude.{drop, length}
 use Rattle.std.specs.Slice.{IsGetRangeResult}
 use Rattle.std.proofs.lemmas.List.{drop_all, length-drop, take_all}
-use Rattle.portal_requests.specs.declared.routes.StatementPlace.{StatementPlace}
 use Rattle.portal_requests.specs.declared.routes.Place.TheVariants as place
 use Rattle.portal_requests.specs.NamedByPath.{NamedByPath}
 use Rattle.portal_requests.proofs.Literals.{AllRows, Starts, first-starts, placed-rows}
@@ -84,11 +83,8 @@ of-named : (n : ℕ) (caller : Caller) (named : Option ℕ) (asked : Result Ask 
 of-named n caller named asked = grind (arith, ints, nat_tests)
 
 -- what is asked of the firm names none
-report-named : (n : ℕ) (p : ReportPlace) (caller : Caller) (path : List ℕ) → names n (heard_as None (reported p caller path)) ≡ false
-report-named n p caller path = grind (arith, ints, nat_tests, day_of, day_part, names, heard_as, as_of)
-
-statement-named : (n : ℕ) (p : StatementPlace) (caller : Caller) (o : Option ℕ) (body : List ℕ) → names n (heard_as o (Ok (with_statement p caller body))) ≡ false
-statement-named n p caller o body = grind (arith, ints, nat_tests)
+day-named : (n : ℕ) (caller : Caller) (day : Option ℕ) → names n (heard_as None (as_of caller day)) ≡ false
+day-named n caller day = grind (arith, ints, nat_tests)
 
 dismissal-named : (n : ℕ) (caller : Caller) (o : Option Line) → names n (heard_as None (dismissing caller o)) ≡ false
 dismissal-named n caller o = grind (arith, ints, nat_tests)
@@ -96,9 +92,11 @@ dismissal-named n caller o = grind (arith, ints, nat_tests)
 at-named : (n : ℕ) (p : Place) (caller : Caller) (path body : List ℕ) → place_of path ≡ Some p → names n (heard_as (named_in path) (asked_at p caller path body)) ≡ is_the n (named_in path)
 at-named n (place.Matter p) caller path body e = of-named n caller (named_in path) (matter_ask p body)
 at-named n (place.Entry p) caller path body e = of-named n caller (named_in path) (entry_ask p (entry_part path) body)
-at-named n (place.Report p) caller path body e = subst (λ (o : Option ℕ). names n (heard_as o (reported p caller path)) ≡ is_the n o) (sym (firm-unnamed path (place.Report p) refl e)) (report-named n p caller path)
+at-named n (place.Report p) caller path body e = sym (ap (is_the n) (firm-unnamed path (place.Report p) refl e))
+at-named n place.Reconciliation caller path body e = subst (λ (o : Option ℕ). names n (heard_as o (as_of caller (day_of (day_part path)))) ≡ is_the n o) (sym (firm-unnamed path place.Reconciliation refl e)) (day-named n caller (day_of (day_part path)))
+at-named n place.Import caller path body e = sym (ap (is_the n) (firm-unnamed path place.Import refl e))
+at-named n (place.Match p) caller path body e = sym (ap (is_the n) (firm-unnamed path (place.Match p) refl e))
 at-named n place.Dismissal caller path body e = subst (λ (o : Option ℕ). names n (heard_as o (dismissing_in caller body)) ≡ is_the n o) (sym (firm-unnamed path place.Dismissal refl e)) (dismissal-named n caller (line_in (body_in line_keys body)))
-at-named n (place.Statement p) caller path body e = statement-named n p caller (named_in path) body ∙ sym (ap (is_the n) (firm-unnamed path (place.Statement p) refl e))
 
 called-named : (n : ℕ) (p : Place) (o : Option Caller) (path body : List ℕ) → place_of path ≡ Some p → names n (heard_as (named_in path) (called p o path body)) ≡ is_the n (named_in path)
 called-named n p None path body e = refl

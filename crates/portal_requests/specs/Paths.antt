@@ -9,13 +9,13 @@ up_to_slash [] = []
 up_to_slash (b ∷ bs) = if b == 47 then [] else b ∷ up_to_slash bs
 
 -- the bytes after the first slash
-abbrev pub behind_slash : List ℕ → List ℕ
-behind_slash [] = []
-behind_slash (b ∷ bs) = if b == 47 then bs else behind_slash bs
+abbrev pub after_slash : List ℕ → List ℕ
+after_slash [] = []
+after_slash (b ∷ bs) = if b == 47 then bs else after_slash bs
 
 -- the part of a path that names an entry, after /matters/, the matter and /entries/
 abbrev pub entry_part : List ℕ → List ℕ
-entry_part path = up_to_slash (behind_slash (behind_slash (drop 9 path)))
+entry_part path = up_to_slash (after_slash (after_slash (drop 9 path)))
 
 -- the part of a path that names a day, after /firm/reconciliation/
 abbrev pub day_part : List ℕ → List ℕ

@@ -13,10 +13,6 @@ use Rattle.trust_desk.specs.declared.requests.Request.TheVariants as requests
 use Rattle.trust_desk.specs.Heard.{Heard, Asks, Unread}
 use Rattle.portal_messages.specs.declared.message.Message.{Message}
 use Rattle.portal_messages.specs.Fields.{path_of}
-use Rattle.portal_requests.specs.declared.routes.ReportPlace.{ReportPlace}
-use Rattle.portal_requests.specs.declared.routes.ReportPlace.TheVariants as report
-use Rattle.portal_requests.specs.declared.routes.StatementPlace.{StatementPlace}
-use Rattle.portal_requests.specs.declared.routes.StatementPlace.TheVariants as statement
 use Rattle.portal_requests.specs.declared.routes.Place.{Place}
 use Rattle.portal_requests.specs.declared.routes.Place.TheVariants as place
 use Rattle.portal_requests.specs.Asked.{entry_ask, matter_ask}
@@ -37,25 +33,14 @@ abbrev pub as_of : Caller → Option ℕ → Result Request Refusal
 as_of caller None = Err (BadField field.Day)
 as_of caller (Some day) = Ok (requests.Reconcile caller day)
 
-abbrev pub reported : ReportPlace → Caller → List ℕ → Result Request Refusal
-reported report.Exceptions caller path = Ok (requests.Exceptions caller)
-reported report.TrialBalance caller path = Ok (requests.Trial caller)
-reported report.Journal caller path = Ok (requests.Journal caller)
-reported report.Reconciliation caller path = as_of caller (day_of (day_part path))
-reported report.Retention caller path = Ok (requests.Retention caller)
-
--- what is asked of the bank statement in a body
-abbrev pub with_statement : StatementPlace → Caller → List ℕ → Request
-with_statement statement.Import caller body = requests.Import caller body
-with_statement statement.Match caller body = requests.Match caller body
-with_statement statement.Unmatched caller body = requests.Unmatched caller body
-
 abbrev pub asked_at : Place → Caller → List ℕ → List ℕ → Result Request Refusal
 asked_at (place.Matter p) caller path body = of_matter caller (named_in path) (matter_ask p body)
 asked_at (place.Entry p) caller path body =
     of_matter caller (named_in path) (entry_ask p (entry_part path) body)
-asked_at (place.Report p) caller path body = reported p caller path
-asked_at (place.Statement p) caller path body = Ok (with_statement p caller body)
+asked_at (place.Report report) caller path body = Ok (requests.Report caller report)
+asked_at place.Reconciliation caller path body = as_of caller (day_of (day_part path))
+asked_at place.Import caller path body = Ok (requests.Import caller body)
+asked_at (place.Match text) caller path body = Ok (requests.Match caller body text)
 asked_at place.Dismissal caller path body = dismissing_in caller body
 
 abbrev pub called : Place → Option Caller → List ℕ → List ℕ → Result Request Refusal

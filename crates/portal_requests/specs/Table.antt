@@ -8,10 +8,10 @@ use Rattle.matchit.specs.Route.{Scan, parse_route}
 use Rattle.matchit.specs.declared.error.InsertError.{InsertError}
 use Rattle.portal_requests.specs.declared.routes.MatterPlace.TheVariants as matter
 use Rattle.portal_requests.specs.declared.routes.EntryPlace.TheVariants as entry
-use Rattle.portal_requests.specs.declared.routes.ReportPlace.TheVariants as report
-use Rattle.portal_requests.specs.declared.routes.StatementPlace.TheVariants as statement
+use Rattle.trust_desk.specs.declared.requests.Report.TheVariants as report
+use Rattle.trust_desk.specs.declared.requests.MatchText.TheVariants as text
 use Rattle.portal_requests.specs.declared.routes.Place.{Place}
-use Rattle.portal_requests.specs.declared.routes.Place.TheVariants.{Dismissal, Matter, Entry, Report, Statement}
+use Rattle.portal_requests.specs.declared.routes.Place.TheVariants.{Dismissal, Entry, Import, Match, Matter, Reconciliation, Report}
 
 -- the rows with one more route
 abbrev pub row_in : Result Scan InsertError → Place → RowsOf (RouteOf Place) → RowsOf (RouteOf Place)
@@ -58,14 +58,14 @@ TABLE = (codes "/matters/{m}", Matter matter.Show)
     ∷ (codes "/matters/{m}/entries/{e}/offer", Entry entry.Offer)
     ∷ (codes "/matters/{m}/entries/{e}/accept", Entry entry.Accept)
     ∷ (codes "/matters/{m}/entries/{e}/award", Entry entry.Award)
-    ∷ (codes "/firm/statements", Statement statement.Import)
-    ∷ (codes "/firm/statements/match", Statement statement.Match)
-    ∷ (codes "/firm/statements/unmatched", Statement statement.Unmatched)
+    ∷ (codes "/firm/statements", Import)
+    ∷ (codes "/firm/statements/match", Match text.Statement)
+    ∷ (codes "/firm/statements/unmatched", Match text.Unmatched)
     ∷ (codes "/firm/exceptions", Report report.Exceptions)
     ∷ (codes "/firm/exceptions/dismiss", Dismissal)
-    ∷ (codes "/firm/trial-balance", Report report.TrialBalance)
+    ∷ (codes "/firm/trial-balance", Report report.Trial)
     ∷ (codes "/firm/journal", Report report.Journal)
-    ∷ (codes "/firm/reconciliation/{day}", Report report.Reconciliation)
+    ∷ (codes "/firm/reconciliation/{day}", Reconciliation)
     ∷ (codes "/firm/retention", Report report.Retention) ∷ []
 
 unfoldable pub the_routes : RowsOf (RouteOf Place)

@@ -12,10 +12,11 @@ ghost use Rattle.portal_requests.specs.Asked.{proposing_in, seating_in, splittin
 ghost use Rattle.portal_requests.specs.Bodies.{body_in, is_object, optional_text_at, text_at, text_in, texts};
 ghost use Rattle.portal_requests.specs.Callers.{caller_of};
 ghost use Rattle.portal_requests.specs.Dismissals.{dismissing_in};
-ghost use Rattle.portal_requests.specs.Paths.{behind_slash, named_in, up_to_slash};
-ghost use Rattle.portal_requests.specs.Requests.{of_matter, reported, request, with_statement};
+ghost use Rattle.portal_requests.specs.Paths.{after_slash, day_part, named_in, up_to_slash};
+ghost use Rattle.portal_requests.specs.Requests.{as_of, of_matter, request};
+ghost use Rattle.trust_base.specs.Texts.{day_of};
 
-use crate::routes::{EntryPlace, MatterPlace, Place, ReportPlace, Routes, StatementPlace, method};
+use crate::routes::{EntryPlace, MatterPlace, Place, Routes, method};
 use ask_fields::{
     ClaimTexts, PaymentTexts, read_claiming, read_depositing, read_dropping, read_earning,
     read_opening, read_proposing, read_seating, read_split,
@@ -36,8 +37,8 @@ pub fn named_matter(path: &[u8]) -> Option<MatterNo>
     if path.len() < 15 || &path[..9] != b"/matters/".as_slice() {
         return None;
     }
-    let (_, behind) = path.split_at(15);
-    if !behind.is_empty() && behind[0] != b'/' {
+    let (_, rest) = path.split_at(15);
+    if !rest.is_empty() && rest[0] != b'/' {
         return None;
     }
     MatterNo::read(&path[9..15])
@@ -46,7 +47,7 @@ pub fn named_matter(path: &[u8]) -> Option<MatterNo>
 // The bytes before the first slash, and those after it.
 fn split_at_slash(bytes: &[u8]) -> (&[u8], &[u8])
     ensures before { result.0.now ≡ up_to_slash bytes.now }
-    ensures behind { result.1.now ≡ behind_slash bytes.now }
+    ensures after { result.1.now ≡ after_slash bytes.now }
 {
     for i in 0..bytes.len() {
         if bytes[i] == b'/' {
@@ -307,38 +308,21 @@ fn read_matter_at(
     }
 }
 
-// Returns the report that a path asks for.
-fn read_report_at(place: ReportPlace, caller: Caller, path: &[u8]) -> Result<Request, Refusal>
-    ensures { Answers (reported place caller path.now) result }
+// Returns the request for the reconciliation of the day in a path, which comes after `/firm/reconciliation/`.
+fn read_reconciliation_at(caller: Caller, path: &[u8]) -> Result<Request, Refusal>
+    ensures { Answers (as_of caller (day_of (day_part path.now))) result }
 {
-    match place {
-        ReportPlace::Exceptions => Ok(Request::Exceptions(caller)),
-        ReportPlace::TrialBalance => Ok(Request::Trial(caller)),
-        ReportPlace::Journal => Ok(Request::Journal(caller)),
-        // The day comes after `/firm/reconciliation/`.
-        ReportPlace::Reconciliation => match Day::read(path.get(21..).unwrap_or(&[])) {
-            Some(day) => Ok(Request::Reconcile(caller, day)),
-            None => Err(Refusal::BadField(Field::Day)),
-        },
-        ReportPlace::Retention => Ok(Request::Retention(caller)),
+    match Day::read(path.get(21..).unwrap_or(&[])) {
+        Some(day) => Ok(Request::Reconcile(caller, day)),
+        None => Err(Refusal::BadField(Field::Day)),
     }
 }
 
-// Returns what is asked of the bank statement in a body.
-fn read_statement_at(
-    alloc: Global,
-    place: StatementPlace,
-    caller: Caller,
-    body: &[u8],
-) -> Result<Request, Refusal>
-    ensures { Answers (Ok (with_statement place caller body.now)) result }
+// Returns the bank statement in a body. Fails if memory runs out.
+fn read_statement(alloc: Global, body: &[u8]) -> Result<OwnedBytes, AllocError>
+    ensures { IfOk result (λ statement. statement ≡ body.now) }
 {
-    let statement = OwnedBytes::new(Vec::from_slice(alloc, body)?);
-    Ok(match place {
-        StatementPlace::Import => Request::Import { caller, statement },
-        StatementPlace::Match => Request::Match { caller, statement },
-        StatementPlace::Unmatched => Request::Unmatched { caller, statement },
-    })
+    Ok(OwnedBytes::new(Vec::from_slice(alloc, body)?))
 }
 
 /// Returns the request of a message, or the first of these refusals: `NoRoute`, `BadMethod`, `NoCaller`, and
@@ -375,8 +359,20 @@ pub fn request_of(alloc: Global, routes: &Routes, message: &Message) -> Result<R
                 Err(why) => Err(why),
             }
         }
-        Place::Report(place) => read_report_at(place, caller, path),
-        Place::Statement(place) => read_statement_at(alloc, place, caller, body),
+        Place::Report(report) => Ok(Request::Report(caller, report)),
+        Place::Reconciliation => read_reconciliation_at(caller, path),
+        Place::Import => {
+            let statement = read_statement(alloc, body)?;
+            Ok(Request::Import { caller, statement })
+        }
+        Place::Match(text) => {
+            let statement = read_statement(alloc, body)?;
+            Ok(Request::Match {
+                caller,
+                statement,
+                text,
+            })
+        }
         Place::Dismissal => read_dismissal(alloc, caller, body),
     }
 }

@@ -8,6 +8,7 @@ ghost use Rattle.portal_requests.specs.Table.{the_routes};
 use matchit::{InsertError, Router};
 use std::alloc::Global;
 use std::marker::Model;
+use trust_desk::{MatchText, Report};
 
 /// What a route asks of a matter as a whole.
 #[derive(Clone, Copy, PartialEq, Eq, Debug)]
@@ -38,24 +39,6 @@ pub(crate) enum EntryPlace {
     Award,
 }
 
-/// The report on the firm that a route asks for.
-#[derive(Clone, Copy, PartialEq, Eq, Debug)]
-pub(crate) enum ReportPlace {
-    Exceptions,
-    TrialBalance,
-    Journal,
-    Reconciliation,
-    Retention,
-}
-
-/// What a route does with a bank statement.
-#[derive(Clone, Copy, PartialEq, Eq, Debug)]
-pub(crate) enum StatementPlace {
-    Import,
-    Match,
-    Unmatched,
-}
-
 /// Where a route leads.
 #[derive(Clone, Copy, PartialEq, Eq, Debug)]
 pub(crate) enum Place {
@@ -64,9 +47,13 @@ pub(crate) enum Place {
     /// To an entry of a matter.
     Entry(EntryPlace),
     /// To a report on the firm.
-    Report(ReportPlace),
-    /// To what is done with a bank statement.
-    Statement(StatementPlace),
+    Report(Report),
+    /// To the reconciliation of the day in the path.
+    Reconciliation,
+    /// To the import of a bank statement.
+    Import,
+    /// To a text that matching a bank statement gives.
+    Match(MatchText),
     /// To the dismissal of a line from the exceptions.
     Dismissal,
 }
@@ -78,8 +65,10 @@ pub(crate) fn method(place: Place) -> &'static [u8]
     match place {
         Place::Matter(MatterPlace::Show | MatterPlace::Accounting)
         | Place::Entry(EntryPlace::Show)
-        | Place::Report(_) => b"GET",
-        Place::Matter(_) | Place::Entry(_) | Place::Statement(_) | Place::Dismissal => b"POST",
+        | Place::Report(_)
+        | Place::Reconciliation => b"GET",
+        Place::Matter(_) | Place::Entry(_) | Place::Import | Place::Match(_) | Place::Dismissal =>
+            b"POST",
     }
 }
 
@@ -143,27 +132,18 @@ const TABLE: &[(&str, Place)] = &[
         "/matters/{m}/entries/{e}/award",
         Place::Entry(EntryPlace::Award),
     ),
-    ("/firm/statements", Place::Statement(StatementPlace::Import)),
-    (
-        "/firm/statements/match",
-        Place::Statement(StatementPlace::Match),
-    ),
+    ("/firm/statements", Place::Import),
+    ("/firm/statements/match", Place::Match(MatchText::Statement)),
     (
         "/firm/statements/unmatched",
-        Place::Statement(StatementPlace::Unmatched),
+        Place::Match(MatchText::Unmatched),
     ),
-    ("/firm/exceptions", Place::Report(ReportPlace::Exceptions)),
+    ("/firm/exceptions", Place::Report(Report::Exceptions)),
     ("/firm/exceptions/dismiss", Place::Dismissal),
-    (
-        "/firm/trial-balance",
-        Place::Report(ReportPlace::TrialBalance),
-    ),
-    ("/firm/journal", Place::Report(ReportPlace::Journal)),
-    (
-        "/firm/reconciliation/{day}",
-        Place::Report(ReportPlace::Reconciliation),
-    ),
-    ("/firm/retention", Place::Report(ReportPlace::Retention)),
+    ("/firm/trial-balance", Place::Report(Report::Trial)),
+    ("/firm/journal", Place::Report(Report::Journal)),
+    ("/firm/reconciliation/{day}", Place::Reconciliation),
+    ("/firm/retention", Place::Report(Report::Retention)),
 ];
 
 /// The routes of the portal: paths, and the place to which each leads.

@@ -14,7 +14,7 @@ pub use Rattle.sql_schema.specs.declared.layout.Layout.TheVariants.{Made, Moved}
 pub use Rattle.sql_tables.specs.Lists.{AreSteps, IsStep, Lists, lists_in}
 pub use Rattle.sql_tables.specs.Script.{IsSettled, Written}
 pub use Rattle.sql_tables.specs.Standing.{Stands}
-pub use Rattle.sql_tables.specs.declared.statements.Statement.{Statement}
+pub use Rattle.sql_tables.specs.declared.statements.SqlStatement.{SqlStatement}
 pub use Rattle.sqlite.specs.Effect.{Database, IsDatabase}
 pub use Rattle.sqlite.specs.Held.{Held, state}
 pub use Rattle.sqlite.specs.State.{HasCleanDisk, State}

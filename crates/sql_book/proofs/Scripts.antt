@@ -1,12 +1,12 @@
 -- What a script leaves, as the steps of its statements.
-use Rattle.sql_book.proofs.Names.{List, [], ◌∷◌, map, Layout, Database, Statement, Lists, lists_in, IsStep, AreSteps, Stands, AreKeyed, step_of, IsMade, AreMade, arith, ints, nat_tests}
-use Rattle.sql_tables.specs.declared.statements.Statement.TheVariants as statement
+use Rattle.sql_book.proofs.Names.{List, [], ◌∷◌, map, Layout, Database, SqlStatement, Lists, lists_in, IsStep, AreSteps, Stands, AreKeyed, step_of, IsMade, AreMade, arith, ints, nat_tests}
+use Rattle.sql_tables.specs.declared.statements.SqlStatement.TheVariants as statement
 
-made_of_step : (s : Statement) (a b : Lists) → IsStep s a b → IsMade (step_of s) a b
+made_of_step : (s : SqlStatement) (a b : Lists) → IsStep s a b → IsMade (step_of s) a b
 made_of_step s a b is = grind (arith, ints, nat_tests)
 
 -- lists that follow the statements are made by their steps
-pub made_of_steps : (script : List Statement) (a b : Lists) → AreSteps script a b → AreMade (map step_of script) a b
+pub made_of_steps : (script : List SqlStatement) (a b : Lists) → AreSteps script a b → AreMade (map step_of script) a b
 made_of_steps [] a b same = same
 made_of_steps (s ∷ script) a b steps =
     (steps.0, made_of_step s a steps.0 steps.1, made_of_steps script steps.0 b steps.2)

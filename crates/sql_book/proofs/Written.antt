@@ -1,5 +1,5 @@
 -- What the call that writes a script leaves is a write of the book, if the change of the script fits.
-use Rattle.sql_book.proofs.Names.{◌≡◌, ◌≢◌, ◌⊎◌, inl, inr, ℕ, List, [], map, Result, OnOk, OnErr, IsTrue, refl, sym, ap, subst, ◌∙◌, Ghosts, Trees, Database, IsDatabase, Held, state, State, HasCleanDisk, StoreFault, Firm, FirmChange, FitsFirm, after, LeavesAlone, Layout, Statement, lists_in, IsSettled, Written, Stands, StandsSound, firm_in, step_of, steps_of, AreMade, HeldBook, IsLasting, IsServing, IsStanding, IsSure, firm_of, MayLeave, is_ok, Error, arith, ints, nat_tests}
+use Rattle.sql_book.proofs.Names.{◌≡◌, ◌≢◌, ◌⊎◌, inl, inr, ℕ, List, [], map, Result, OnOk, OnErr, IsTrue, refl, sym, ap, subst, ◌∙◌, Ghosts, Trees, Database, IsDatabase, Held, state, State, HasCleanDisk, StoreFault, Firm, FirmChange, FitsFirm, after, LeavesAlone, Layout, SqlStatement, lists_in, IsSettled, Written, Stands, StandsSound, firm_in, step_of, steps_of, AreMade, HeldBook, IsLasting, IsServing, IsStanding, IsSure, firm_of, MayLeave, is_ok, Error, arith, ints, nat_tests}
 use Rattle.std.proofs.lemmas.Result.{on_ok_weaker, on_err_weaker}
 use Rattle.trust_store.specs.Books.{counted}
 use Rattle.trust_store.specs.Calls.{IsWrite, IsWriteIf}
@@ -20,7 +20,7 @@ record StandsAfter (l : Layout) (change : FirmChange) (db next : Database) : Typ
   listed : IsDatabase next
 
 -- what was written of a change that fits stands for the firm after it
-stands_after : (l : Layout) (change : FirmChange) (script : List Statement) (db next : Database)
+stands_after : (l : Layout) (change : FirmChange) (script : List SqlStatement) (db next : Database)
     → IsScriptMeant change → IsTyped change → map step_of script ≡ steps_of change
     → StandsSound l db → FitsFirm (firm_in l db.trees) change → script ≢ [] → Written l script db next
     → StandsAfter l change db next
@@ -31,7 +31,7 @@ stands_after l change script db next meant typed is stands fits some written =
     grind (arith, ints, nat_tests, keyed, after)
 
 -- what the call that writes a script leaves
-pub record Wrote {E : Type 0} (script : List Statement) (result : Result Unit E) (old new : State) : Type 0 where
+pub record Wrote {E : Type 0} (script : List SqlStatement) (result : Result Unit E) (old new : State) : Type 0 where
   pub written : (l : Layout) → HasCleanDisk new → Stands l old.now → OnOk result (Written l script old.now new.now)
   pub settled : HasCleanDisk new → OnOk result (IsSettled new)
   pub serves : HasCleanDisk new → OnOk result (IsTrue new.is_open)
@@ -60,7 +60,7 @@ abbrev pub holding : {S : Type 0} → Held S → Layout → ℕ → HeldBook S
 holding conn layout refusals = record { conn = conn; layout = layout; refusals = refusals }
 
 module _ {S : Type 0} (g : Ghosts S) (l : Layout) (before now : Held S) (few many : ℕ) (change : FirmChange)
-    (script : List Statement) (some : script ≢ []) (meant : IsScriptMeant change) (typed : IsTyped change)
+    (script : List SqlStatement) (some : script ≢ []) (meant : IsScriptMeant change) (typed : IsTyped change)
     (is : map step_of script ≡ steps_of change) (result : Result Unit StoreFault)
     (w : Wrote script result (state g before) (state g now)) (count : many ≡ counted result few) where
   abbrev Fits : Type 0
@@ -122,13 +122,13 @@ module _ {S : Type 0} (g : Ghosts S) (l : Layout) (before now : Held S) (few man
   }
 
 -- it does not matter why it failed
-told : {E F : Type 0} (script : List Statement) (q : Result Unit E) (r : Result Unit F) (old new : State)
+told : {E F : Type 0} (script : List SqlStatement) (q : Result Unit E) (r : Result Unit F) (old new : State)
     → is_ok r ≡ is_ok q → Wrote script q old new → Wrote script r old new
 told script q r old new alike w = grind (arith, ints, nat_tests)
 
 -- the same of a book that is seen to hold the connection
 pub wrote : {S : Type 0} (g : Ghosts S) {l : Layout} {before now : Held S} {few many : ℕ} {q : Result Unit Error}
-    {r : Result Unit StoreFault} {old : HeldBook S} (change : FirmChange) (script : List Statement)
+    {r : Result Unit StoreFault} {old : HeldBook S} (change : FirmChange) (script : List SqlStatement)
     → holding before l few ≡ old → is_ok r ≡ is_ok q → many ≡ counted r few → ScriptsAreMeant
     → Wrote script q (state g before) (state g now) → script ≢ [] → IsTyped change → map step_of script ≡ steps_of change
     → IsBookWriteIf g (FitsBook g change old) change r old (holding now l many)

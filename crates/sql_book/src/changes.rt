@@ -15,7 +15,9 @@ use firm_rows::{Movement, Owner};
 use matter_parts::{Change, Edit, Left, Opening};
 use matter_rows::EntryMovement;
 use sql_rows::{entry_columns, head_columns, movement_columns, seat_columns, totals_columns};
-use sql_tables::{FirmLineColumns, LeftColumns, MatterDay, MovementColumns, SeatName, Statement};
+use sql_tables::{
+    FirmLineColumns, LeftColumns, MatterDay, MovementColumns, SeatName, SqlStatement,
+};
 use std::alloc::{AllocError, Global};
 use trust_base::{Day, Line, MatterNo, PersonId};
 
@@ -74,17 +76,17 @@ fn purge_script<'a>(
     alloc: Global,
     matter: MatterNo,
     day: Day,
-    totals: Statement<'a>,
-) -> Result<Vec<Statement<'a>>, AllocError>
+    totals: SqlStatement<'a>,
+) -> Result<Vec<SqlStatement<'a>>, AllocError>
     ensures { IfOk result (λ script. map step_of script.items ≡ SetPurged (pos matter) (pos day)
         ∷ step_of totals.entry ∷ SeatsGone (pos matter) ∷ EntriesGone (pos matter) ∷ MovementsGone (pos matter) ∷ []) }
 {
     let script = [
-        Statement::Purged(day_columns(matter, day)),
+        SqlStatement::Purged(day_columns(matter, day)),
         totals,
-        Statement::SeatsGone(matter.get() as i64),
-        Statement::EntriesGone(matter.get() as i64),
-        Statement::MovementsGone(matter.get() as i64),
+        SqlStatement::SeatsGone(matter.get() as i64),
+        SqlStatement::EntriesGone(matter.get() as i64),
+        SqlStatement::MovementsGone(matter.get() as i64),
     ];
     Vec::from_slice(alloc, &script)
 }
@@ -110,46 +112,46 @@ pub(crate) fn edit_script<'a>(
     alloc: Global,
     matter: MatterNo,
     change: &'a Change,
-) -> Result<Vec<Statement<'a>>, AllocError>
+) -> Result<Vec<SqlStatement<'a>>, AllocError>
     ensures steps { IfOk result (λ script.
         map step_of script.items ≡ matter_steps matter change.now change.now.edit) }
     ensures typed { IfOk result (λ _. IsTyped (OfMatter matter None change.now)) }
 {
     let moves = change.moves();
-    let totals = Statement::Totals(totals_columns(matter, change.last(), moves.figures));
+    let totals = SqlStatement::Totals(totals_columns(matter, change.last(), moves.figures));
     match change.edit() {
         Edit::Nothing => Vec::from_slice(alloc, &[]),
         Edit::Open(opening) => {
             opening_is_typed(opening);
-            let head = Statement::Head(head_columns(matter, &opening.head, moves.figures));
-            let seat = Statement::Seat(seat_columns(matter, &opening.seat));
+            let head = SqlStatement::Head(head_columns(matter, &opening.head, moves.figures));
+            let seat = SqlStatement::Seat(seat_columns(matter, &opening.seat));
             Vec::from_slice(alloc, &[head, seat])
         }
         Edit::Seat(seat) => {
-            let added = Statement::Seat(seat_columns(matter, seat));
+            let added = SqlStatement::Seat(seat_columns(matter, seat));
             Vec::from_slice(alloc, &[totals, added])
         }
         Edit::Unseat(person) => {
-            let gone = Statement::SeatGone(seat_name(matter, person));
+            let gone = SqlStatement::SeatGone(seat_name(matter, person));
             Vec::from_slice(alloc, &[totals, gone])
         }
         Edit::Close(day) => {
             day_is_typed(*day);
-            let closed = Statement::Closed(day_columns(matter, *day));
+            let closed = SqlStatement::Closed(day_columns(matter, *day));
             Vec::from_slice(alloc, &[closed, totals])
         }
-        Edit::Clear(day) => {
+        Edit::Purge(day) => {
             day_is_typed(*day);
             purge_script(alloc, matter, *day, totals)
         }
         Edit::Append(written) | Edit::Exchange(written) => {
             let entry = entry_columns(matter, written.number, moves.left, &written.entry);
-            let mut script = Vec::from_slice(alloc, &[totals, Statement::Entry(entry)])?;
+            let mut script = Vec::from_slice(alloc, &[totals, SqlStatement::Entry(entry)])?;
             if let Some(other) = moves.other {
-                script.push(Statement::Left(left_columns(matter, other)))?;
+                script.push(SqlStatement::Left(left_columns(matter, other)))?;
             }
             if let Some(moved) = change.movement() {
-                script.push(Statement::Movement(entry_moved(matter, moved)))?;
+                script.push(SqlStatement::Movement(entry_moved(matter, moved)))?;
             }
             Ok(script)
         }

@@ -1,5 +1,5 @@
 -- The balance of a kind and day among the rows of its table.
-use Rattle.sql_reads.proofs.Names.{◌≡◌, inl, inr, ℕ, ℤ, pos, nat_abs, ◌≤◌, Bool, true, false, ◌==◌, List, [], ◌∷◌, map, filter, find, length, Option, option_map, int_eq, Less, nat_cmp, refl, sym, ap, ◌∙◌, arith, AllByRecursion, cases_Bool, and_parts, nat_tests, length-map, Int, Row, column, sort_by, all_weaker, filter_none, filter-map, StatementRow, Balance, balance_cmp, balance_shown, is_balance_at, kind_column, balance_from, IsWrittenBalance, int_eq-nat, find-sort_by, slice_get-filter, slice_get, filter_same, None, Some, ints}
+use Rattle.sql_reads.proofs.Names.{◌≡◌, inl, inr, ℕ, ℤ, pos, nat_abs, ◌≤◌, Bool, true, false, ◌==◌, List, [], ◌∷◌, map, filter, find, length, Option, option_map, int_eq, Less, nat_cmp, refl, sym, ap, ◌∙◌, arith, AllByRecursion, cases_Bool, and_parts, nat_tests, length-map, Int, Row, column, sort_by, all_weaker, filter_none, filter-map, BalanceRow, Balance, balance_cmp, balance_shown, is_balance_at, kind_column, balance_from, IsWrittenBalance, int_eq-nat, find-sort_by, slice_get-filter, slice_get, filter_same, None, Some, ints}
 use Rattle.std.specs.List.Sorted.{IsStrictlySortedBy}
 use Rattle.std.proofs.lemmas.Cmp.{int_cmp_total, on_total, then_total}
 use Rattle.std.specs.Cmp.{IsTotalOrder}
@@ -32,10 +32,10 @@ same_test k day b written =
 
 -- One row of a kind and day at most.
 
-not_less : (k : BalanceKind) (day : ℕ) (r x : StatementRow) → is_balance_on k day r ≡ true → is_balance_on k day x ≡ true → own.balance_cmp r x ≡ Less → ⊥
+not_less : (k : BalanceKind) (day : ℕ) (r x : BalanceRow) → is_balance_on k day r ≡ true → is_balance_on k day x ≡ true → own.balance_cmp r x ≡ Less → ⊥
 not_less k day r x on also lt = grind (arith, ints, nat_tests, and_parts, place_of, nat_cmp)
 
-few_on : (k : BalanceKind) (day : ℕ) (rs : List StatementRow) → IsStrictlySortedBy own.balance_cmp rs → length (filter (is_balance_on k day) rs) ≤ 1
+few_on : (k : BalanceKind) (day : ℕ) (rs : List BalanceRow) → IsStrictlySortedBy own.balance_cmp rs → length (filter (is_balance_on k day) rs) ≤ 1
 unfolding IsStrictlySortedBy
 few_on k day [] up = omega arith
 few_on k day (r ∷ rs) up = elim (cases_Bool (is_balance_on k day r)) [
@@ -61,7 +61,7 @@ kept_is_found k day bs written up =
     find_mapped (is_balance_on k day) balance_from ys ∙ ap (option_map balance_from) (find-sort_by balance_cmp table_total p bs (omega (arith, one, mapped)) ∙ find_same p q bs same) in
     ap (option_map (λ row. row.amount)) found ∙ amounts (find q bs)
   where
-    amounts : (o : Option Balance) → option_map (λ (row : StatementRow). row.amount) (option_map balance_from o) ≡ option_map (λ (b : Balance). b.amount) o
+    amounts : (o : Option Balance) → option_map (λ (row : BalanceRow). row.amount) (option_map balance_from o) ≡ option_map (λ (b : Balance). b.amount) o
     amounts None = refl
     amounts (Some b) = refl
 

@@ -20,22 +20,18 @@ module _ {schema : Schema} {sql : List ℕ} {q : Query} {names : List (List ℕ)
   Fed r a b = IsFed (λ s x. step s (f x)) (λ x. IsInRange (f x)) sql params old new r a b
 
   module _ (values : List A) (shown : map f rows ≡ values) where
-    handed_by : {E : Type 0} (r : Result ℕ E) (a b : K) → Fed r a b
+    -- the answer was handed over, whole or up to an error
+    pub handed : {E : Type 0} (r : Result ℕ E) (a b : K) → Fed r a b
         → AreHanded {T = Unit {0}} {E = E} step IsInRange values (result_and r (Ok tt)) a b
-    handed_by {E} (Ok n) a b fed =
+    handed {E} (Ok n) a b fed =
         let counted = counted_mapped step f rows (Ok n) a b
         (fed_counted it params old new has rows known (λ s x. step s (f x)) (λ x. IsInRange (f x)) (Ok n) a b fed) in
         let same = known fed.all.0 (answers it params old new has fed.all.0 fed.all.1) in
         grind (arith, ints, nat_tests, countable_mapped)
-    handed_by {E} (Err e) a b fed =
+    handed {E} (Err e) a b fed =
         let counted = counted_mapped step f rows (Err e) a b
         (fed_counted it params old new has rows known (λ s x. step s (f x)) (λ x. IsInRange (f x)) (Err e) a b fed) in
         grind (arith, ints, nat_tests)
-
-    -- the answer was handed over, whole or up to an error
-    pub handed : {E : Type 0} (r : Result ℕ E) (a b : K) → Fed r a b → (o : Result (Unit {0}) E)
-        → o ≡ result_and r (Ok tt) → AreHanded step IsInRange values o a b
-    handed r a b fed o is = subst (λ x. AreHanded step IsInRange values x a b) (sym is) (handed_by r a b fed)
 
 -- either way what the call leaves is what the query left
 module _ {E : Type 0} (old new : State) where

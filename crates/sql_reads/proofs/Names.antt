@@ -1,7 +1,7 @@
 -- The names that the proofs of this crate cite, passed on from one place. Declares nothing.
 pub use Rattle.firm_rows.specs.Countable.{AreCountable, IsRowInRange, MOST_ROWS}
 pub use Rattle.firm_rows.specs.Firm.{EntryRow, Firm, HeadRow, SeatRow, empty_firm, of, pairs, seat_pairs}
-pub use Rattle.firm_rows.specs.declared.ledger.StatementRow.{StatementRow}
+pub use Rattle.firm_rows.specs.declared.ledger.BalanceRow.{BalanceRow}
 pub use Rattle.matter_parts.specs.Parts.{AreFigures, AreNumbered, IsPart, IsWhole, Part, entry_in, is_held, is_it, is_named, kept_in, named_part, target_by}
 pub use Rattle.matter_parts.specs.declared.figures.Figures.{Figures}
 pub use Rattle.matter_parts.specs.declared.kept.Kept.{Kept}

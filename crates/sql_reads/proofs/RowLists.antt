@@ -1,5 +1,5 @@
 -- What lists of rows are once all rows were handed to them.
-use Rattle.sql_reads.proofs.Names.{◌≡◌, List, [], ◌∷◌, ◌++◌, fold, refl, sym, ap, ◌∙◌, append-nil, append_assoc, StatementRow, Firm, empty_firm, firm_of, without_matters, arith, ints, nat_tests}
+use Rattle.sql_reads.proofs.Names.{◌≡◌, List, [], ◌∷◌, ◌++◌, fold, refl, sym, ap, ◌∙◌, append-nil, append_assoc, BalanceRow, Firm, empty_firm, firm_of, without_matters, arith, ints, nat_tests}
 use Rattle.trust_base.specs.declared.line.Line.{Line}
 use Rattle.firm_rows.specs.declared.movement.Movement.{Movement}
 use Rattle.firm_rows.specs.declared.ledger.FirmLine.{FirmLine}
@@ -21,7 +21,7 @@ and_firm_line lists line = record lists { firm_lines = lists.firm_lines ++ line 
 abbrev pub and_exception : Firm → Line → Firm
 and_exception lists line = record lists { exceptions = lists.exceptions ++ line ∷ [] }
 
-abbrev pub and_balance : Firm → StatementRow → Firm
+abbrev pub and_balance : Firm → BalanceRow → Firm
 and_balance lists row = record lists { balances = lists.balances ++ row ∷ [] }
 
 -- lists that were handed the movements, then the firm's lines, the exceptions and the balances

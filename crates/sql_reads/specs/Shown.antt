@@ -8,7 +8,7 @@ use Rattle.matter_rows.specs.declared.seat.Seat.{Seat}
 use Rattle.matter_parts.specs.declared.kept.Kept.{Kept}
 use Rattle.firm_rows.specs.declared.movement.Movement.{Movement}
 use Rattle.firm_rows.specs.declared.ledger.FirmLine.{FirmLine}
-use Rattle.firm_rows.specs.declared.ledger.StatementRow.{StatementRow}
+use Rattle.firm_rows.specs.declared.ledger.BalanceRow.{BalanceRow}
 use Rattle.firm_rows.specs.Firm.{Row as FirmRow, HeadRow, seat_pairs}
 use Rattle.trust_store.specs.Kept.{kept_pairs}
 use Rattle.sql_tables.specs.Lists.{Lists}
@@ -60,5 +60,5 @@ abbrev pub exception_at : Row → Line
 exception_at r = exception_from (table.exception_in (Int (pos 0) ∷ r))
 
 -- the balance that a row shows
-abbrev pub balance_at : Row → StatementRow
+abbrev pub balance_at : Row → BalanceRow
 balance_at r = balance_from (table.balance_in (Int (pos 0) ∷ r))

@@ -13,10 +13,10 @@ ghost use Rattle.sql_rows.specs.Meaning.{matters_from};
 ghost use Rattle.sql_rows.specs.Standing.{firm_in};
 ghost use Rattle.sql_reads.specs.Parts.{without_matters};
 
-use crate::lists::{each_balance, each_exception, each_firm_line, each_movement};
+use crate::lists::{Balances, Exceptions, FirmLines, Movements, each_listed};
 use crate::matter::{head_numbers, whole_matter};
 use firm_rows::{
-    BalanceSink, ExceptionSink, FirmLine, FirmLineSink, Movement, MovementSink, Owner, StatementRow,
+    BalanceRow, BalanceSink, ExceptionSink, FirmLine, FirmLineSink, Movement, MovementSink, Owner,
 };
 use sqlite::{Alter, Connection};
 use std::alloc::{AllocError, Global};
@@ -55,7 +55,7 @@ struct RowLists {
     movements: Vec<Movement>,
     firm_lines: Vec<FirmLine>,
     exceptions: Vec<Line>,
-    balances: Vec<StatementRow>,
+    balances: Vec<BalanceRow>,
 }
 
 impl Model for RowLists {
@@ -104,7 +104,7 @@ impl ExceptionSink for RowLists {
 impl BalanceSink for RowLists {
     ghost balanced = { λ lists row. record lists { balances = lists.balances ++ row ∷ [] } };
 
-    fn balance(&mut self, row: &StatementRow) -> Result<(), AllocError> {
+    fn balance(&mut self, row: &BalanceRow) -> Result<(), AllocError> {
         self.balances.push(*row)?;
         Ok(())
     }
@@ -128,10 +128,10 @@ fn all_others<S: Alter>(conn: &mut Connection<S>, alloc: Global) -> Result<RowLi
     ensures left { LeavesAll result (state S.Store conn.old) (state S.Store conn.new) }
 {
     let mut lists = RowLists::new(alloc);
-    each_movement(conn, &mut lists)?;
-    each_firm_line(conn, alloc, &mut lists)?;
-    each_exception(conn, alloc, &mut lists)?;
-    each_balance(conn, &mut lists)?;
+    each_listed(conn, &Movements, &mut lists)?;
+    each_listed(conn, &FirmLines { alloc }, &mut lists)?;
+    each_listed(conn, &Exceptions { alloc }, &mut lists)?;
+    each_listed(conn, &Balances, &mut lists)?;
     Ok(lists)
 }
 

@@ -2,7 +2,37 @@
 //! never guessed at: reading it returns `Store`. Out of memory is `Memory`.
 //!
 //! The rows of all matters, the movements, the lines of the firm's own, the exceptions and the balances can be passed
-//! to a sink one at a time (`each_row` and its like), or all read at once (`all_rows`).
+//! to a sink one at a time (`each_row` and `each_listed`), or all read at once (`all_rows`).
+//!
+//! # What is promised
+//!
+//! By public call, with the clauses of its contract in brackets.
+//!
+//! If the tables stand for the rows of a sound firm, and what was read is what had been written (of a read that answers
+//! Ok, and of a write whose change fits the firm):
+//!
+//! - `whole_matter`: the matter with all its entries, whole, as the firm has it (`found`). **Whatever rows a book's
+//!   tables hold**, a matter that is returned has exactly these rows, if what was read is what had been written
+//!   (`read`); and, without any premise, it is the whole of sound rows, with their own totals and what they leave of
+//!   each entry (`audited`). So no matter is returned if its rows are not sound: an entry is missing in the middle, a
+//!   total or what is left is off by a cent, days are out of order, a claim is paid from before it was settled, or a
+//!   closed matter has money.
+//! - `matter_for`: the matter with its head, seats and totals, the entries that are named and those that these draw on,
+//!   as the firm has them, and no others (`found`).
+//! - within the crate `head_and_seats`, `entries_of`; `laws` `parts_are_whole`: a matter's head, totals and seats, and
+//!   all its entries: each a field of one part, which is whole (`head`, `seats`, `found`).
+//! - `firm_ledger`, `balance_at`: the firm's own lines; the balance of a kind and day (`found`).
+//! - `all_rows`: all rows at once, each matter whole: **of tables that stand for records, sound or not**, they are
+//!   those of the firm that the tables hold (`read`). A matter that is not the whole of sound rows is Store.
+//! - each of these: changes nothing, not even after a crash, whatever the tables hold (`left`), since its query is a
+//!   SELECT. That a row which stands for nothing is Store is promised of `sql_rows`; of these calls it is tested,
+//!   column by column (`worked_tables`, `cases/spoiled-books.txt`), and so is what is not noticed: a call that reads
+//!   less than a whole matter looks at no other rows. So totals that are off by a cent are returned as they are if they
+//!   are asked for without the ledger card, and an entry missing in the middle is left out of the trial balance.
+//! - `each_row`, and `each_listed` of `Movements`, `FirmLines`, `Exceptions` and `Balances` (each says what its `hands`
+//!   is): a sink takes each row of the firm's list in its order, fewer than 2^64, one at a time while the connection
+//!   lends them, so that memory does not grow with them; at an error it has taken a prefix of them (`handed`); nothing
+//!   changes (`left`).
 #![tactic(auto)]
 
 mod columns;
@@ -14,7 +44,7 @@ mod query;
 
 pub use firm::all_rows;
 pub use lists::{
-    balance_at, each_balance, each_exception, each_firm_line, each_movement, firm_ledger,
+    Balances, Exceptions, FirmLines, Listing, Movements, balance_at, each_listed, firm_ledger,
 };
 pub use matter::{each_row, matter_for, whole_matter};
 pub use query::fault_of;

@@ -8,15 +8,14 @@ ghost use Rattle.sqlite_value.specs.Order.{column};
 ghost use Rattle.sqlite.specs.Held.{state};
 ghost use Rattle.sqlite.specs.State.{HasCleanDisk};
 ghost use Rattle.trust_base.specs.Limits.{IsBankAmount};
-ghost use Rattle.firm_rows.specs.Countable.{IsBalanceInRange, IsFirmLineInRange, IsLineInRange, IsMovementInRange};
 ghost use Rattle.firm_rows.specs.FirmLines.{kept_balance};
-ghost use Rattle.trust_store.specs.Calls.{AreHanded};
 ghost use Rattle.sql_schema.specs.declared.layout.Layout.{Layout};
-ghost use Rattle.sql_tables.specs.Reading.{LeavesAll};
+ghost use Rattle.sql_tables.specs.Reading.{IsSelect, LeavesAll};
 ghost use Rattle.sql_tables.specs.Rows.{FirmLine as LineRow, firm_line_values};
 ghost use Rattle.sql_tables.specs.Standing.{Stands};
 ghost use Rattle.sql_rows.specs.Meaning.{firm_line_from};
 ghost use Rattle.sql_rows.specs.Standing.{StandsSound, firm_in};
+ghost use Rattle.sql_reads.specs.Fed.{IsListOf};
 
 use crate::columns::{balance_in, exception_in, firm_line_in, movement_in, number_at};
 use crate::query::{RowTaking, hand_rows, rows_of};
@@ -33,11 +32,26 @@ use trust_base::{BankAmount, Day, StoreFault};
 // The lines of the firm's own, in order of acceptance.
 const FIRM_LINES: &str = "SELECT day, bank_ref, amount, text FROM firm_line ORDER BY seq";
 
-// Takes the rows of the journal.
-#[derive(Drop)]
-struct MovementTaking;
+/// A list of the firm's rows, which a sink can be handed one row at a time.
+pub trait Listing<K>: RowTaking<K> {
+    ghost use Rattle.std.specs.Prelude.{Result};
+    ghost use Rattle.trust_base.specs.declared.refusal.StoreFault.{StoreFault};
+    ghost use Rattle.firm_rows.specs.Firm.{Firm};
 
-impl<K: MovementSink> RowTaking<K> for MovementTaking {
+    /// What it means that a sink was handed the list of a firm.
+    ghost hands: { Firm → Result (Unit {0}) StoreFault → K → K → Type 0 };
+
+    /// The SELECT that returns its rows. It is the same over any store `S`, which only its promise names.
+    fn select<S: Alter>(&self) -> &'static str
+        ensures select { IsSelect result.now }
+        ensures list { IsListOf S.Store (Self.taken self.now) (Self.fits self.now) result.now hands };
+}
+
+/// The movements of the journal, in order of acceptance.
+#[derive(Drop)]
+pub struct Movements;
+
+impl<K: MovementSink> RowTaking<K> for Movements {
     ghost use Rattle.firm_rows.specs.Countable.{IsMovementInRange};
     ghost use Rattle.sql_reads.specs.Shown.{movement_at};
 
@@ -52,36 +66,24 @@ impl<K: MovementSink> RowTaking<K> for MovementTaking {
     }
 }
 
-/// Passes each movement to the sink, in order of acceptance. Stops with `Memory` if memory runs out, and with `Store`
-/// at a movement that is invalid or past the 2^64 - 1st; the sink keeps those before it. Holds one row at a time.
-pub fn each_movement<S: Alter, K: MovementSink>(
-    conn: &mut Connection<S>,
-    sink: &mut K,
-) -> Result<(), StoreFault>
-    requires { conn.old.in_transaction ≡ false }
-    ensures mode { conn.new.in_transaction ≡ false }
-    ensures handed { (l : Layout) → HasCleanDisk (state S.Store conn.new) → Stands l (state S.Store conn.old).now
-        → AreHanded K.moved IsMovementInRange (firm_in l (state S.Store conn.old).now.trees).movements
-        result sink.old sink.new }
-    ensures left { LeavesAll result (state S.Store conn.old) (state S.Store conn.new) }
-{
-    hand_rows(
-        conn,
-        "SELECT matter, entry, day, amount FROM journal ORDER BY seq",
-        &[],
-        &MovementTaking,
-        sink,
-    )
-    .and(Ok(()))
+impl<K: MovementSink> Listing<K> for Movements {
+    ghost use Rattle.firm_rows.specs.Countable.{IsMovementInRange};
+    ghost use Rattle.trust_store.specs.Calls.{AreHanded};
+
+    ghost hands = { λ firm result old new. AreHanded K.moved IsMovementInRange firm.movements result old new };
+
+    fn select<S: Alter>(&self) -> &'static str {
+        "SELECT matter, entry, day, amount FROM journal ORDER BY seq"
+    }
 }
 
-// Takes the rows of the firm's lines.
+/// The lines of the firm's own, in order of acceptance.
 #[derive(Drop)]
-struct FirmLineTaking {
-    alloc: Global,
+pub struct FirmLines {
+    pub alloc: Global,
 }
 
-impl<K: FirmLineSink> RowTaking<K> for FirmLineTaking {
+impl<K: FirmLineSink> RowTaking<K> for FirmLines {
     ghost use Rattle.firm_rows.specs.Countable.{IsFirmLineInRange};
     ghost use Rattle.sql_reads.specs.Shown.{firm_line_at};
 
@@ -96,31 +98,24 @@ impl<K: FirmLineSink> RowTaking<K> for FirmLineTaking {
     }
 }
 
-/// Passes each line of the firm's own to the sink, in order of acceptance. Stops with `Memory` if memory runs out,
-/// and with `Store` at a line that is invalid or past the 2^64 - 1st; the sink keeps those before it. Holds one row
-/// at a time.
-pub fn each_firm_line<S: Alter, K: FirmLineSink>(
-    conn: &mut Connection<S>,
-    alloc: Global,
-    sink: &mut K,
-) -> Result<(), StoreFault>
-    requires { conn.old.in_transaction ≡ false }
-    ensures mode { conn.new.in_transaction ≡ false }
-    ensures handed { (l : Layout) → HasCleanDisk (state S.Store conn.new) → Stands l (state S.Store conn.old).now
-        → AreHanded K.lined IsFirmLineInRange (firm_in l (state S.Store conn.old).now.trees).firm_lines
-        result sink.old sink.new }
-    ensures left { LeavesAll result (state S.Store conn.old) (state S.Store conn.new) }
-{
-    hand_rows(conn, FIRM_LINES, &[], &FirmLineTaking { alloc }, sink).and(Ok(()))
+impl<K: FirmLineSink> Listing<K> for FirmLines {
+    ghost use Rattle.firm_rows.specs.Countable.{IsFirmLineInRange};
+    ghost use Rattle.trust_store.specs.Calls.{AreHanded};
+
+    ghost hands = { λ firm result old new. AreHanded K.lined IsFirmLineInRange firm.firm_lines result old new };
+
+    fn select<S: Alter>(&self) -> &'static str {
+        FIRM_LINES
+    }
 }
 
-// Takes the rows of exceptions.
+/// The exceptions, ordered by day, reference, the bank's reference, amount (as a number) and text.
 #[derive(Drop)]
-struct ExceptionTaking {
-    alloc: Global,
+pub struct Exceptions {
+    pub alloc: Global,
 }
 
-impl<K: ExceptionSink> RowTaking<K> for ExceptionTaking {
+impl<K: ExceptionSink> RowTaking<K> for Exceptions {
     ghost use Rattle.firm_rows.specs.Countable.{IsLineInRange};
     ghost use Rattle.sql_reads.specs.Shown.{exception_at};
 
@@ -135,37 +130,23 @@ impl<K: ExceptionSink> RowTaking<K> for ExceptionTaking {
     }
 }
 
-/// Passes each exception to the sink, ordered by day, reference, the bank's reference, amount (as a number) and text.
-/// Stops with `Memory` if memory runs out, and with `Store` at a line that is invalid or past the 2^64 - 1st; the
-/// sink keeps those before it. Holds one row at a time.
-pub fn each_exception<S: Alter, K: ExceptionSink>(
-    conn: &mut Connection<S>,
-    alloc: Global,
-    sink: &mut K,
-) -> Result<(), StoreFault>
-    requires { conn.old.in_transaction ≡ false }
-    ensures mode { conn.new.in_transaction ≡ false }
-    ensures handed { (l : Layout) → HasCleanDisk (state S.Store conn.new) → Stands l (state S.Store conn.old).now
-        → AreHanded K.noted IsLineInRange (firm_in l (state S.Store conn.old).now.trees).exceptions
-        result sink.old sink.new }
-    ensures left { LeavesAll result (state S.Store conn.old) (state S.Store conn.new) }
-{
-    hand_rows(
-        conn,
+impl<K: ExceptionSink> Listing<K> for Exceptions {
+    ghost use Rattle.firm_rows.specs.Countable.{IsLineInRange};
+    ghost use Rattle.trust_store.specs.Calls.{AreHanded};
+
+    ghost hands = { λ firm result old new. AreHanded K.noted IsLineInRange firm.exceptions result old new };
+
+    fn select<S: Alter>(&self) -> &'static str {
         "SELECT day, reference, bank_ref, amount, text FROM exception ORDER BY day, reference, \
-         bank_ref, amount, text, rowid",
-        &[],
-        &ExceptionTaking { alloc },
-        sink,
-    )
-    .and(Ok(()))
+         bank_ref, amount, text, rowid"
+    }
 }
 
-// Takes the rows of balances.
+/// The balances that the bank reported: openings before closings, each by day.
 #[derive(Drop)]
-struct BalanceTaking;
+pub struct Balances;
 
-impl<K: BalanceSink> RowTaking<K> for BalanceTaking {
+impl<K: BalanceSink> RowTaking<K> for Balances {
     ghost use Rattle.firm_rows.specs.Countable.{IsBalanceInRange};
     ghost use Rattle.sql_reads.specs.Shown.{balance_at};
 
@@ -180,28 +161,31 @@ impl<K: BalanceSink> RowTaking<K> for BalanceTaking {
     }
 }
 
-/// Passes each balance to the sink: openings before closings, each by day. Stops with `Memory` if memory runs out,
-/// and with `Store` at a balance that is invalid or past the 2^64 - 1st; the sink keeps those before it. Holds one
-/// row at a time.
-pub fn each_balance<S: Alter, K: BalanceSink>(
+impl<K: BalanceSink> Listing<K> for Balances {
+    ghost use Rattle.firm_rows.specs.Countable.{IsBalanceInRange};
+    ghost use Rattle.trust_store.specs.Calls.{AreHanded};
+
+    ghost hands = { λ firm result old new. AreHanded K.balanced IsBalanceInRange firm.balances result old new };
+
+    fn select<S: Alter>(&self) -> &'static str {
+        "SELECT kind, day, amount FROM balance ORDER BY kind, day, rowid"
+    }
+}
+
+/// Passes each row of a list to the sink, in the list's order. Stops with `Memory` if memory runs out, and with
+/// `Store` at a row that is invalid or past the 2^64 - 1st; the sink keeps those before it. Holds one row at a time.
+pub fn each_listed<S: Alter, K, L: Listing<K>>(
     conn: &mut Connection<S>,
+    listing: &L,
     sink: &mut K,
 ) -> Result<(), StoreFault>
     requires { conn.old.in_transaction ≡ false }
     ensures mode { conn.new.in_transaction ≡ false }
     ensures handed { (l : Layout) → HasCleanDisk (state S.Store conn.new) → Stands l (state S.Store conn.old).now
-        → AreHanded K.balanced IsBalanceInRange (firm_in l (state S.Store conn.old).now.trees).balances
-        result sink.old sink.new }
+        → L.hands (firm_in l (state S.Store conn.old).now.trees) result sink.old sink.new }
     ensures left { LeavesAll result (state S.Store conn.old) (state S.Store conn.new) }
 {
-    hand_rows(
-        conn,
-        "SELECT kind, day, amount FROM balance ORDER BY kind, day, rowid",
-        &[],
-        &BalanceTaking,
-        sink,
-    )
-    .and(Ok(()))
+    hand_rows(conn, listing.select::<S>(), &[], listing, sink).and(Ok(()))
 }
 
 // Adds a line. Returns `Store` if the lines would add up to a balance that the firm may not have.

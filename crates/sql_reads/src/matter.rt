@@ -52,7 +52,7 @@ const ENTRY: &str =
     day_undone, day_bank, bank_ref, part, left_now FROM entry_v2 WHERE matter = ?1 AND no = ?2 \
     ORDER BY rowid";
 
-// The head of the first matter behind a number, and its number.
+// The head of the first matter after a number, and its number.
 const NEXT_HEAD: &str =
     "SELECT client, opened, closed, last, entries, held, available, disputed, fees, claims, \
     pending, purged, no FROM matter_v2 WHERE no > ?1 ORDER BY no LIMIT 1";

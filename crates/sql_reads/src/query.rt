@@ -47,7 +47,7 @@ pub(crate) fn rows_of<S: Alter>(
 }
 
 /// How a sink takes the rows of a query, one after the other.
-pub(crate) trait RowTaking<K> {
+pub trait RowTaking<K> {
     ghost use Rattle.sqlite_value.specs.Order.{Row};
 
     /// The sink after it took a row.

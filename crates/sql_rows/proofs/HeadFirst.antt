@@ -73,7 +73,7 @@ module _ (m : ℕ) (c : MatterChange) (a mid : Lists) (up : IsKeyedBy key a.head
       (λ x has. (has.0, has.1, refl, has.3, has.4)) (λ h. refl)
       (λ h days. record { holder = days.holder; closed = typed }) (subst IsSome (sym own) place.0)
       (both_set made.0 (table.with_closing (pos day)) (λ y. refl) made.1 made.2)
-  head_put rows (edit.Clear day) own some typed place sound made =
+  head_put rows (edit.Purge day) own some typed place sound made =
       row_set _ (table.with_purge (pos day)) (λ h. record h { holder = Purged day }) (λ y. refl)
       (λ x has. (refl, has.1, has.2, has.3, refl)) (λ h. refl)
       (λ h days. record { holder = typed; closed = days.closed })

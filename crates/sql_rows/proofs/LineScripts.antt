@@ -1,5 +1,5 @@
 -- The scripts of the changes that concern the firm's own tables alone are meant.
-use Rattle.sql_rows.proofs.Names.{◌≡◌, ℤ, List, [], ◌∷◌, ◌++◌, Option, Some, None, refl, sym, ap, ◌∙◌, subst, AllByRecursion, map-append, IsKeyedBy, all-filter, all-append, Line, BalanceKind, own_movement, after_match, with_statement, as_firm_line, balance_row, FirmChange, Repeated, Unmatched, OfFirm, OfBalance, matched_by, after, FitsFirm, StaysSound, Lists, movement_columns, firm_line_columns, exception_columns, balance_columns, AreKeyed, AreMeant, AreSound, IsWrittenMovement, IsWrittenFirmLine, IsWrittenException, IsWrittenBalance, firm_from, AreMade, line_steps, IsMeant, LineScriptsAreMeant, arith, ints, nat_tests}
+use Rattle.sql_rows.proofs.Names.{◌≡◌, ℤ, List, [], ◌∷◌, ◌++◌, Option, Some, None, refl, sym, ap, ◌∙◌, subst, AllByRecursion, map-append, IsKeyedBy, all-filter, all-append, Line, BalanceKind, own_movement, after_match, with_balance_row, as_firm_line, balance_row, FirmChange, Repeated, Unmatched, OfFirm, OfBalance, matched_by, after, FitsFirm, StaysSound, Lists, movement_columns, firm_line_columns, exception_columns, balance_columns, AreKeyed, AreMeant, AreSound, IsWrittenMovement, IsWrittenFirmLine, IsWrittenException, IsWrittenBalance, firm_from, AreMade, line_steps, IsMeant, LineScriptsAreMeant, arith, ints, nat_tests}
 use Rattle.sql_tables.specs.Rows as table
 use Rattle.sql_rows.proofs.Balances.{balances_with, added_written}
 use Rattle.sql_rows.proofs.Exceptions.{key, exceptions_without, exceptions_with, noted_written}
@@ -81,7 +81,7 @@ module _ (a b : Lists) (sound : AreSound a) where
       let meant = own_meant a _ _ a.exceptions _ old written.movements written.firm_lines written.exceptions told in
       let done = line_gone (Some line) mid b made sound.keyed.exceptions meant in
       let with = balances_with row a.balances sound.keyed.balances written.balances fits in
-      grind (arith, ints, nat_tests, firm_from, with_statement, after_match)
+      grind (arith, ints, nat_tests, firm_from, with_balance_row, after_match)
 
 -- the script of each of these changes is meant, where each change that fits leaves a sound firm
 pub line_scripts : StaysSound → LineScriptsAreMeant

@@ -1,6 +1,6 @@
 -- The names that the proofs of this crate cite, passed on from one place. Declares nothing.
 pub use Rattle.firm_rows.proofs.Kept.{empty-sound, unopened-sound}
-pub use Rattle.firm_rows.specs.Firm.{after_change, after_edit, after_match, is_of_matter, joined_movement, kept_movements, moved_without, of, own_movement, with_line, with_statement, without_line}
+pub use Rattle.firm_rows.specs.Firm.{after_change, after_edit, after_match, is_of_matter, joined_movement, kept_movements, moved_without, of, own_movement, with_line, with_balance_row, without_line}
 pub use Rattle.firm_rows.specs.FirmChange.{FirmChange, FitsFirm, OfBalance, OfFirm, OfMatter, Repeated, Unmatched, after, matched_by}
 pub use Rattle.firm_rows.specs.FirmLines.{as_firm_line, balance_row, is_balance_on, kept_balance, place_of, with_balance}
 pub use Rattle.firm_rows.specs.FirmSound.{StaysSound}

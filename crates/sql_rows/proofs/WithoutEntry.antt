@@ -24,15 +24,15 @@ abbrev seats_by : ℕ → Edit → List table.Seat → List table.Seat
 seats_by m (edit.Open o) ss = add_seat (seat_columns m o.seat) ss
 seats_by m (edit.Seat s) ss = add_seat (seat_columns m s) ss
 seats_by m (edit.Unseat p) ss = delete_where (is_seat (pos m) p) ss
-seats_by m (edit.Clear day) ss = delete_where (is_seat_of (pos m)) ss
+seats_by m (edit.Purge day) ss = delete_where (is_seat_of (pos m)) ss
 seats_by m _ ss = ss
 
 abbrev entries_by : ℕ → Edit → List table.Entry → List table.Entry
-entries_by m (edit.Clear day) es = delete_where (is_entry_of (pos m)) es
+entries_by m (edit.Purge day) es = delete_where (is_entry_of (pos m)) es
 entries_by m _ es = es
 
 abbrev movements_by : ℕ → Edit → List table.Movement → List table.Movement
-movements_by m (edit.Clear day) ms = delete_where (is_movement_of (pos m)) ms
+movements_by m (edit.Purge day) ms = delete_where (is_movement_of (pos m)) ms
 movements_by m _ ms = ms
 
 abbrev with_rest : ℕ → Edit → Lists → Lists
@@ -67,7 +67,7 @@ seats_shown m (edit.Seat s) ss rows w up same sound place =
 seats_shown m (edit.Unseat p) ss rows w up same sound place =
     seats.seats_left m p ss up ∙ ap (λ l. seats_without l p) same
 seats_shown m (edit.Close day) ss rows w up same sound place = same
-seats_shown m (edit.Clear day) ss rows w up same sound place = ap (map seat_from) (seats.seats_gone (pos m) ss)
+seats_shown m (edit.Purge day) ss rows w up same sound place = ap (map seat_from) (seats.seats_gone (pos m) ss)
 seats_shown m _ ss rows w up same sound place = absurd w
 
 entries_shown : (m : ℕ) (e : Edit) (es : List table.Entry) (rows : Rows) → WritesNoEntry e
@@ -91,12 +91,12 @@ seats_placed : (m : ℕ) (e : Edit) (ss : List table.Seat) → AllByRecursion Is
 seats_placed m (edit.Open o) ss written = seats.placed_seat_added m o.seat ss written
 seats_placed m (edit.Seat s) ss written = seats.placed_seat_added m s ss written
 seats_placed m (edit.Unseat p) ss written = seats.placed_seat_left m p ss written
-seats_placed m (edit.Clear day) ss written = seats.placed_seats_gone m ss written
+seats_placed m (edit.Purge day) ss written = seats.placed_seats_gone m ss written
 seats_placed m _ ss written = placed_same (λ (s : table.Seat). s.matter) table.seat_cmp IsWrittenSeat m ss written
 
 entries_placed : (m : ℕ) (e : Edit) (es : List table.Entry) → AllByRecursion IsWrittenEntry es
     → EntriesPlaced m es (entries_by m e es)
-entries_placed m (edit.Clear day) es written = placed_gone m es written
+entries_placed m (edit.Purge day) es written = placed_gone m es written
 entries_placed m _ es written = placed_same (λ (x : table.Entry). x.matter) table.entry_cmp IsWrittenEntry m es written
 
 movements_written : (m : ℕ) (e : Edit) (ms : List table.Movement) → AllByRecursion IsWrittenMovement ms

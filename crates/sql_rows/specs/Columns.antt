@@ -12,7 +12,7 @@ use Rattle.matter_rows.specs.declared.seat.Seat.{Seat}
 use Rattle.firm_rows.specs.declared.ledger.BalanceKind.{BalanceKind}
 use Rattle.firm_rows.specs.declared.ledger.BalanceKind.TheVariants.{Opening, Closing}
 use Rattle.firm_rows.specs.declared.ledger.FirmLine.{FirmLine}
-use Rattle.firm_rows.specs.declared.ledger.StatementRow.{StatementRow}
+use Rattle.firm_rows.specs.declared.ledger.BalanceRow.{BalanceRow}
 use Rattle.firm_rows.specs.declared.movement.Owner.{Owner}
 use Rattle.firm_rows.specs.declared.movement.Owner.TheVariants as owner
 use Rattle.firm_rows.specs.declared.movement.Movement.{Movement}
@@ -23,7 +23,7 @@ abbrev pub kind_column : BalanceKind → ℤ
 kind_column Opening = pos 1
 kind_column Closing = pos 2
 
-abbrev pub balance_columns : StatementRow → table.Balance
+abbrev pub balance_columns : BalanceRow → table.Balance
 balance_columns b = record { id = pos 0; kind = kind_column b.kind; day = pos b.day; amount = b.amount }
 
 -- the firm's own movements have matter 0 and entry 0

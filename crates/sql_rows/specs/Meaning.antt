@@ -32,7 +32,7 @@ use Rattle.firm_rows.specs.declared.movement.Owner.TheVariants as owner
 use Rattle.firm_rows.specs.declared.ledger.BalanceKind.{BalanceKind}
 use Rattle.firm_rows.specs.declared.ledger.BalanceKind.TheVariants.{Opening, Closing}
 use Rattle.firm_rows.specs.declared.ledger.FirmLine.{FirmLine}
-use Rattle.firm_rows.specs.declared.ledger.StatementRow.{StatementRow}
+use Rattle.firm_rows.specs.declared.ledger.BalanceRow.{BalanceRow}
 use Rattle.firm_rows.specs.Firm.{Firm}
 use Rattle.firm_rows.specs.FirmSound.{FirmSound}
 use Rattle.trust_store.specs.declared.plain.KeptMatter.{KeptMatter}
@@ -195,7 +195,7 @@ exception_from e = record {
 abbrev pub balance_kind_from : ℤ → BalanceKind
 balance_kind_from code = cond (nat_abs code == 2) Closing Opening
 
-abbrev pub balance_from : table.Balance → StatementRow
+abbrev pub balance_from : table.Balance → BalanceRow
 balance_from b = record { kind = balance_kind_from b.kind; day = nat_abs b.day; amount = b.amount }
 
 -- What the tables stand for.

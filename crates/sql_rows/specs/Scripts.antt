@@ -20,7 +20,7 @@ IsTypedEdit (edit.Open o) = IfSome o.head.closed (λ day. 1 ≤ day)
 IsTypedEdit (edit.Seat s) = Unit {0}
 IsTypedEdit (edit.Unseat p) = Unit {0}
 IsTypedEdit (edit.Close day) = 1 ≤ day
-IsTypedEdit (edit.Clear day) = 1 ≤ day
+IsTypedEdit (edit.Purge day) = 1 ≤ day
 IsTypedEdit (edit.Append x) = Unit {0}
 IsTypedEdit (edit.Exchange x) = Unit {0}
 

@@ -14,8 +14,8 @@ use Rattle.firm_rows.specs.Firm.{joined_movement, own_movement}
 use Rattle.firm_rows.specs.FirmChange.{FirmChange, OfMatter, Repeated, Unmatched, OfFirm, OfBalance}
 use Rattle.firm_rows.specs.FirmLines.{as_firm_line, balance_row}
 use Rattle.sql_tables.specs.declared.columns.TotalsColumns.{TotalsColumns}
-use Rattle.sql_tables.specs.declared.statements.Statement.{Statement}
-use Rattle.sql_tables.specs.declared.statements.Statement.TheVariants as statement
+use Rattle.sql_tables.specs.declared.statements.SqlStatement.{SqlStatement}
+use Rattle.sql_tables.specs.declared.statements.SqlStatement.TheVariants as statement
 use Rattle.sql_tables.specs.Given.{head_given, seat_given, entry_given, movement_given, firm_line_given, exception_given, balance_given}
 use Rattle.sql_tables.specs.Lists.{Lists}
 use Rattle.sql_tables.specs.Rows as table
@@ -45,7 +45,7 @@ pub data Step : Type 0 where
   EntriesGone : (matter : ℤ) → Step
   MovementsGone : (matter : ℤ) → Step
 
-abbrev pub step_of : Statement → Step
+abbrev pub step_of : SqlStatement → Step
 step_of (statement.Head h) = PutHead (head_given h)
 step_of (statement.Totals t) = SetTotals t
 step_of (statement.Closed c) = SetClosed c.matter c.day
@@ -106,7 +106,7 @@ head_steps m c (edit.Open o) = PutHead (head_columns m o.head c.moves.figures) �
 head_steps m c (edit.Seat s) = totals_steps m c
 head_steps m c (edit.Unseat p) = totals_steps m c
 head_steps m c (edit.Close day) = SetClosed (pos m) (pos day) ∷ totals_steps m c
-head_steps m c (edit.Clear day) = SetPurged (pos m) (pos day) ∷ totals_steps m c
+head_steps m c (edit.Purge day) = SetPurged (pos m) (pos day) ∷ totals_steps m c
 head_steps m c (edit.Append x) = totals_steps m c
 head_steps m c (edit.Exchange x) = totals_steps m c
 
@@ -130,7 +130,7 @@ edit_steps m c (edit.Open o) = AddSeat (seat_columns m o.seat) ∷ []
 edit_steps m c (edit.Seat s) = AddSeat (seat_columns m s) ∷ []
 edit_steps m c (edit.Unseat p) = SeatGone (pos m) p ∷ []
 edit_steps m c (edit.Close day) = []
-edit_steps m c (edit.Clear day) = SeatsGone (pos m) ∷ EntriesGone (pos m) ∷ MovementsGone (pos m) ∷ []
+edit_steps m c (edit.Purge day) = SeatsGone (pos m) ∷ EntriesGone (pos m) ∷ MovementsGone (pos m) ∷ []
 edit_steps m c (edit.Append x) = entry_steps m x c.moves ++ movement_steps m c.movement
 edit_steps m c (edit.Exchange x) = entry_steps m x c.moves ++ movement_steps m c.movement
 

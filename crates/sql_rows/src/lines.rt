@@ -5,7 +5,7 @@ ghost use Rattle.std.specs.Prelude.{◌≡◌, ℕ, pos, Ok, IfOk, IfErr};
 ghost use Rattle.trust_values.specs.Limits.{IsDay, IsBankAmount};
 ghost use Rattle.trust_base.specs.declared.line.Line.{Line as BankLine};
 ghost use Rattle.firm_rows.specs.declared.ledger.FirmLine.{FirmLine as OwnLine};
-ghost use Rattle.firm_rows.specs.declared.ledger.StatementRow.{StatementRow as Balance};
+ghost use Rattle.firm_rows.specs.declared.ledger.BalanceRow.{BalanceRow as Balance};
 ghost use Rattle.firm_rows.specs.declared.movement.Owner.{Owner as MovedBy};
 ghost use Rattle.firm_rows.specs.declared.movement.Movement.{Movement as Moved};
 ghost use Rattle.sql_tables.specs.Given.{balance_given, exception_given, firm_line_given, movement_given};
@@ -14,7 +14,7 @@ ghost use Rattle.sql_rows.specs.Columns.{matter_column, entry_column, movement_c
 ghost use Rattle.sql_rows.specs.Columns.{IsBankLine, IsFirmLine, BeginsLine, GivesBack};
 
 use crate::column::{bank_text_in, day_in, entry_in, number_in};
-use firm_rows::{BalanceKind, FirmLine, Movement, Owner, StatementRow};
+use firm_rows::{BalanceKind, BalanceRow, FirmLine, Movement, Owner};
 use sql_tables::{BalanceColumns, ExceptionColumns, FirmLineColumns, MovementColumns};
 use std::alloc::Global;
 use trust_base::{BankAmount, Day, Line, LineText, MatterNo, StoreFault};
@@ -42,7 +42,7 @@ pub fn kind_column(kind: BalanceKind) -> i64
 }
 
 /// Returns the columns of a balance: its kind (1 for opening, 2 for closing), its day and its amount in cents.
-pub fn balance_columns(balance: StatementRow) -> BalanceColumns
+pub fn balance_columns(balance: BalanceRow) -> BalanceColumns
     ensures { balance_given result ≡ balance_columns balance }
 {
     BalanceColumns {
@@ -53,7 +53,7 @@ pub fn balance_columns(balance: StatementRow) -> BalanceColumns
 }
 
 /// Reads a balance from its columns. Returns `Store` for columns of no balance.
-pub fn balance_of(columns: BalanceColumns) -> Result<StatementRow, StoreFault>
+pub fn balance_of(columns: BalanceColumns) -> Result<BalanceRow, StoreFault>
     ensures ok { IfOk result (λ b. balance_columns b ≡ balance_given columns) }
     ensures back { (b : Balance) → IsDay b.day → IsBankAmount b.amount → balance_columns b ≡ balance_given columns
         → result ≡ Ok b }
@@ -65,19 +65,7 @@ pub fn balance_of(columns: BalanceColumns) -> Result<StatementRow, StoreFault>
         _ => return Err(StoreFault::Store),
     };
     let (day, amount) = dated_amount(columns.day, columns.amount)?;
-    Ok(StatementRow { kind, day, amount })
-}
-
-/// Returns the columns of a line of the firm: its date, the bank's reference, its amount in cents and its text.
-pub fn firm_line_columns(line: &FirmLine) -> FirmLineColumns<'_>
-    ensures { firm_line_given result ≡ firm_line_columns line.now }
-{
-    FirmLineColumns {
-        day: line.date.get() as i64,
-        bank_ref: line.bank_ref.as_slice(),
-        amount: line.amount.get(),
-        text: line.text.as_slice(),
-    }
+    Ok(BalanceRow { kind, day, amount })
 }
 
 /// Reads a line of the firm from its columns, copying the texts. Returns `Store` for columns of no line, or `Memory`

@@ -42,7 +42,7 @@ pub fn book_tables(schema: &Schema) -> Option<BookTables>
     } else if is_of(schema, MOVED_TABLES, MOVED_INDEXES) {
         Some(BookTables::Now(Layout::Moved))
     } else if is_of(schema, &MOVED_TABLES[..9], &MOVED_INDEXES[..4]) {
-        // A moved book has the tables of version 1, and behind them the three that replaced the old ones.
+        // A moved book has the tables of version 1, and after them the three that replaced the old ones.
         Some(BookTables::Old)
     } else {
         None

@@ -2,7 +2,7 @@
 use Rattle.sql_tables.proofs.Names.{all_of, all_weaker, refl, flat_map, filter_map, parent_key, Work, work_by, deed_of, pairs, Holds, call_of, IsKeyedBy-delete_where, IsKeyedBy-update_where, IsKeyedBy-insert_by, ◌≡◌, ◌≢◌, ℕ, ℤ, pos, ◌<ℤ◌, ◌/◌, Bool, true, false, cond, List, [], ◌∷◌, ◌++◌, map, filter, length, drop, slice_get, None, Ok, Some, sym, ap, ap₂, subst, subst₂, ◌∙◌, arith, AllByRecursion, list_all, list_any, IsPermutation, ints, IsPermutation-map, Null, Int, Row, Trees, rowid, put_row, Term, col, eval_all, holds, IsAnswer, Output, output, overlay, Table, Program, Enforced, Ignore, Replace, Values, Insert, InsertOr, Update, Delete, Chosen, Above, Given, works, ids_of, cast_row, at_least, are_fresh, edit_of, next_rowid, numbered, put_all, with_rowid, without_all, AreConflicts, conflicts, Has, is_present, passes_checks, IsKeyedBy, insert_by, next_key, update_where, delete_where, map-map, map_same, at_end, last_table, matches_are, Database, IsDatabase, value_rows, sequence, stamped, mended, State, Executes, runs_as, Layout, book_schema, sequence_table, sequence_tree, changing, picked, Changed, Counted}
 use Rattle.std.proofs.lemmas.Bool.Decides.{nat_tests}
 use Rattle.sqlite_schema.specs.declared.schema.Reference.{Reference}
-use Rattle.sql_tables.specs.declared.statements.Statement.{Statement}
+use Rattle.sql_tables.specs.declared.statements.SqlStatement.{SqlStatement}
 use Rattle.sql_tables.proofs.Writes.{inserts, inserts_or, updates, updated, deletes, removed, replaced, inserted, ignored, Ignored}
 use Rattle.sql_tables.proofs.CountedUp as up
 use Rattle.sql_tables.proofs.Calls.{no_lets, IsCommand}
@@ -35,7 +35,7 @@ shown_rows {X} to_row key keyed tree tests cells params p passes show shows db x
     subst₂ IsPermutation (ap (map (λ (o : Output). o.1)) kept ∙ map-map (λ (o : Output). o.1) _ _ ∙ map_same _ show shows _) (sym answer.shown) shown
 
 -- a statement that ran on the tables of a book
-pub record Ran (l : Layout) (s : Statement) (old new : State) : Type 0 where
+pub record Ran (l : Layout) (s : SqlStatement) (old new : State) : Type 0 where
   pub schema : old.now.schema ≡ book_schema l
   pub count : ℕ
   pub done : Executes (call_of s).text (call_of s).params old new (Ok count)
@@ -46,7 +46,7 @@ pub record Put {X : Type 0} (l : Layout) (tree : ℕ) (to_row : X → Row) (key 
   pub changed : Changed l tree to_row now db next
   pub rise : IsKeyedBy key now
 
-module _ {l : Layout} {s : Statement} {old new : State} (r : Ran l s old new) (at : ℕ) {table : Table}
+module _ {l : Layout} {s : SqlStatement} {old new : State} (r : Ran l s old new) (at : ℕ) {table : Table}
     (place : slice_get (book_schema l).tables at ≡ Some table) {X : Type 0} {to_row : X → Row} {of_row : Row → X}
     {key : X → ℤ} (held : Holds to_row of_row key (old.now.trees table.tree))
     (keyed : (x : X) → rowid (to_row x) ≡ Int (key x)) (no_clock : table.stamps.terms ≡ [])

@@ -2,8 +2,8 @@
 use Rattle.sql_tables.proofs.Names.{refl, Command, Layout, book_schema, understood, call_of, IsSelect}
 use Rattle.sqlite_tied.specs.Compute.{everything}
 use Rattle.sql_schema.specs.declared.layout.Layout.TheVariants.{Made, Moved}
-use Rattle.sql_tables.specs.declared.statements.Statement.{Statement}
-use Rattle.sql_tables.specs.declared.statements.Statement.TheVariants as statement
+use Rattle.sql_tables.specs.declared.statements.SqlStatement.{SqlStatement}
+use Rattle.sql_tables.specs.declared.statements.SqlStatement.TheVariants as statement
 use Rattle.sql_tables.proofs.Calls.{IsQuery, IsCommand}
 use Rattle.sql_tables.specs.Texts.{head_read_text, head_read_query, head_read_names, next_head_text, next_head_query, next_head_names, head_scan_text, head_scan_query, head_scan_names, seats_read_text, seats_read_query, seats_read_names, entries_read_text, entries_read_query, entries_read_names, entry_read_text, entry_read_query, entry_read_names, balance_read_text, balance_read_query, balance_read_names, journal_scan_text, journal_scan_query, journal_scan_names, firm_scan_text, firm_scan_query, firm_scan_names, exception_scan_text, exception_scan_query, exception_scan_names, balance_scan_text, balance_scan_query, balance_scan_names, head_write_command, totals_write_command, closed_write_command, purged_write_command, entry_write_command, left_write_command, seat_insert_command, seat_delete_command, journal_insert_command, firm_insert_command, exception_insert_command, exception_delete_command, balance_insert_command, purge_seats_command, purge_entries_command, purge_journal_command}
 
@@ -107,7 +107,7 @@ unfolding everything
 balance_scan_selects = refl
 
 -- what a statement that writes means
-abbrev pub meaning : Layout → Statement → Command
+abbrev pub meaning : Layout → SqlStatement → Command
 meaning l (statement.Head _) = head_write_command l
 meaning l (statement.Totals _) = totals_write_command l
 meaning l (statement.Closed _) = closed_write_command l
@@ -125,7 +125,7 @@ meaning l (statement.SeatsGone _) = purge_seats_command l
 meaning l (statement.EntriesGone _) = purge_entries_command l
 meaning l (statement.MovementsGone _) = purge_journal_command l
 
-pub means : (l : Layout) (s : Statement) → IsCommand (book_schema l) (call_of s).text (meaning l s)
+pub means : (l : Layout) (s : SqlStatement) → IsCommand (book_schema l) (call_of s).text (meaning l s)
 unfolding understood everything
 means Made (statement.Head h) = record { is = refl; plain = (refl, refl) }
 means Made _ = record { is = refl; plain = (refl, refl) }

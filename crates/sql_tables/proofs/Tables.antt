@@ -3,8 +3,8 @@ use Rattle.sql_tables.proofs.Names.{all_of, all_weaker, ◌≡◌, ℤ, ◌<ℤ�
 use Rattle.std.proofs.Math.Bool.{and-true, or-false}
 use Rattle.sqlite_value.specs.Keys.{first_key}
 use Rattle.sqlite_schema.specs.Names.{same_name}
-use Rattle.sql_tables.specs.declared.statements.Statement.{Statement}
-use Rattle.sql_tables.specs.declared.statements.Statement.TheVariants as statement
+use Rattle.sql_tables.specs.declared.statements.SqlStatement.{SqlStatement}
+use Rattle.sql_tables.specs.declared.statements.SqlStatement.TheVariants as statement
 use Rattle.sql_tables.specs.Given.{head_given, seat_given, entry_given, movement_given, firm_line_given, exception_given, balance_given}
 use Rattle.sql_tables.specs.Lists.{lists_in, IsStep}
 use Rattle.sql_schema.specs.declared.layout.Layout.TheVariants.{Made, Moved}
@@ -76,10 +76,10 @@ entry_kept : (l : Layout) (e : Entry) → cast_row (entry_table l) (entry_row e)
 entry_kept l e = row_kept (entry_table l) (Int e.id) (entry_values e) refl refl
 
 -- a statement made its change, the tables stand, and the database lists what it holds
-abbrev pub Did : Layout → Statement → Database → Database → Type 0
+abbrev pub Did : Layout → SqlStatement → Database → Database → Type 0
 Did l s db next = Does l s db next × Stands l next × IsStep s (lists_in l db.trees) (lists_in l next.trees) × IsDatabase next
 
-pub did : (l : Layout) (old new : State) → Stands l old.now → (s : Statement) → Ran l s old new → Did l s old.now new.now
+pub did : (l : Layout) (old new : State) → Stands l old.now → (s : SqlStatement) → Ran l s old new → Did l s old.now new.now
 did l old new st (statement.Head h) r =
     let n = head_given h in
     heads_did l st (replaces r (matter_place l) (matter_at l) st.heads (λ _. refl) refl refl _ _ (means l (statement.Head h)) refl

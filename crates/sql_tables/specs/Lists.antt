@@ -3,8 +3,8 @@ use Rattle.std.specs.Prelude.{◌≡◌, ℤ, List, [], ◌∷◌, ◌++◌}
 use Rattle.sqlite_trees.specs.Tree.{Trees}
 use Rattle.sqlite_keyed.specs.Lists.{delete_where}
 use Rattle.sql_schema.specs.declared.layout.Layout.{Layout}
-use Rattle.sql_tables.specs.declared.statements.Statement.{Statement}
-use Rattle.sql_tables.specs.declared.statements.Statement.TheVariants as statement
+use Rattle.sql_tables.specs.declared.statements.SqlStatement.{SqlStatement}
+use Rattle.sql_tables.specs.declared.statements.SqlStatement.TheVariants as statement
 use Rattle.sql_tables.specs.Rows.{Head, heads_in, put_head, with_totals, with_closing, with_purge, change_head, Seat, seats_in, add_seat, is_seat, is_seat_of, Entry, entries_in, put_entry, put_left, is_entry_of, Movement, movements_in, is_movement_of, FirmLine, firm_lines_in, Exception, exceptions_in, note_exception, is_exception, Balance, balances_in, add_balance}
 use Rattle.sql_tables.specs.Given.{head_given, seat_given, entry_given, movement_given, firm_line_given, exception_given, balance_given}
 
@@ -29,7 +29,7 @@ lists_in l db = record {
 }
 
 -- how an SQL statement changes the lists; a table with AUTOINCREMENT gives a new row its own number
-abbrev pub IsStep : Statement → Lists → Lists → Type 0
+abbrev pub IsStep : SqlStatement → Lists → Lists → Type 0
 IsStep (statement.Head h) a b = b ≡ record a { heads = put_head (head_given h) a.heads }
 IsStep (statement.Totals t) a b = b ≡ record a { heads = change_head t.no (with_totals t) a.heads }
 IsStep (statement.Closed c) a b = b ≡ record a { heads = change_head c.matter (with_closing c.day) a.heads }
@@ -51,6 +51,6 @@ IsStep (statement.EntriesGone m) a b = b ≡ record a { entries = delete_where (
 IsStep (statement.MovementsGone m) a b = b ≡ record a { movements = delete_where (is_movement_of m) a.movements }
 
 -- the SQL statements, one after the other
-abbrev pub AreSteps : List Statement → Lists → Lists → Type 0
+abbrev pub AreSteps : List SqlStatement → Lists → Lists → Type 0
 AreSteps [] a b = b ≡ a
 AreSteps (s ∷ script) a b = (mid : Lists) × IsStep s a mid × AreSteps script mid b

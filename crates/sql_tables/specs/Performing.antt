@@ -5,7 +5,7 @@ use Rattle.sqlite_trees.specs.declared.store.Store.{Ghosts}
 use Rattle.sqlite.specs.declared.error.Error.{Error}
 use Rattle.sqlite.specs.Held.{Held, state}
 use Rattle.sqlite.specs.State.{State, HasCleanDisk, Survives, ExecutesInside}
-use Rattle.sql_tables.specs.declared.statements.Statement.{Statement}
+use Rattle.sql_tables.specs.declared.statements.SqlStatement.{SqlStatement}
 use Rattle.sql_tables.specs.Script.{calls_of, RanInside}
 
 -- if the connection is open now, it was open before, and the last commit is unchanged
@@ -19,7 +19,7 @@ pub record IsPerformed (sql : List ℕ) (params : Row) (result : Result ℕ Erro
   pub crash : Survives old new (λ _. ⊥)
 
 -- what a transaction that began with `old` has become by some SQL statements, each of which succeeded
-pub record HasRun {S : Type 0} (g : Ghosts S) (script : List Statement) (old new : Held S) : Type 0 where
+pub record HasRun {S : Type 0} (g : Ghosts S) (script : List SqlStatement) (old new : Held S) : Type 0 where
   pub inside : HasCleanDisk (state g new) → IsTrue (state g new).in_transaction
   pub ran : HasCleanDisk (state g new) → RanInside g (calls_of script) old new
   pub keeps : HasCleanDisk (state g new) → KeepsCommit (state g old) (state g new)

@@ -10,8 +10,8 @@ use Rattle.sqlite.specs.State.{State, Executes}
 use Rattle.sqlite.specs.Held.{Held, state}
 use Rattle.sql_schema.specs.declared.layout.Layout.{Layout}
 use Rattle.sql_schema.specs.Schema.{matter_tree, seat_tree, entry_tree, journal_tree, firm_line_tree, exception_tree, balance_tree}
-use Rattle.sql_tables.specs.declared.statements.Statement.{Statement}
-use Rattle.sql_tables.specs.declared.statements.Statement.TheVariants as statement
+use Rattle.sql_tables.specs.declared.statements.SqlStatement.{SqlStatement}
+use Rattle.sql_tables.specs.declared.statements.SqlStatement.TheVariants as statement
 use Rattle.sql_tables.specs.Rows.{head_row, head_values, heads_in, put_head, totals_values, with_totals, with_closing, with_purge, change_head, seat_row, seat_values, seats_in, add_seat, is_seat, is_seat_of, entry_row, entry_values, entries_in, put_entry, put_left, is_entry_of, Movement, movement_row, movement_values, movements_in, is_movement_of, FirmLine, firm_line_row, firm_line_values, firm_lines_in, exception_row, exception_values, exceptions_in, note_exception, is_exception, balance_row, balance_values, balances_in, add_balance}
 use Rattle.sql_tables.specs.Standing.{Stands, Changed, Counted}
 use Rattle.sql_tables.specs.Given.{head_given, seat_given, entry_given, movement_given, firm_line_given, exception_given, balance_given}
@@ -23,7 +23,7 @@ pub record Call : Type 0 where
   pub text : List ℕ
   pub params : Row
 
-abbrev pub call_of : Statement → Call
+abbrev pub call_of : SqlStatement → Call
 call_of (statement.Head h) = record { text = head_write_text; params = head_values (head_given h) }
 call_of (statement.Totals t) = record { text = totals_write_text; params = totals_values t }
 call_of (statement.Closed c) = record { text = closed_write_text; params = Int c.matter ∷ Int c.day ∷ [] }
@@ -44,7 +44,7 @@ call_of (statement.SeatsGone m) = record { text = purge_seats_text; params = Int
 call_of (statement.EntriesGone m) = record { text = purge_entries_text; params = Int m ∷ [] }
 call_of (statement.MovementsGone m) = record { text = purge_journal_text; params = Int m ∷ [] }
 
-abbrev pub calls_of : List Statement → List Call
+abbrev pub calls_of : List SqlStatement → List Call
 calls_of = map call_of
 
 -- everything is committed, and a crash now leaves exactly that
@@ -58,7 +58,7 @@ RanInside {S} g (call ∷ calls) old new = (mid : Held S) × (count : ℕ)
     × Executes call.text call.params (state g old) (state g mid) (Ok count) × RanInside g calls mid new
 
 -- how an SQL statement changes tables that stand in a layout
-abbrev pub Does : Layout → Statement → Database → Database → Type 0
+abbrev pub Does : Layout → SqlStatement → Database → Database → Type 0
 Does l (statement.Head h) db = Changed l (matter_tree l) head_row (put_head (head_given h) (heads_in l db.trees)) db
 Does l (statement.Totals t) db = Changed l (matter_tree l) head_row
     (change_head t.no (with_totals t) (heads_in l db.trees)) db
@@ -91,13 +91,13 @@ Does l (statement.MovementsGone m) db = Changed l (journal_tree l) movement_row
     (delete_where (is_movement_of m) (movements_in l db.trees)) db
 
 -- the SQL statements, one after the other
-abbrev pub DoesAll : Layout → List Statement → Database → Database → Type 0
+abbrev pub DoesAll : Layout → List SqlStatement → Database → Database → Type 0
 DoesAll l [] db next = next ≡ db
 DoesAll l (s ∷ script) db next = (mid : Database) × Does l s db mid × DoesAll l script mid next
 
 -- the tables after the SQL statements: they stand, and what they stand for has changed step by step; if anything was
 -- written, the database lists what it holds
-pub record Written (l : Layout) (script : List Statement) (db next : Database) : Type 0 where
+pub record Written (l : Layout) (script : List SqlStatement) (db next : Database) : Type 0 where
   pub does : DoesAll l script db next
   pub steps : AreSteps script (lists_in l db.trees) (lists_in l next.trees)
   pub stands : Stands l next

@@ -19,7 +19,7 @@ use sqlite_value::value::ValueRef;
 
 /// An SQL statement that writes. Each variant says what its table holds afterwards.
 #[derive(Clone, Copy)]
-pub enum Statement<'a> {
+pub enum SqlStatement<'a> {
     /// This head, replacing the one that has its number, if any.
     Head(HeadColumns<'a>),
     /// The head of that number with this last day and these totals, if it exists.
@@ -54,7 +54,7 @@ pub enum Statement<'a> {
     MovementsGone(i64),
 }
 
-// Executes an SQL text with these values, each behind its kind.
+// Executes an SQL text with these values, each after its kind.
 macro_rules! execute {
     ($tx:ident, $text:literal, $($kind:ident $value:expr),*) => {
         $tx.execute($text, &[$(ValueRef::$kind($value)),*])
@@ -62,60 +62,63 @@ macro_rules! execute {
 }
 
 // Runs one SQL statement.
-fn perform<S: Alter>(tx: &mut Transaction<'_, S>, statement: Statement<'_>) -> Result<usize, Error>
+fn perform<S: Alter>(
+    tx: &mut Transaction<'_, S>,
+    statement: SqlStatement<'_>,
+) -> Result<usize, Error>
     ensures same_reference { tx.new.conn.ghost_name ≡ tx.old.conn.ghost_name }
     ensures ran { IsPerformed (call_of statement.entry).text (call_of statement.entry).params result
         (state S.Store tx.old.conn.now) (state S.Store tx.new.conn.now) }
 {
     match statement {
-        Statement::Head(h) => execute![tx,
+        SqlStatement::Head(h) => execute![tx,
             "INSERT OR REPLACE INTO matter_v2 (no, client, opened, closed, last, entries, held, available, disputed, \
              fees, claims, pending, purged) VALUES (?1, ?2, ?3, ?4, ?5, ?6, ?7, ?8, ?9, ?10, ?11, ?12, ?13)",
             Int h.no, Text h.client, Int h.opened, Int h.closed, Int h.last, Int h.entries, Int h.held,
             Int h.available, Int h.disputed, Int h.fees, Int h.claims, Int h.pending, Int h.purged],
-        Statement::Totals(t) => execute![tx,
+        SqlStatement::Totals(t) => execute![tx,
             "UPDATE matter_v2 SET last = ?2, entries = ?3, held = ?4, available = ?5, disputed = ?6, fees = ?7, \
              claims = ?8, pending = ?9 WHERE no = ?1",
             Int t.no, Int t.last, Int t.entries, Int t.held, Int t.available, Int t.disputed, Int t.fees,
             Int t.claims, Int t.pending],
-        Statement::Closed(c) => execute![tx,
+        SqlStatement::Closed(c) => execute![tx,
             "UPDATE matter_v2 SET closed = ?2 WHERE no = ?1", Int c.matter, Int c.day],
-        Statement::Purged(p) => execute![tx,
+        SqlStatement::Purged(p) => execute![tx,
             "UPDATE matter_v2 SET client = '', purged = ?2 WHERE no = ?1", Int p.matter, Int p.day],
-        Statement::Seat(s) => execute![tx,
+        SqlStatement::Seat(s) => execute![tx,
             "INSERT INTO seat_v2 (matter, person, role) VALUES (?1, ?2, ?3)",
             Int s.matter, Text s.person, Int s.role],
-        Statement::SeatGone(s) => execute![tx,
+        SqlStatement::SeatGone(s) => execute![tx,
             "DELETE FROM seat_v2 WHERE matter = ?1 AND person = ?2", Int s.matter, Text s.person],
-        Statement::Entry(e) => execute![tx,
+        SqlStatement::Entry(e) => execute![tx,
             "INSERT OR REPLACE INTO entry_v2 (matter, no, kind, day, amount, state, fund, of_no, text_a, text_b, \
              text_c, day_done, day_undone, day_bank, bank_ref, part, left_now) VALUES (?1, ?2, ?3, ?4, ?5, ?6, ?7, \
              ?8, ?9, ?10, ?11, ?12, ?13, ?14, ?15, ?16, ?17)",
             Int e.matter, Int e.no, Int e.kind, Int e.day, Int e.amount, Int e.state, Int e.fund, Int e.of_no,
             Text e.text_a, Text e.text_b, Text e.text_c, Int e.day_done, Int e.day_undone, Int e.day_bank,
             Text e.bank_ref, Int e.part, Int e.left_now],
-        Statement::Left(e) => execute![tx,
+        SqlStatement::Left(e) => execute![tx,
             "UPDATE entry_v2 SET left_now = ?3 WHERE matter = ?1 AND no = ?2",
             Int e.matter, Int e.no, Int e.left_now],
-        Statement::Movement(m) => execute![tx,
+        SqlStatement::Movement(m) => execute![tx,
             "INSERT INTO journal (matter, entry, day, amount) VALUES (?1, ?2, ?3, ?4)",
             Int m.matter, Int m.entry, Int m.day, Int m.amount],
-        Statement::FirmLine(f) => execute![tx,
+        SqlStatement::FirmLine(f) => execute![tx,
             "INSERT INTO firm_line (day, bank_ref, amount, text) VALUES (?1, ?2, ?3, ?4)",
             Int f.day, Text f.bank_ref, Int f.amount, Text f.text],
-        Statement::Exception(e) => execute![tx,
+        SqlStatement::Exception(e) => execute![tx,
             "INSERT OR IGNORE INTO exception (day, reference, bank_ref, amount, text) VALUES (?1, ?2, ?3, ?4, ?5)",
             Int e.day, Text e.reference, Text e.bank_ref, Int e.amount, Text e.text],
-        Statement::ExceptionGone(e) => execute![tx,
+        SqlStatement::ExceptionGone(e) => execute![tx,
             "DELETE FROM exception WHERE day = ?1 AND reference = ?2 AND bank_ref = ?3 AND amount = ?4 AND text = ?5",
             Int e.day, Text e.reference, Text e.bank_ref, Int e.amount, Text e.text],
-        Statement::Balance(b) => execute![tx,
+        SqlStatement::Balance(b) => execute![tx,
             "INSERT INTO balance (kind, day, amount) VALUES (?1, ?2, ?3)", Int b.kind, Int b.day, Int b.amount],
-        Statement::SeatsGone(matter) =>
+        SqlStatement::SeatsGone(matter) =>
             execute![tx, "DELETE FROM seat_v2 WHERE matter = ?1", Int matter],
-        Statement::EntriesGone(matter) =>
+        SqlStatement::EntriesGone(matter) =>
             execute![tx, "DELETE FROM entry_v2 WHERE matter = ?1", Int matter],
-        Statement::MovementsGone(matter) =>
+        SqlStatement::MovementsGone(matter) =>
             execute![tx, "DELETE FROM journal WHERE matter = ?1", Int matter],
     }
 }
@@ -126,7 +129,7 @@ fn perform<S: Alter>(tx: &mut Transaction<'_, S>, statement: Statement<'_>) -> R
 /// tables stand, and a crash leaves nothing else. After `Ok` the connection is open. The commit is the last call of
 /// the store. After an error, a connection that is still open is unchanged; if the error closed it, a crash may leave
 /// the rows before the change or after it.
-pub fn write<S: Alter>(conn: &mut Connection<S>, script: &[Statement<'_>]) -> Result<(), Error>
+pub fn write<S: Alter>(conn: &mut Connection<S>, script: &[SqlStatement<'_>]) -> Result<(), Error>
     requires { (state S.Store conn.old).in_transaction ≡ false }
     ensures outside { (state S.Store conn.new).in_transaction ≡ false }
     ensures written { (l : Layout) → HasCleanDisk (state S.Store conn.new) → Stands l (state S.Store conn.old).now

@@ -23,7 +23,7 @@ pub use Rattle.statement_lines.specs.Lookups.{IsKeyed, elements, has_key}
 pub use Rattle.statement_lines.specs.Marks.{entry_marks, is_shown, line_marks, mark_of, marks_at, reference_mark}
 unfoldable pub use Rattle.statement_lines.specs.Marks.{marks_from, window_marks}
 pub use Rattle.statement_lines.specs.Numbers.{is_among, without_zeros}
-unfoldable pub use Rattle.statement_lines.specs.Numbers.{is_number, is_telling, line_numbers, telling_behind}
+unfoldable pub use Rattle.statement_lines.specs.Numbers.{is_number, is_telling, line_numbers, telling_after}
 pub use Rattle.statement_lines.specs.OpenLines.{claimed_reference, is_named_like, is_open, is_open_fit, is_open_like}
 unfoldable pub use Rattle.statement_lines.specs.OpenLines.{exception_reference}
 pub use Rattle.statement_lines.specs.Records.{Records, Rows, line_at, lines_from, no_records, rows_of, with_record}
@@ -31,7 +31,7 @@ unfoldable pub use Rattle.statement_lines.specs.Records.{numbers_from, records_o
 pub use Rattle.statement_lines.specs.RowsLeft.{Adds, HasLeft, Holds, left_of, outcome_if}
 unfoldable pub use Rattle.statement_lines.specs.Showing.{begins_with_reference, fits, has_reference, has_reference as has_reference_text, shows}
 pub use Rattle.statement_lines.specs.Tokens.{goes_on, tokens}
-unfoldable pub use Rattle.statement_lines.specs.Tokens.{begins, numeral_len, numeral_len as numeral_length, token_in_front, tokens_behind}
+unfoldable pub use Rattle.statement_lines.specs.Tokens.{begins, numeral_len, numeral_len as numeral_length, token_in_front, tokens_after}
 pub use Rattle.statement_lines.specs.Waiting.{Waiting}
 pub use Rattle.statement_lines.specs.Words.{shown}
 pub use Rattle.statement_lines.specs.Written.{row_as, text_of}

@@ -1,5 +1,5 @@
 -- The steps of the loops over a text and over its tokens.
-use Rattle.statement_lines.proofs.Names.{◌≡◌, ◌∙◌, ap, cond, cond-false, cond-true, ℕ, ◌+◌, ◌<◌, true, false, List, [], ◌∷◌, ◌++◌, length, get_or, drop, take, ◌-◌, append_assoc, append-nil, ◌≤◌, refl, arith, at_drop_more, drop_all, drop_more, get_or-drop, take_rest, begins, goes_on, numeral_len, token_in_front, tokens_behind, is_telling, telling_behind, without_zeros, begins_with_reference, has_reference}
+use Rattle.statement_lines.proofs.Names.{◌≡◌, ◌∙◌, ap, cond, cond-false, cond-true, ℕ, ◌+◌, ◌<◌, true, false, List, [], ◌∷◌, ◌++◌, length, get_or, drop, take, ◌-◌, append_assoc, append-nil, ◌≤◌, refl, arith, at_drop_more, drop_all, drop_more, get_or-drop, take_rest, begins, goes_on, numeral_len, token_in_front, tokens_after, is_telling, telling_after, without_zeros, begins_with_reference, has_reference}
 
 -- Digits in front.
 
@@ -36,40 +36,40 @@ rest_of text i = take (length text - i) (drop i text)
 
 pub tokens_more : (second last : ℕ) (text : List ℕ) (i : ℕ) (found : List (List ℕ)) → i < length text
     → begins second last (get_or text i 0) ≡ true
-    → found ++ tokens_behind second last (drop i text)
-    ≡ (found ++ token_in_front (rest_of text i) ∷ []) ++ tokens_behind last (get_or text i 0) (drop (i + 1) text)
-unfolding tokens_behind
+    → found ++ tokens_after second last (drop i text)
+    ≡ (found ++ token_in_front (rest_of text i) ∷ []) ++ tokens_after last (get_or text i 0) (drop (i + 1) text)
+unfolding tokens_after
 tokens_more second last text i found lt hit = grind (arith, append_assoc, take_rest, drop_more)
 
 pub tokens_none : (second last : ℕ) (text : List ℕ) (i : ℕ) → i < length text
     → begins second last (get_or text i 0) ≡ false
-    → tokens_behind second last (drop i text) ≡ tokens_behind last (get_or text i 0) (drop (i + 1) text)
-unfolding tokens_behind
+    → tokens_after second last (drop i text) ≡ tokens_after last (get_or text i 0) (drop (i + 1) text)
+unfolding tokens_after
 tokens_none second last text i lt miss = rw (drop_more text i 0 lt, miss) refl
 
 pub tokens_done : (second last : ℕ) (text : List ℕ) (i : ℕ) (found : List (List ℕ)) → length text ≤ i
-    → found ++ tokens_behind second last (drop i text) ≡ found
-unfolding tokens_behind
+    → found ++ tokens_after second last (drop i text) ≡ found
+unfolding tokens_after
 tokens_done second last text i found past = rw (drop_all i text past) (append-nil found)
 
 -- Telling numbers.
 
 pub telling_more : (second last : List ℕ) (tokens : List (List ℕ)) (i : ℕ) (d : List ℕ) (found : List (List ℕ))
     → i < length tokens → is_telling second last (get_or tokens i d) ≡ true
-    → found ++ telling_behind second last (drop i tokens)
-    ≡ (found ++ without_zeros (get_or tokens i d) ∷ []) ++ telling_behind last (get_or tokens i d) (drop (i + 1) tokens)
-unfolding telling_behind
+    → found ++ telling_after second last (drop i tokens)
+    ≡ (found ++ without_zeros (get_or tokens i d) ∷ []) ++ telling_after last (get_or tokens i d) (drop (i + 1) tokens)
+unfolding telling_after
 telling_more second last tokens i d found lt hit = grind (arith, append_assoc, drop_more)
 
 pub telling_none : (second last : List ℕ) (tokens : List (List ℕ)) (i : ℕ) (d : List ℕ)
     → i < length tokens → is_telling second last (get_or tokens i d) ≡ false
-    → telling_behind second last (drop i tokens) ≡ telling_behind last (get_or tokens i d) (drop (i + 1) tokens)
-unfolding telling_behind
+    → telling_after second last (drop i tokens) ≡ telling_after last (get_or tokens i d) (drop (i + 1) tokens)
+unfolding telling_after
 telling_none second last tokens i d lt miss = rw (drop_more tokens i d lt, miss) refl
 
 pub telling_done : (second last : List ℕ) (tokens : List (List ℕ)) (i : ℕ) (found : List (List ℕ))
-    → length tokens ≤ i → found ++ telling_behind second last (drop i tokens) ≡ found
-unfolding telling_behind
+    → length tokens ≤ i → found ++ telling_after second last (drop i tokens) ≡ found
+unfolding telling_after
 telling_done second last tokens i found past = rw (drop_all i tokens past) (append-nil found)
 
 -- A reference.

@@ -49,16 +49,16 @@ is_telling second last token =
     is_number token && (nat_le 6 (length (without_zeros token)) || are_labels second last)
 
 -- the telling numbers among tokens that follow these two
-unfoldable pub telling_behind : List ℕ → List ℕ → List (List ℕ) → List (List ℕ)
-telling_behind second last [] = []
-telling_behind second last (token ∷ rest) =
+unfoldable pub telling_after : List ℕ → List ℕ → List (List ℕ) → List (List ℕ)
+telling_after second last [] = []
+telling_after second last (token ∷ rest) =
     if is_telling second last token
-    then without_zeros token ∷ telling_behind last token rest
-    else telling_behind last token rest
+    then without_zeros token ∷ telling_after last token rest
+    else telling_after last token rest
 
 -- the telling numbers of a text, in order
 abbrev pub telling_numbers : List ℕ → List (List ℕ)
-telling_numbers text = telling_behind [] [] (tokens text)
+telling_numbers text = telling_after [] [] (tokens text)
 
 -- The numbers of a bank line.
 

@@ -49,13 +49,13 @@ begins second last b =
     || (is_digit b && not (is_digit last) && not (is_joiner last && is_digit second))
 
 -- at each place of a text where a token begins, the token; these two bytes come before the text
-unfoldable pub tokens_behind : ℕ → ℕ → List ℕ → List (List ℕ)
-tokens_behind second last [] = []
-tokens_behind second last (b ∷ rest) =
+unfoldable pub tokens_after : ℕ → ℕ → List ℕ → List (List ℕ)
+tokens_after second last [] = []
+tokens_after second last (b ∷ rest) =
     if begins second last b
-    then token_in_front (b ∷ rest) ∷ tokens_behind last b rest
-    else tokens_behind last b rest
+    then token_in_front (b ∷ rest) ∷ tokens_after last b rest
+    else tokens_after last b rest
 
 -- the tokens of a text, in order
 abbrev pub tokens : List ℕ → List (List ℕ)
-tokens text = tokens_behind 0 0 text
+tokens text = tokens_after 0 0 text

@@ -8,7 +8,7 @@ ghost use Rattle.statement_lines.specs.Tokens.{is_digit as is_digit_byte};
 ghost use Rattle.statement_lines.specs.Numbers.{are_labels as are_labels_before, is_among as is_among_numbers};
 ghost use Rattle.statement_lines.specs.Numbers.{is_label as is_label_word, is_number as is_number_token};
 ghost use Rattle.statement_lines.specs.Numbers.{is_number_word as is_number_word_text, is_telling as is_telling_token};
-ghost use Rattle.statement_lines.specs.Numbers.{line_numbers, numbers, own_numbers, telling_behind, telling_numbers};
+ghost use Rattle.statement_lines.specs.Numbers.{line_numbers, numbers, own_numbers, telling_after, telling_numbers};
 ghost use Rattle.statement_lines.specs.Numbers.{without_zeros as digits_without_zeros};
 
 use crate::token::{is_digit, tokens_of};
@@ -138,7 +138,7 @@ fn is_telling(second: &[u8], last: &[u8], token: &[u8]) -> bool
 // Returns the telling numbers among tokens, in order.
 #[tactic(auto, using(crate::proofs::Parting::telling_steps))]
 fn telling_among(alloc: Global, tokens: &[OwnedBytes]) -> Result<Vec<Number>, AllocError>
-    ensures { IfOk result (λ found. found.items ≡ telling_behind [] [] tokens.now) }
+    ensures { IfOk result (λ found. found.items ≡ telling_after [] [] tokens.now) }
 {
     let mut found = Vec::new(alloc);
     let mut second: &[u8] = &[];

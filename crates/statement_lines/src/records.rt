@@ -4,7 +4,7 @@ ghost use Rattle.std.specs.Prelude.{◌≡◌, ◌<◌, IfOk, OnOk, length, slic
 ghost use Rattle.csv.specs.Records.{fields_of};
 ghost use Rattle.statement_lines.specs.Records.{no_records, records_of, with_record};
 
-use crate::rows::rows_behind_header;
+use crate::rows::rows_after_header;
 use crate::statement_line::StatementLine;
 use csv::ByteRecord;
 use statement_csv::read_item;
@@ -99,7 +99,7 @@ pub fn records_in(alloc: Global, statement: &[u8]) -> Result<Records, AllocError
     ensures { IfOk result (λ found. found ≡ records_of statement.now) }
 {
     let mut records = Records::new(alloc);
-    let Some(rows) = rows_behind_header(alloc, statement)? else {
+    let Some(rows) = rows_after_header(alloc, statement)? else {
         return Ok(records);
     };
     for row in rows.into_byte_records() {

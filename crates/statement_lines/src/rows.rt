@@ -9,7 +9,7 @@ use std::alloc::{AllocError, Global};
 
 /// Returns a reader of the records after the first, which it skips; `None` if there is no first record. The only error
 /// is out of memory.
-pub(crate) fn rows_behind_header<'a>(
+pub(crate) fn rows_after_header<'a>(
     alloc: Global,
     statement: &'a [u8],
 ) -> Result<Option<Reader<&'a [u8]>>, AllocError>

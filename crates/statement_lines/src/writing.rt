@@ -12,7 +12,7 @@ ghost use Rattle.statement_lines.specs.Written.{named_row, row_as, rows_by, text
 
 use crate::outcome::Outcome;
 use crate::records::Records;
-use crate::rows::rows_behind_header;
+use crate::rows::rows_after_header;
 use csv::{ByteRecord, Writer, WriterBuilder};
 use statement_csv::field;
 use std::alloc::{AllocError, Global};
@@ -118,7 +118,7 @@ fn write_rows<W: Write + Drop>(
         → outcomes.now ≡ map outcome_of (lines_from 1 (rows_of statement.now))
         → OnOk result (Adds W.contents writer.old writer.new (rows_by outcome_of 1 (rows_of statement.now))) }
 {
-    let Some(rows) = rows_behind_header(alloc, statement)? else {
+    let Some(rows) = rows_after_header(alloc, statement)? else {
         return Ok(());
     };
     let mut number = 0u64;

@@ -67,7 +67,7 @@ pub use Rattle.statement_match.specs.FirmLaws.{FilledWaits, HasMatterNumbers, Is
 pub use Rattle.statement_match.specs.Grounds.{numbered_key, plain_pairs}
 unfoldable pub use Rattle.statement_match.specs.Grounds.{numbered}
 pub use Rattle.statement_match.specs.Laws.{AreNamedApart, AreWritten, FillsWhatIsSure, FillsWithWaiting, HasLess, IsPart, IsSure, Kept, LeftOut, MoreOnlyTakesAway, Named, NoneIsNamedTwice, NoneOf, None_left, OnlyReferencesChange, TwoEntriesAreLeft, TwoLinesAreLeft, With, Without, with_reference, written, written_as, written_of}
-pub use Rattle.statement_match.specs.ReasonTexts.{behind_comma, behind_semicolon, related_entry_text, text_if}
+pub use Rattle.statement_match.specs.ReasonTexts.{after_comma, after_semicolon, related_entry_text, text_if}
 unfoldable pub use Rattle.statement_match.specs.ReasonTexts.{fit_numbers}
 unfoldable pub use Rattle.statement_match.specs.Reasons.{reason_for}
 pub use Rattle.statement_match.specs.Rule.{filled_with, is_beside_booked, outcomes, unless_exception}

@@ -69,12 +69,12 @@ related_entry_text r e = entry_text e ++ amount_part r e
 
 -- Several entries: at most five.
 
-abbrev pub behind_semicolon : List ℕ → List ℕ
-behind_semicolon text = codes "; " ++ text
+abbrev pub after_semicolon : List ℕ → List ℕ
+after_semicolon text = codes "; " ++ text
 
 abbrev pub parted_by_semicolons : List (List ℕ) → List ℕ
 parted_by_semicolons [] = []
-parted_by_semicolons (text ∷ texts) = text ++ flat_map behind_semicolon texts
+parted_by_semicolons (text ∷ texts) = text ++ flat_map after_semicolon texts
 
 -- how many of this many are not listed
 abbrev pub more_text : ℕ → List ℕ
@@ -103,12 +103,12 @@ fit_numbers today w numbers place (line ∷ lines) =
     then slice_index numbers place ∷ fit_numbers today w numbers (place + 1) lines
     else fit_numbers today w numbers (place + 1) lines
 
-abbrev pub behind_comma : ℕ → List ℕ
-behind_comma n = codes ", " ++ decimal n
+abbrev pub after_comma : ℕ → List ℕ
+after_comma n = codes ", " ++ decimal n
 
 abbrev pub parted_by_commas : List ℕ → List ℕ
 parted_by_commas [] = []
-parted_by_commas (n ∷ ns) = decimal n ++ flat_map behind_comma ns
+parted_by_commas (n ∷ ns) = decimal n ++ flat_map after_comma ns
 
 -- how many numbers come before the last `and`
 abbrev pub front_count : List ℕ → ℕ

@@ -9,7 +9,7 @@ ghost use Rattle.statement_lines.specs.Lookups.{elements};
 ghost use Rattle.statement_lines.specs.OpenLines.{is_named_like, is_open_fit, is_open_like};
 ghost use Rattle.statement_lines.specs.Relations.{fitted as fitted_entry, stands};
 ghost use Rattle.statement_lines.specs.Words.{further};
-ghost use Rattle.statement_match.specs.ReasonTexts.{amount_part, behind_comma, behind_semicolon, booked_part};
+ghost use Rattle.statement_match.specs.ReasonTexts.{amount_part, after_comma, after_semicolon, booked_part};
 ghost use Rattle.statement_match.specs.ReasonTexts.{claimed_text, doubled_text, entry_text, exception_part};
 ghost use Rattle.statement_match.specs.ReasonTexts.{exceptions_part, fit_numbers as numbers_of_fits, fits_another_text};
 ghost use Rattle.statement_match.specs.ReasonTexts.{fitted_part, front_count, further_if_any, last_text, more_text};
@@ -181,18 +181,18 @@ fn related_texts(
     Ok(texts)
 }
 
-fn push_behind_semicolon(out: &mut Vec<u8>, text: &OwnedBytes) -> Result<(), AllocError>
-    ensures { OnOk result (out.new.items ≡ out.old.items ++ behind_semicolon text.now) }
+fn push_after_semicolon(out: &mut Vec<u8>, text: &OwnedBytes) -> Result<(), AllocError>
+    ensures { OnOk result (out.new.items ≡ out.old.items ++ after_semicolon text.now) }
 {
     push_words(out, "; ")?;
     out.extend_from_slice(text.as_slice())
 }
 
-fn push_all_behind_semicolons(out: &mut Vec<u8>, texts: &[OwnedBytes]) -> Result<(), AllocError>
-    ensures { OnOk result (out.new.items ≡ out.old.items ++ flat_map behind_semicolon texts.now) }
+fn push_all_after_semicolons(out: &mut Vec<u8>, texts: &[OwnedBytes]) -> Result<(), AllocError>
+    ensures { OnOk result (out.new.items ≡ out.old.items ++ flat_map after_semicolon texts.now) }
 {
     for text in texts {
-        push_behind_semicolon(out, text)?;
+        push_after_semicolon(out, text)?;
     }
     Ok(())
 }
@@ -204,7 +204,7 @@ fn push_texts(out: &mut Vec<u8>, texts: &[OwnedBytes]) -> Result<(), AllocError>
         return Ok(());
     };
     out.extend_from_slice(first.as_slice())?;
-    push_all_behind_semicolons(out, others)
+    push_all_after_semicolons(out, others)
 }
 
 fn push_more(out: &mut Vec<u8>, count: usize) -> Result<(), AllocError>
@@ -280,18 +280,18 @@ fn fit_numbers(
     Ok(numbers)
 }
 
-fn push_behind_comma(out: &mut Vec<u8>, number: u64) -> Result<(), AllocError>
-    ensures { OnOk result (out.new.items ≡ out.old.items ++ behind_comma number) }
+fn push_after_comma(out: &mut Vec<u8>, number: u64) -> Result<(), AllocError>
+    ensures { OnOk result (out.new.items ≡ out.old.items ++ after_comma number) }
 {
     push_words(out, ", ")?;
     push_number(out, number)
 }
 
-fn push_all_behind_commas(out: &mut Vec<u8>, numbers: &[u64]) -> Result<(), AllocError>
-    ensures { OnOk result (out.new.items ≡ out.old.items ++ flat_map behind_comma numbers.now) }
+fn push_all_after_commas(out: &mut Vec<u8>, numbers: &[u64]) -> Result<(), AllocError>
+    ensures { OnOk result (out.new.items ≡ out.old.items ++ flat_map after_comma numbers.now) }
 {
     for number in numbers {
-        push_behind_comma(out, *number)?;
+        push_after_comma(out, *number)?;
     }
     Ok(())
 }
@@ -303,7 +303,7 @@ fn push_parted(out: &mut Vec<u8>, numbers: &[u64]) -> Result<(), AllocError>
         return Ok(());
     };
     push_number(out, *first)?;
-    push_all_behind_commas(out, others)
+    push_all_after_commas(out, others)
 }
 
 // How many numbers come before the last `and`.

@@ -1,4 +1,15 @@
 //! Names, texts and refusals of trust account records. Re-exports the values of `trust_values`.
+//!
+//! # What is promised
+//!
+//! By public call, with the clauses of its contract in brackets.
+//!
+//! - `PersonId`, `Label`, `BankText`, `LineText` `read`: the text exactly if its bytes are of the form; out of memory
+//!   only then (`value`, `form`, `err`).
+//! - `Label::is_cash`, `Label::is_firm`; `Line::is_same`, `Line::compare`: `cash` in any ASCII case between spaces;
+//!   exactly `FIRM`; equal in all five fields; the order of lines.
+//! - `Refusal::status`, `Refusal::write_json`: the status of each of the thirty refusals; its JSON text, without
+//!   memory, or, at an error, a prefix of it.
 #![tactic(auto)]
 
 mod bank_text;

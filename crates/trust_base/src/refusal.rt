@@ -1,7 +1,7 @@
 // Why something was refused.
 
 ghost use Rattle.std.specs.Prelude.{◌≡◌, ◌≤◌};
-ghost use Rattle.trust_base.specs.Refusals.{is_fault, number_of, status_of};
+ghost use Rattle.trust_base.specs.Refusals.{number_of, status_of};
 
 use crate::{CivilDay, Day, EntryNo};
 use std::alloc::{AllocError, AllocFailed};
@@ -216,15 +216,6 @@ impl Refusal {
             Refusal::Memory => 503,
             _ => 409,
         }
-    }
-}
-
-impl Refusal {
-    /// Whether it reports a fault. Only a failed store call or running out of memory causes one.
-    pub fn is_fault(&self) -> bool
-        ensures { result ≡ is_fault self.now }
-    {
-        matches!(self, Refusal::Store | Refusal::Memory)
     }
 }
 

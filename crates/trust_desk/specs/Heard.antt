@@ -11,9 +11,7 @@ use Rattle.firm_rows.specs.Firm.{Firm}
 use Rattle.statement_csv.specs.declared.item.Item.{Item}
 use Rattle.statement_csv.specs.declared.item.Item.TheVariants as item
 use Rattle.trust_desk.specs.declared.requests.Request.{Request}
-use Rattle.trust_desk.specs.declared.requests.Request.TheVariants.{Matter, Import, Match, Unmatched, Dismiss, Exceptions, Trial, Journal, Reconcile, Retention, OwnLedger}
-use Rattle.trust_desk.specs.declared.requests.Report.TheVariants as report
-use Rattle.trust_desk.specs.declared.requests.MatchText.TheVariants as texts
+use Rattle.trust_desk.specs.declared.requests.Request.TheVariants.{Matter, Import, Match, Dismiss, Report, Reconcile}
 use Rattle.trust_desk.specs.declared.requests.Reply.{Reply}
 use Rattle.trust_desk.specs.ItemStep.{names_item}
 use Rattle.trust_desk.specs.ImportStep.{import_refusal, imported}
@@ -52,14 +50,9 @@ abbrev pub kind_of : Heard → Kind
 kind_of (Asks (Matter m caller ask)) = OfMatter m caller ask
 kind_of (Asks (Import caller statement)) = OfItems (import_refusal caller statement) (imported caller statement)
 kind_of (Asks (Dismiss caller line)) = Dismisses caller line
-kind_of (Asks (Match caller statement)) = OnlyTold (match_text texts.Statement caller statement)
-kind_of (Asks (Unmatched caller statement)) = OnlyTold (match_text texts.Unmatched caller statement)
-kind_of (Asks (Exceptions caller)) = OnlyTold (report_for caller report.Exceptions)
-kind_of (Asks (Trial caller)) = OnlyTold (report_for caller report.Trial)
-kind_of (Asks (Journal caller)) = OnlyTold (report_for caller report.Journal)
+kind_of (Asks (Match caller statement text)) = OnlyTold (match_text text caller statement)
+kind_of (Asks (Report caller report)) = OnlyTold (report_for caller report)
 kind_of (Asks (Reconcile caller day)) = OnlyTold (reconciliation_for caller day)
-kind_of (Asks (Retention caller)) = OnlyTold (report_for caller report.Retention)
-kind_of (Asks (OwnLedger caller)) = OnlyTold (report_for caller report.OwnLedger)
 kind_of (Unread named refusal) = NotRead named refusal
 
 -- What names a matter, and gets a reply.

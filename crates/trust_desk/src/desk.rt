@@ -164,7 +164,7 @@ fn find_report<B: Book>(
 /// The trial balance of an empty book:
 ///
 ///     let mut desk = Desk::new(PlainBook::new(alloc));
-///     let reply = desk.answer(alloc, &Request::Trial(Caller::Cashier), today);
+///     let reply = desk.answer(alloc, &Request::Report(Caller::Cashier, Report::Trial), today);
 #[derive(Drop)]
 pub struct Desk<B: Book> {
     pub(crate) book: B,
@@ -221,24 +221,19 @@ impl<B: Book> Desk<B> {
                 self.answer_import(alloc, day, caller, statement.as_slice())
             }
             Request::Dismiss { caller, line } => self.answer_dismiss(alloc, caller, line),
-            Request::Match { caller, statement } => {
-                self.answer_match(alloc, caller, statement, MatchText::Statement, day)
-            }
-            Request::Unmatched { caller, statement } => {
-                self.answer_match(alloc, caller, statement, MatchText::Unmatched, day)
-            }
-            Request::Exceptions(caller) => self.answer_told(alloc, caller, Report::Exceptions, day),
-            Request::Trial(caller) => self.answer_told(alloc, caller, Report::Trial, day),
-            Request::Journal(caller) => self.answer_told(alloc, caller, Report::Journal, day),
+            Request::Match {
+                caller,
+                statement,
+                text,
+            } => self.answer_match(alloc, caller, statement, *text, day),
+            Request::Report(caller, report) => self.answer_report(alloc, caller, *report, day),
             Request::Reconcile(caller, as_of) => self.answer_reconciliation(alloc, caller, *as_of),
-            Request::Retention(caller) => self.answer_told(alloc, caller, Report::Retention, day),
-            Request::OwnLedger(caller) => self.answer_told(alloc, caller, Report::OwnLedger, day),
         };
         answered.unwrap_or_else(Reply::refused)
     }
 
     // Answers with a report of the firm on a business day, or says why it is refused. Nothing changes.
-    fn answer_told(
+    fn answer_report(
         &mut self,
         alloc: Global,
         caller: &Caller,

@@ -1,5 +1,90 @@
 //! The desk of the firm: it answers what callers ask about matters, and writes the reports of a firm from the rows of
 //! any book, one row at a time.
+//!
+//! # What is promised
+//!
+//! By public call, with the clauses of its contract in brackets.
+//!
+//! - within the crate `find_report`: over every book: the bytes of each report on the firm are those of the definition,
+//!   of the book's rows (`told`); nothing changes, after a crash neither (`read`).
+//! - `Desk::answer_reconciliation`: of the cashier's request: NoStatement exactly if no closing balance of the day is
+//!   kept, else PeriodPurged exactly if a matter that was closed after the day has been purged, else the text; nothing
+//!   changes, after a crash neither (`IsAnswered`, `reconciliation_for`).
+//!
+//! Each report goes over the rows one at a time, and keeps sums and what it prints; the reconciliation also keeps the
+//! payments issued and not voided by its day, of which it lists those with another's instrument, and the balances dated
+//! by its day.
+//!
+//! - `Desk::answer`: over every book: reply and rows are those of the firm's step; or the store or memory stopped it,
+//!   which the reply says with the status 503, and nothing changed, except that the first items of an import may have
+//!   been applied (`step`). The rows of every matter that the request does not concern stay (`others`); the reply is
+//!   that of the matter's own machine (`own`). The book still stands for a sound firm, and an answer of Store comes
+//!   only if a call of the book answered Store, even if a fault has shut its store, in the call or before (`kept`). **A
+//!   crash may leave what it might have left before, or the rows with the ask's change; of an import, the rows after
+//!   some prefix of its items; and after each answer but Store and Memory a settled book is settled on the rows after
+//!   the step** (`crash`; of an import if the store served as it began). Of a request to import the length, the header
+//!   and the caller are tested, in this order, before anything of it is applied.
+//! - `Desk::answer`, of reports: an ask for a matter's ledger card is answered by the card of the matter's rows, as
+//!   plain text, or by the first refusal whose condition holds. A request for a report on the firm, or for a
+//!   reconciliation, is answered by exactly the text of the definition, of the firm's rows, or by the first of
+//!   NotAllowed, NoStatement and PeriodPurged that holds. Store or Memory may stop each of them instead. None of them
+//!   changes anything, and these requests name no matter (by the same clauses). That the card's matter is read whole is
+//!   the contract of a private function.
+//! - `Desk::match_statement`: over every book: a statement whose references may be empty is refused as an import of it
+//!   would be, or becomes the two texts that the definition gives for the day and the firm's rows (`matched`); the firm
+//!   stays as it is (`same`), also after a crash (`crash`).
+//! - `Desk::check`: over every book whose store can be read as rows, **sound or not: if it finds no flaw, the rows are
+//!   those of a sound firm** (`sound`); there are as many movements, lines of the firm's own, exceptions and balances
+//!   as it says (`counts`); the book stays as it is, after a crash too (`read`). That it finds no flaw in a sound firm,
+//!   and how many matters and entries there are, is tested.
+//! - `Desk::find_unread`: it reads, and any of its reads may fail: the book stays as it is, also after a crash if the
+//!   store still serves (`reads`), as it does after an Ok (`serves`). No clause says what it finds.
+//! - `Desk::tell_exceptions`, `tell_rows`: the book stays as it is, after a crash too (`read`). No clause says what is
+//!   reported.
+//! - within the crate `Desk::apply_item` (`IsAppliedBeside`): an item of a statement, a matter's line, one of the
+//!   firm's own, or a balance, is a step of the definition, or nothing changed (`step`, `err`), if the firm's own
+//!   ledger that the import keeps, where it does, is the book's, which it then is again (`kept`); a crash may leave
+//!   what it might have left before, or the rows with the item's change, and after an Ok a settled book is settled on
+//!   these (`crash`); the book as above.
+//! - `Desk::import`: the first items of the file were applied, one after the other, and counted, and all of them if it
+//!   ends by `Done`, however the reads are cut. The firm is sound after each of them, and each matter's rows are those
+//!   that its own machine leaves after the lines among them that name it (`front`; it is tested that each is applied
+//!   before the next is read). A matter that no item names does not change (`others`). `header`, `limit` and `within`
+//!   say when the other ends come. If the store served as it began, a crash may leave what it might have left before,
+//!   or the rows after some prefix of the items, and a settled book is settled if neither the store nor memory ended it
+//!   (`crash`). What it counted are the first items even if a fault has shut the store (`shut`). The book as above.
+//! - `Desk::run`: the same of a list of requests, imports among them, and the firm is sound after each (`run`, `own`).
+//!   All were answered (`done`), or memory ran out first (`memory`): then the replies are those to the first requests,
+//!   and the rest was not begun. If the store served as it began: if no reply is Store or Memory, a settled book is
+//!   settled on the rows that the run leaves; if at most the last is, a crash may leave what it might have left before,
+//!   or the rows after some prefix of the requests, with a part of the next (`crash`). The replies before the first
+//!   that is Store or Memory are those of a run, even if a fault has shut the store (`shut`). Nothing is said of a
+//!   crash after requests that followed a fault.
+//! - `laws` `own_machine`, `two_firms`: **in every run each matter's replies, and its rows afterwards, are those of its
+//!   own machine on its own rows; two firms with the same rows of a matter, in which on the same day the same is asked
+//!   of it and the same lines name it, give it the same replies and leave it the same rows, whatever else they have and
+//!   hear**.
+//! - `laws` `never_below_zero`: from a sound firm, **no matter's ledger is below zero before or after any request of a
+//!   run and any item of an import** (`runs`); the same of the firm's own steps, if the amounts asked are in that range
+//!   (`steps`).
+//! - `laws` `sound_runs_are_runs`, `refusals_have_their_status`: what `run` promises is a run of which the other laws
+//!   speak; a reply whose body is a refusal has the refusal's status.
+//! - `laws` `once_only`, `firm_line_once`, `balance_once`: an ask that makes an entry adds at most one, and **a line of
+//!   the bank is applied at most once**, in whatever file it comes again, however often they are sent, even after a
+//!   purge: one that names an entry (`once_only`); one of the firm's own, of the same date, reference of the bank and
+//!   amount, which is a repeat from then on (`firm_line_once`); an opening or closing balance, which stays kept with
+//!   its amount, so that another of its day with that amount is a repeat, and one with another amount is an exception
+//!   for ever (`balance_once`).
+//! - `laws` `purging_changes_no_figure`: an ask to purge a matter of a sound firm, whether it is accepted or refused,
+//!   changes no figure and no list of a day whose records are complete afterwards.
+//! - `laws` `dismissing_moves_nothing`, `dismissed_once`: whoever asks to dismiss a line, and whether it is dismissed
+//!   or refused: the rows of all matters, the journal, the firm's own lines and the balances stay as they are. A line
+//!   that was dismissed is no exception, and to dismiss it again is refused.
+//! - `laws` `filled_lines_are_applied`, `filled_lines_are_in_book`, `second_match_fills_nothing`: **each line that a
+//!   match fills is applied** when what is written is imported on the same day into the same sound firm, whatever was
+//!   written before it; after that import the line is in the book already, and a match of the same lines neither fills
+//!   nor writes it again; if no line has a reference or is an exception under one, a second match fills nothing.
+//! - `laws` `every_item_is_counted`: the four counts of an import add up to the number of its items.
 #![tactic(auto)]
 
 mod checking;
@@ -20,7 +105,7 @@ pub use desk::Desk;
 pub use firm_audit::Flaw;
 pub use importing::{Counted, ImportEnd, ImportStop};
 pub use matter_bodies::{ImportReply, entry_body, import_body, matter_body, receipt_body};
-pub use requests::{Body, End, Reply, Request, RunEnd};
+pub use requests::{Body, End, MatchText, Reply, Report, Request, RunEnd};
 pub use statement_match::Matched;
 pub use trust_base::OwnedBytes;
 pub use unread::Unread;

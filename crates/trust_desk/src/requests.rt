@@ -8,6 +8,30 @@ use std::alloc::Global;
 use trust_base::{Day, Field, Line, MAX_FILE_BYTES, MatterNo, OwnedBytes, Refusal, Rule};
 use trust_matter::{Ask, Caller};
 
+/// A report on the whole firm on a business day. The cashier is refused none of these.
+#[derive(Clone, Copy, PartialEq, Eq, Debug)]
+pub enum Report {
+    /// The exceptions: the unmatched bank lines.
+    Exceptions,
+    /// The trial balance: the ledger of each open matter, the firm's own, and their sum.
+    Trial,
+    /// The journal: all movements in the order of acceptance.
+    Journal,
+    /// The retention list: how long the records of each closed matter are kept.
+    Retention,
+    /// The ledger card of the firm's own money.
+    OwnLedger,
+}
+
+/// One of the two texts that matching a statement gives.
+#[derive(Clone, Copy, PartialEq, Eq, Debug)]
+pub enum MatchText {
+    /// The statement for the import.
+    Statement,
+    /// What a person has to look at, and the counts.
+    Unmatched,
+}
+
 /// A request to the desk.
 pub enum Request {
     /// A caller asks something of one matter.
@@ -26,28 +50,16 @@ pub enum Request {
         caller: Caller,
         line: Line,
     },
-    /// A caller sends in a statement whose references may be empty, and asks for the one for the import.
+    /// A caller sends in a statement whose references may be empty, and asks for a text that matching it gives.
     Match {
         caller: Caller,
         statement: OwnedBytes,
+        text: MatchText,
     },
-    /// A caller sends in such a statement, and asks what in it a person has to look at.
-    Unmatched {
-        caller: Caller,
-        statement: OwnedBytes,
-    },
-    /// A caller asks for the unmatched bank lines.
-    Exceptions(Caller),
-    /// A caller asks for the trial balance: the ledger of each open matter, the firm's own, and their sum.
-    Trial(Caller),
-    /// A caller asks for the journal: all movements in the order of acceptance.
-    Journal(Caller),
+    /// A caller asks for a report on the firm.
+    Report(Caller, Report),
     /// A caller asks for the three-way reconciliation as of a day.
     Reconcile(Caller, Day),
-    /// A caller asks how long the records of each closed matter are kept.
-    Retention(Caller),
-    /// A caller asks for the ledger card of the firm's own money.
-    OwnLedger(Caller),
 }
 
 impl Drop for Request {
@@ -65,21 +77,13 @@ impl Drop for Request {
             | Request::Match {
                 caller: _caller,
                 statement: _statement,
-            }
-            | Request::Unmatched {
-                caller: _caller,
-                statement: _statement,
+                text: _,
             } => (),
             Request::Dismiss {
                 caller: _caller,
                 line: _line,
             } => (),
-            Request::Exceptions(_caller)
-            | Request::Trial(_caller)
-            | Request::Journal(_caller)
-            | Request::Reconcile(_caller, _)
-            | Request::Retention(_caller)
-            | Request::OwnLedger(_caller) => (),
+            Request::Report(_caller, _) | Request::Reconcile(_caller, _) => (),
         }
     }
 }
@@ -112,30 +116,6 @@ pub(crate) fn check_import(alloc: Global, caller: &Caller, bytes: &[u8]) -> Resu
         return Err(Refusal::NotAllowed(Rule::Firm));
     }
     Ok(())
-}
-
-/// A report on the whole firm on a business day.
-#[derive(Clone, Copy)]
-pub(crate) enum Report {
-    /// The unmatched bank lines.
-    Exceptions,
-    /// The trial balance.
-    Trial,
-    /// The journal.
-    Journal,
-    /// The retention list.
-    Retention,
-    /// The ledger card of the firm's own money.
-    OwnLedger,
-}
-
-/// One of the two texts that matching a statement returns.
-#[derive(Clone, Copy)]
-pub(crate) enum MatchText {
-    /// The statement for the import.
-    Statement,
-    /// What a person has to look at, and the counts.
-    Unmatched,
 }
 
 /// The body of a reply.

@@ -6,8 +6,8 @@ ghost use Rattle.trust_store.specs.Calls.{IsRead};
 
 use crate::desk::Desk;
 use firm_rows::{
-    BalanceKind, BalanceSink, ExceptionSink, FirmLine, FirmLineSink, MatterRow, MatterRowSink,
-    Movement, MovementSink, StatementRow,
+    BalanceKind, BalanceRow, BalanceSink, ExceptionSink, FirmLine, FirmLineSink, MatterRow,
+    MatterRowSink, Movement, MovementSink,
 };
 use std::alloc::{AllocError, Global};
 use std::marker::Model;
@@ -141,7 +141,7 @@ impl FirmLineSink for RowsSeen {
 impl BalanceSink for RowsSeen {
     ghost balanced = { λ seen row. seen };
 
-    fn balance(&mut self, _row: &StatementRow) -> Result<(), AllocError> {
+    fn balance(&mut self, _row: &BalanceRow) -> Result<(), AllocError> {
         self.see();
         Ok(())
     }
@@ -173,7 +173,7 @@ fn has_front<B: Book>(alloc: Global, book: &mut B, matter: MatterNo) -> Result<b
 }
 
 // Returns the row after the last readable row of a matter, which was its head, a seat or this entry.
-fn row_behind<B: Book>(
+fn row_after<B: Book>(
     alloc: Global,
     book: &mut B,
     matter: MatterNo,
@@ -203,7 +203,7 @@ fn unread_row<B: Book>(
         return Ok(None);
     }
     match seen.last {
-        Some((matter, after)) => row_behind(alloc, book, matter, after).map(Some),
+        Some((matter, after)) => row_after(alloc, book, matter, after).map(Some),
         None => Ok(Some(Unread::Head(None))),
     }
 }

@@ -2,7 +2,7 @@
 use Rattle.trust_matter.proofs.Names.{ALine, AnAsk, AskRepeat, AskUnchanged, Asked, BankLine, Bool, DatedEdit, Doing, Edit, Facts, Head, IsApplied, IsSameLine, LineRepeat, LineUnchanged, List, None, Option, PurgedStays, Reason, Refusal, Rows, Some, StubIsSound, [], after, after_doing, after_line_effect, all_after, closed_on, cond, dated_by, edit_on, entry_at, facts_of, false, false≢true, first, first_reason, inl, inr, is_gone, is_line_again, is_purged, is_repeat, is_some, last_of, line_facts, line_on, matched, number_made, reasons, refl, refusal, refusal_of, rows_after, rows_after_line, sym, true, ℕ, ⊎_elim, ◌∙◌, ◌∷◌, ◌≡◌, arith, ints, nat_tests, stub_rows}
 use Rattle.trust_matter.specs.declared.line_verdict.LineEffect.TheVariants as told
 use Rattle.trust_matter.proofs.Repeats.{IsSpent, Leaves, LeavesOrGoes, same-leaves, further, doing-leaves, is-spent}
-use Rattle.trust_matter.proofs.StepForms.{rows-clear}
+use Rattle.trust_matter.proofs.StepForms.{rows-purge}
 use Rattle.trust_matter.proofs.LineRepeats.{IsLineSpent, applied-now, again-same, line-spent}
 
 -- A purged matter.
@@ -116,4 +116,4 @@ line-repeat rows l again today later between applied same kept =
 -- The stub.
 
 pub stub-is-sound : StubIsSound
-stub-is-sound day rows sound closed le = grind (arith, ints, nat_tests, closed_on, last_of, stub_rows, rows-clear)
+stub-is-sound day rows sound closed le = grind (arith, ints, nat_tests, closed_on, last_of, stub_rows, rows-purge)

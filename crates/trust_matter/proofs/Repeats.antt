@@ -43,7 +43,7 @@ abbrev LeavesIn : List Entry → Edit → Type 0
 LeavesIn es (edit.Exchange x) =
     (old : Entry) × IsExchange es x old × ((line : Line) → is_line_again (Some old) line ≡ true → is_line_again
     (Some x.entry) line ≡ true)
-LeavesIn es (edit.Clear day) = ⊥
+LeavesIn es (edit.Purge day) = ⊥
 LeavesIn es _ = Unit {0}
 
 edit-leaves : (rows : Rows) (e : Edit) (last : ℕ) → LeavesIn rows.entries e → Leaves rows (changed_by e last rows)
@@ -55,7 +55,7 @@ edit-leaves rows (edit.Exchange x) last is =
       grows = ([], same ∙ sym (append-nil (made_in rows)));
       cleared = λ line n h. with-keeps line rows.entries x.number is.0 x.entry is.1.there (is.2 line) n h;
     }
-edit-leaves rows (edit.Clear day) last is = absurd is
+edit-leaves rows (edit.Purge day) last is = absurd is
 edit-leaves rows e last is = same-leaves rows (changed_by e last rows) refl
 
 -- the line is a repeat of one of a deposit's lines, in this state

@@ -15,8 +15,8 @@ rows-seats : (h : Head) (seats new : List Seat) (es : List Entry) (last : ℕ) �
 rows-seats h seats new es last s unclosed later seated = grind (arith, nat_tests, dated-later, not-closed, not-bare)
 
 -- the matter is purged, once it was closed
-pub rows-clear : (h : Head) (seats : List Seat) (es : List Entry) (day : ℕ) → Sound (rows-of (Some h) seats es) → IsSome h.closed → h.last ≤ day → Sound (changed_by (edit.Clear day) day (rows-of (Some h) seats es))
-rows-clear h seats es day s closed later = grind (arith, nat_tests, backed-none)
+pub rows-purge : (h : Head) (seats : List Seat) (es : List Entry) (day : ℕ) → Sound (rows-of (Some h) seats es) → IsSome h.closed → h.last ≤ day → Sound (changed_by (edit.Purge day) day (rows-of (Some h) seats es))
+rows-purge h seats es day s closed later = grind (arith, nat_tests, backed-none)
 
 -- What an edit moves.
 
@@ -123,5 +123,5 @@ step-close h seats es c day s unclosed later empty = grind (arith, nat_tests, bo
 pub either-false : (a b : Bool) → (a || b) ≡ false → (a ≡ false) × (b ≡ false)
 either-false a b h = grind (arith, nat_tests)
 
-pub step-purge : (h : Head) (seats : List Seat) (es : List Entry) (c : Caller) (day : ℕ) → Sound (rows-of (Some h) seats es) → is_purged (Some h) ≡ false → h.last ≤ day → (is_none h.closed || false) ≡ false → Stepped (Some h) seats es (asked c ask.Purge day) (edit.Clear day)
-step-purge h seats es c day s kept later state = grind (arith, nat_tests, some-is, either-false, rows-clear)
+pub step-purge : (h : Head) (seats : List Seat) (es : List Entry) (c : Caller) (day : ℕ) → Sound (rows-of (Some h) seats es) → is_purged (Some h) ≡ false → h.last ≤ day → (is_none h.closed || false) ≡ false → Stepped (Some h) seats es (asked c ask.Purge day) (edit.Purge day)
+step-purge h seats es c day s kept later state = grind (arith, nat_tests, some-is, either-false, rows-purge)

@@ -79,9 +79,15 @@ fn check_caller(matter: &Matter, caller: &Caller, ask: &Ask) -> Result<(), Refus
         (λ r. first (early_conditions (kept_facts matter.now ask.now)
         (record { caller = caller.now; ask = ask.now; day = 0 })) ≡ Some r) }
 {
-    let is_unknown = match caller {
-        Caller::Cashier => matter.head().is_none() && !matches!(ask, Ask::OpenMatter(_)),
-        Caller::Person(person) => matter.role_of(person).is_none(),
+    let (role, is_unknown) = match caller {
+        Caller::Cashier => {
+            let is_opening = matches!(ask, Ask::OpenMatter(_));
+            (None, matter.head().is_none() && !is_opening)
+        }
+        Caller::Person(person) => {
+            let role = matter.role_of(person);
+            (role, role.is_none())
+        }
     };
     if is_unknown {
         return Err(Refusal::NoMatter);
@@ -104,7 +110,7 @@ fn check_caller(matter: &Matter, caller: &Caller, ask: &Ask) -> Result<(), Refus
     };
     let is_allowed = match caller {
         Caller::Cashier => !matches!(rule, Rule::Dispute | Rule::Sign),
-        Caller::Person(person) => match (matter.role_of(person), rule) {
+        Caller::Person(_) => match (role, rule) {
             (Some(_), Rule::Read) => true,
             (Some(Role::Client), Rule::Dispute) => true,
             (Some(Role::Lawyer), Rule::Claim | Rule::Propose | Rule::Sign) => true,
@@ -127,7 +133,7 @@ pub(crate) fn check_change(matter: &Matter, made: Option<EntryNo>, day: Day) -> 
     if matter.is_closed() {
         return Err(Refusal::Closed);
     }
-    if let Some(last) = matter.last_behind(day) {
+    if let Some(last) = matter.last_if_after(day) {
         return Err(Refusal::DateBackwards(last));
     }
     match made {

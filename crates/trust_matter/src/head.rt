@@ -79,7 +79,7 @@ pub(crate) fn decide_purge(matter: &Matter, day: Day) -> Result<Edit, Refusal>
     ensures { (c : AnyCaller) → AnswersLateBy (kept_facts matter.now Ask.Purge)
         (record { caller = c; ask = Ask.Purge; day = day }) result }
 {
-    if let Some(last) = matter.last_behind(day) {
+    if let Some(last) = matter.last_if_after(day) {
         return Err(Refusal::DateBackwards(last));
     }
     let Some(closed) = matter.closed_on() else {
@@ -89,5 +89,5 @@ pub(crate) fn decide_purge(matter: &Matter, day: Day) -> Result<Edit, Refusal>
     if day.get() < first.get() {
         return Err(Refusal::TooEarly(first));
     }
-    Ok(Edit::Clear(day))
+    Ok(Edit::Purge(day))
 }

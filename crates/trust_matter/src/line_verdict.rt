@@ -95,7 +95,7 @@ fn entry_cleared<'m>(matter: &'m Matter, line: &BankLine, today: Day) -> Result<
     if !kept.entry.has_its_amount(&line.line) && !is_return {
         return Err(Reason::WrongAmount);
     }
-    if is_return && (matter.last_behind(today).is_some() || !matter.covers(&kept.entry)) {
+    if is_return && (matter.last_if_after(today).is_some() || !matter.covers(&kept.entry)) {
         return Err(Reason::Uncovered);
     }
     Ok(kept)
@@ -103,7 +103,12 @@ fn entry_cleared<'m>(matter: &'m Matter, line: &BankLine, today: Day) -> Result<
 
 // The edit by which the line clears the entry or takes it back, and the matter's last day after it. No line clears a fee
 // or a claim.
-fn told(matter: &Matter, kept: &Kept, line: &BankLine, today: Day) -> Result<DatedEdit, AllocError>
+fn edit_by_line(
+    matter: &Matter,
+    kept: &Kept,
+    line: &BankLine,
+    today: Day,
+) -> Result<DatedEdit, AllocError>
     requires { kept_at matter.now line.now.entry ≡ Some kept.now }
     ensures { IfOk result (λ d. d ≡ dated_by (kept_line_facts matter.now line.now today)) }
 {
@@ -189,7 +194,7 @@ pub fn decide_line(matter: &Matter, line: &BankLine, today: Day) -> Result<LineV
         Ok(kept) => kept,
         Err(reason) => return Ok(LineVerdict::Unmatched(reason)),
     };
-    let dated = told(matter, kept, line, today)?;
+    let dated = edit_by_line(matter, kept, line, today)?;
     match change_of(matter, dated.edit, dated.last) {
         Ok(change) => Ok(LineVerdict::Applied(change)),
         Err(_) => Err(StoreFault::Store),

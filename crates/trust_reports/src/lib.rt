@@ -1,4 +1,14 @@
 //! The texts of a firm's reports and of a client's ledger card, byte for byte.
+//!
+//! # What is promised
+//!
+//! By public call, with the clauses of its contract in brackets.
+//!
+//! - `trial_text`, `journal_text`, `retention_text`, `exceptions_text`, `reconciliation_text`, `own_card_text`: append
+//!   exactly the text of the definition, line by line, or leave the vector as it was if memory is refused (`ok`,
+//!   `err`).
+//! - `ledger_card`; `laws` `whole_card_is_of_rows`: the same of a matter's ledger card (ABA Model Rule 1.15(d): a full
+//!   accounting); the card of a whole matter is that of its rows, with what is left and the balances added up anew.
 #![tactic(auto)]
 
 mod card;

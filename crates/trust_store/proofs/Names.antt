@@ -6,7 +6,7 @@ pub use Rattle.firm_rows.specs.FirmChange.{FirmChange, OfMatter}
 pub use Rattle.firm_rows.specs.FirmLines.{IsOwnBalance, as_firm_line, balance_cmp, balance_of, kept_balance, with_balance}
 pub use Rattle.firm_rows.specs.FirmSound.{FirmSound}
 pub use Rattle.firm_rows.specs.declared.ledger.FirmLine.{FirmLine}
-pub use Rattle.firm_rows.specs.declared.ledger.StatementRow.{StatementRow}
+pub use Rattle.firm_rows.specs.declared.ledger.BalanceRow.{BalanceRow}
 pub use Rattle.firm_rows.specs.declared.movement.Movement.{Movement}
 pub use Rattle.matter_parts.specs.Changes.{IsChange, MatterChange, changed}
 pub use Rattle.matter_parts.specs.Parts.{AreNumbered, IsPart, IsWhole, Part, entries_kept, entry_in, is_held, is_held_or_none, is_it, kept_at, kept_in, target_by}

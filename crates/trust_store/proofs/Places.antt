@@ -1,5 +1,5 @@
 -- What a binary search finds among lines in their order, and what a book of lists keeps then.
-use Rattle.trust_store.proofs.Names.{◌≡◌, ◌≢◌, ℕ, ◌<◌, ◌++◌, ◌∷◌, ◌+ℤ◌, None, List, [], length, get_or, Result, Ok, Err, IfOk, IfErr, sym, subst, arith, IsStrictlySortedBy, IsSearchInRange, IsBinarySearchResult, line_cmp, Line, Movement, FirmLine, StatementRow, IsOwnBalance, balance_of, balance_cmp, with_balance, kept_balance, Firm, empty_firm, with_line, without_line, own_movement, FirmSound, found-at, absent-at, rises, KeptMatter, AreKept, firm_of, StandsAt, WouldStandAt}
+use Rattle.trust_store.proofs.Names.{◌≡◌, ◌≢◌, ℕ, ◌<◌, ◌++◌, ◌∷◌, ◌+ℤ◌, None, List, [], length, get_or, Result, Ok, Err, IfOk, IfErr, sym, subst, arith, IsStrictlySortedBy, IsSearchInRange, IsBinarySearchResult, line_cmp, Line, Movement, FirmLine, BalanceRow, IsOwnBalance, balance_of, balance_cmp, with_balance, kept_balance, Firm, empty_firm, with_line, without_line, own_movement, FirmSound, found-at, absent-at, rises, KeptMatter, AreKept, firm_of, StandsAt, WouldStandAt}
 use Rattle.std.proofs.Common.{insert}
 use Rattle.trust_base.proofs.LineFacts.{line_total, line_same}
 use Rattle.firm_rows.proofs.Balances.{balance_total, none-tied}
@@ -26,10 +26,10 @@ module _ (line : Line) (lines : List Line) (up : IsStrictlySortedBy line_cmp lin
 -- What a book of lists keeps.
 
 -- a book without rows
-pub nothing_kept : (ks : List KeptMatter) (moves : List Movement) (own : List FirmLine) (lines : List Line) (balances : List StatementRow) → ks ≡ [] → moves ≡ [] → own ≡ [] → lines ≡ [] → balances ≡ [] → FirmSound empty_firm → AreKept ks moves own lines balances
+pub nothing_kept : (ks : List KeptMatter) (moves : List Movement) (own : List FirmLine) (lines : List Line) (balances : List BalanceRow) → ks ≡ [] → moves ≡ [] → own ≡ [] → lines ≡ [] → balances ≡ [] → FirmSound empty_firm → AreKept ks moves own lines balances
 nothing_kept ks moves own lines balances a b c d e sound = grind (arith, firm_of)
 
-module _ (ks : List KeptMatter) (moves : List Movement) (own : List FirmLine) (lines : List Line) (balances : List StatementRow) (kept : AreKept ks moves own lines balances) where
+module _ (ks : List KeptMatter) (moves : List Movement) (own : List FirmLine) (lines : List Line) (balances : List BalanceRow) (kept : AreKept ks moves own lines balances) where
   abbrev firm : Firm
   firm = firm_of ks moves own lines balances
 
@@ -45,10 +45,10 @@ module _ (ks : List KeptMatter) (moves : List Movement) (own : List FirmLine) (l
     firm = subst (λ (ls : List Line). FirmSound (firm_of ks moves own ls balances)) (sym is) (match-sound line firm kept.firm);
   }
 
-  pub kept_with_balance : (row : StatementRow) (after : List StatementRow) → after ≡ with_balance row balances → AreKept ks moves own lines after
+  pub kept_with_balance : (row : BalanceRow) (after : List BalanceRow) → after ≡ with_balance row balances → AreKept ks moves own lines after
   kept_with_balance row after is = record {
     matters = kept.matters;
-    firm = subst (λ (rows : List StatementRow). FirmSound (firm_of ks moves own lines rows)) (sym is) (statement-sound row firm kept.firm);
+    firm = subst (λ (rows : List BalanceRow). FirmSound (firm_of ks moves own lines rows)) (sym is) (statement-sound row firm kept.firm);
   }
 
   pub kept_with_own : (l : FirmLine) (moves' : List Movement) (own' : List FirmLine) → IsOwnBalance (balance_of own +ℤ l.amount) → moves' ≡ moves ++ own_movement l ∷ [] → own' ≡ own ++ l ∷ [] → AreKept ks moves' own' lines balances
@@ -59,7 +59,7 @@ module _ (ks : List KeptMatter) (moves : List Movement) (own : List FirmLine) (l
 
 -- What a binary search finds among balances.
 
-module _ (row : StatementRow) (rows : List StatementRow) (up : IsStrictlySortedBy balance_cmp rows) where
+module _ (row : BalanceRow) (rows : List BalanceRow) (up : IsStrictlySortedBy balance_cmp rows) where
   pub found-balance : (r : Result ℕ ℕ) → IsSearchInRange r (length rows) → IsBinarySearchResult (λ x. balance_cmp x row) rows r → IfOk r (λ i. kept_balance row.kind row.day rows ≢ None)
   found-balance (Ok i) within is = λ none. none-tied row rows i row none within (is row)
   found-balance (Err i) within is = tt

@@ -8,7 +8,7 @@ use Rattle.matter_rows.specs.Sound.{Sound}
 use Rattle.matter_parts.specs.Parts.{Part, IsWhole, entries_kept}
 use Rattle.firm_rows.specs.declared.movement.Movement.{Movement}
 use Rattle.firm_rows.specs.declared.ledger.FirmLine.{FirmLine}
-use Rattle.firm_rows.specs.declared.ledger.StatementRow.{StatementRow}
+use Rattle.firm_rows.specs.declared.ledger.BalanceRow.{BalanceRow}
 use Rattle.firm_rows.specs.Firm.{Row, EntryRow, Firm, pairs, with_line, without_line}
 use Rattle.firm_rows.specs.FirmSound.{FirmSound}
 use Rattle.trust_store.specs.declared.all_rows.AllRows.{AllRows}
@@ -51,7 +51,7 @@ pub record AreKeptWhole (ks : List KeptMatter) : Type 0 where
   pub whole : AllByRecursion IsKeptWhole ks
 
 -- the firm that has these matters, movements, lines of its own, exceptions and balances
-abbrev pub firm_of : List KeptMatter → List Movement → List FirmLine → List Line → List StatementRow → Firm
+abbrev pub firm_of : List KeptMatter → List Movement → List FirmLine → List Line → List BalanceRow → Firm
 firm_of ks movements own lines balances =
     record { rows = joined ks; movements = movements; firm_lines = own; exceptions = lines; balances = balances }
 
@@ -62,7 +62,7 @@ firm_of_all rows =
 
 -- sound matters with all their entries; together with the other rows they make a sound firm
 pub record AreKept (ks : List KeptMatter) (movements : List Movement) (own : List FirmLine) (lines : List Line)
-    (balances : List StatementRow) : Type 0 where
+    (balances : List BalanceRow) : Type 0 where
   pub matters : AreKeptWhole ks
   pub firm : FirmSound (firm_of ks movements own lines balances)
 

@@ -3,7 +3,7 @@
 ghost use Rattle.std.specs.Prelude.{◌≡◌, IfOk};
 
 use crate::plain::KeptMatter;
-use firm_rows::{FirmLine, Movement, StatementRow};
+use firm_rows::{BalanceRow, FirmLine, Movement};
 use matter_parts::Matter;
 use std::alloc::{AllocError, Global};
 use trust_base::Line;
@@ -20,7 +20,7 @@ pub struct AllRows {
     /// The exceptions, sorted.
     pub exceptions: Vec<Line>,
     /// The balances: openings before closings, each by day.
-    pub balances: Vec<StatementRow>,
+    pub balances: Vec<BalanceRow>,
 }
 
 // A row that is copied where there is memory.

@@ -6,7 +6,7 @@ ghost use Rattle.firm_rows.specs.Countable.{IsMovementInRange, IsFirmLineInRange
 ghost use Rattle.trust_store.specs.Calls.{AreHanded};
 
 use firm_rows::{
-    BalanceSink, ExceptionSink, FirmLine, FirmLineSink, Movement, MovementSink, StatementRow,
+    BalanceRow, BalanceSink, ExceptionSink, FirmLine, FirmLineSink, Movement, MovementSink,
 };
 use std::alloc::AllocError;
 use trust_base::Line;
@@ -55,7 +55,7 @@ pub fn hand_lines<S: ExceptionSink>(lines: &[Line], sink: &mut S) -> Result<(), 
 }
 
 /// Passes each balance to the sink, in order. Stops if the sink runs out of memory.
-pub fn hand_balances<S: BalanceSink>(rows: &[StatementRow], sink: &mut S) -> Result<(), AllocError>
+pub fn hand_balances<S: BalanceSink>(rows: &[BalanceRow], sink: &mut S) -> Result<(), AllocError>
     ensures { AreHanded S.balanced IsBalanceInRange rows.now result sink.old sink.new }
 {
     for row in rows {

@@ -5,7 +5,7 @@ ghost use Rattle.matter_parts.specs.declared.edit.Edit.TheVariants.{Nothing};
 ghost use Rattle.matter_parts.specs.Parts.{IsWhole, AreNumbered};
 ghost use Rattle.matter_parts.specs.Changes.{IsChange, changed};
 ghost use Rattle.firm_rows.specs.Countable.{IsRowInRange, MOST_ROWS};
-ghost use Rattle.firm_rows.specs.Firm.{empty_firm, of, joined_movement, kept_movements, moved_without, is_of_matter, pairs, head_pairs, seat_pairs, after_change, after_stray, after_match, own_movement, with_firm_line, with_statement};
+ghost use Rattle.firm_rows.specs.Firm.{empty_firm, of, joined_movement, kept_movements, moved_without, is_of_matter, pairs, head_pairs, seat_pairs, after_change, after_stray, after_match, own_movement, with_firm_line, with_balance_row};
 ghost use Rattle.firm_rows.specs.FirmLines.{IsOwnBalance, balance_of, as_firm_line, balance_row, kept_balance};
 ghost use Rattle.firm_rows.specs.FirmSound.{FirmSound};
 ghost use Rattle.trust_store.specs.Books.{FoldsFront};
@@ -20,8 +20,8 @@ use crate::exceptions::{add_line, remove_line};
 use crate::handing::{hand_balances, hand_firm_lines, hand_lines, hand_movements};
 use firm_rows::laws::{firm_stays_sound, verdicts_fit};
 use firm_rows::{
-    BalanceKind, BalanceSink, ExceptionSink, FirmLedger, FirmLine, FirmLineSink, MAX_OWN, Movement,
-    MovementSink, Owner, RowSink, StatementRow, Verdict,
+    BalanceKind, BalanceRow, BalanceSink, ExceptionSink, FirmLedger, FirmLine, FirmLineSink,
+    MAX_OWN, Movement, MovementSink, Owner, RowSink, Verdict,
 };
 use std::alloc::{AllocError, Global};
 use std::marker::Model;
@@ -45,7 +45,7 @@ pub struct PlainBook {
     movements: Vec<Movement>,
     own: FirmLedger,
     exceptions: Vec<Line>,
-    balances: Vec<StatementRow>,
+    balances: Vec<BalanceRow>,
 }
 
 impl Model for PlainBook {
@@ -121,10 +121,10 @@ impl PlainBook {
     // Stores a balance. None of its kind and day may be there yet.
     fn keep(&mut self, kind: BalanceKind, line: &Line) -> Result<(), AllocError>
         requires { kept_balance kind line.now.date (self.old).balances ≡ None }
-        ensures ok { OnOk result (self.new ≡ with_statement (balance_row kind line.now) self.old) }
+        ensures ok { OnOk result (self.new ≡ with_balance_row (balance_row kind line.now) self.old) }
         ensures err { OnErr result (self.new ≡ self.old) }
     {
-        let row = StatementRow::of(kind, line);
+        let row = BalanceRow::of(kind, line);
         add_balance(&mut self.balances, row)?;
         Ok(())
     }
@@ -410,7 +410,7 @@ fn drop_movements(movements: &mut Vec<Movement>, matter: MatterNo, edit: &Edit)
     ensures { movements.new.items ≡ kept_movements matter edit.now movements.old.items }
 {
     match edit {
-        Edit::Clear(_) => take_out(movements, matter),
+        Edit::Purge(_) => take_out(movements, matter),
         Edit::Nothing
         | Edit::Open(_)
         | Edit::Seat(_)

@@ -1,4 +1,16 @@
 //! Amounts, days and numbers of trust account records. Each value is written in exactly one way.
+//!
+//! # What is promised
+//!
+//! By public call, with the clauses of its contract in brackets.
+//!
+//! - `Cents::read`, `MatterNo::read`, `Day::read`, `EntryNo::read`, `CentsOrZero::read`, `BankAmount::read`: the value
+//!   exactly if the bytes are its text (`value`, `some`), and none if no value of the range has that text (`none`).
+//!   They take no memory.
+//! - `Day::retained_until`, `Day::first_purge_day`: the same month and day five years later, 28 February for 29
+//!   February, and the first day of the calendar after that. They take no memory, and may be after 2199.
+//! - `write_to` of these and of `CivilDay`; `write_amount`: append the value's text, or leave the vector as it was if
+//!   memory is refused (`ok`, `err`).
 #![tactic(auto)]
 
 mod bank_amount;

@@ -162,7 +162,7 @@ fn is_run(alloc: Global, nth: u64, messages: &[Piece]) -> bool {
 }
 
 #[test]
-fn a_run_goes_on_behind_a_refused_write(rt: HostRuntime) {
+fn a_run_goes_on_after_a_refused_write(rt: HostRuntime) {
     for (what, nth, messages) in REFUSED {
         assert!(rt; is_run(rt.alloc(), *nth, messages), "{what}");
     }

@@ -1,7 +1,7 @@
 // Streams, day sheets and statements under one name: each is read, and answered in bytes.
 
 use crate::trial::{TrialReader, TrialWriter};
-use cashier::{NoRemarks, SheetEnd, StatementEnd, run_import, run_sheet};
+use cashier::{NoRemarks, Outcome, SheetEnd, run_import, run_sheet};
 use portal_http::{StreamEnd, serve_stream};
 use std::alloc::Global;
 use std::io::{Read, Write};
@@ -61,14 +61,16 @@ fn of_sheet(end: SheetEnd) -> End {
     }
 }
 
-fn of_statement(end: StatementEnd) -> End {
-    match end {
-        StatementEnd::Done => End::Done,
-        StatementEnd::Refused => End::Refused,
-        StatementEnd::ReadFault => End::ReadFault,
-        StatementEnd::WriteFault => End::WriteFault,
-        StatementEnd::Store => End::Store,
-        StatementEnd::NoMemory => End::Memory,
+fn of_statement(outcome: Outcome) -> End {
+    match outcome {
+        Outcome::Done => End::Done,
+        Outcome::Refused => End::Refused,
+        Outcome::FileFault => End::ReadFault,
+        Outcome::OutputFault => End::WriteFault,
+        Outcome::StoreFault => End::Store,
+        Outcome::MemoryFault => End::Memory,
+        // No import ends so, and no test of one wants this.
+        Outcome::CommandLine | Outcome::NetworkFault => End::Limit,
     }
 }
 

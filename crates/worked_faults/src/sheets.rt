@@ -73,7 +73,7 @@ const AGAIN: &str = "409 {\"name\":\"AlreadyOpen\",\"refusal\":11}\n";
 
 // Whether the matter is open even though the line that answers its opening is cut after this many writes of four
 // bytes.
-fn is_open_behind_a_cut(alloc: Global, writes: u64) -> Result<bool, Wrong> {
+fn is_open_after_a_cut(alloc: Global, writes: u64) -> Result<bool, Wrong> {
     let day = today()?;
     let mut desk = Desk::new(PlainBook::new(alloc));
     let opening = OPENING.0.as_bytes();
@@ -98,7 +98,7 @@ fn is_open_behind_a_cut(alloc: Global, writes: u64) -> Result<bool, Wrong> {
 fn keeps_the_change_whose_line_was_cut(rt: HostRuntime) {
     for writes in 0..OPENING.1.len() as u64 / 4 {
         assert_eq!(rt;
-            is_open_behind_a_cut(rt.alloc(), writes),
+            is_open_after_a_cut(rt.alloc(), writes),
             Ok(true),
             "{writes} writes"
         );

@@ -153,7 +153,7 @@ fn reads_of_many(alloc: Global, messages: usize) -> Result<u64, Wrong> {
 }
 
 #[test]
-fn nothing_is_read_behind_the_last_answer(rt: HostRuntime) {
+fn nothing_is_read_after_the_last_answer(rt: HostRuntime) {
     for messages in [1_000, 1_001] {
         assert_eq!(rt;
             reads_of_many(rt.alloc(), messages),

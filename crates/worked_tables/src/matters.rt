@@ -1,15 +1,15 @@
-// Matters of whole rows: sound ones are accepted, and no others. Each row can be read by itself.
+// Matters of whole rows: sound ones are told to be sound, and no others. Each row can be read by itself.
 
 use crate::entries::{CANCELLED, CLAIM, CLEARED, FEE, ON_FEE, PROPOSED};
 use crate::table::Became::{Read, Store};
 use crate::table::{Became, Row, Stored, check, of_result};
-use matter_parts::{Figures, Kept, Matter, balances, claim_left, fee_left};
-use matter_rows::{Entry, Head, Seat};
+use matter_parts::{Figures, Kept, Matter, balances, claim_left, fee_left, is_sound_whole};
+use matter_rows::{Entry, Head, Seat, sums_of};
 use sql_rows::{entry_of, head_of, seat_of};
 use sql_tables::{EntryColumns, HeadColumns, SeatColumns};
 use std::alloc::Global;
 use std::process::Abort;
-use trust_base::{EntryNo, MatterNo, StoreFault};
+use trust_base::{EntryNo, MAX_ENTRY, MatterNo, StoreFault};
 
 // All rows of a matter: its head, the lawyers of its seats, and its entries in order.
 #[derive(Clone, Copy)]
@@ -56,12 +56,72 @@ fn push<T: Drop>(items: &mut Vec<T>, item: T) -> Result<(), StoreFault> {
     }
 }
 
-// Returns the matter of these rows, or `None` if one of them cannot be read.
+// The totals of these entries. There are a few, and none of their sums is below zero.
+fn figures_of(entries: &[Entry]) -> Option<Figures> {
+    if entries.len() > MAX_ENTRY as usize {
+        return None;
+    }
+    let sums = sums_of(entries);
+    Some(Figures {
+        entries: entries.len() as u64,
+        pending: sums.pending.unsigned_abs(),
+        held: sums.held.unsigned_abs(),
+        available: sums.available.unsigned_abs(),
+        disputed: sums.disputed.unsigned_abs(),
+        fees: sums.fees.unsigned_abs(),
+        claims: sums.claims.unsigned_abs(),
+    })
+}
+
+// What the entries leave of the one with this number, in cents.
+fn left_of(entries: &[Entry], number: EntryNo, entry: &Entry) -> u64 {
+    let mut left = entry.worth();
+    for other in entries {
+        let Some(target) = other.target() else {
+            continue;
+        };
+        if target.get() == number.get() {
+            left = left.wrapping_sub(other.draw());
+        }
+    }
+    left.unsigned_abs()
+}
+
+fn kept_in(alloc: Global, entries: Vec<Entry>) -> Option<Vec<Kept>> {
+    if entries.len() > MAX_ENTRY as usize {
+        return None;
+    }
+    let mut all = Vec::new(alloc);
+    for place in 0..entries.len() {
+        let number = EntryNo::from_number((place + 1) as u16)?;
+        let left = left_of(entries.as_slice(), number, &entries[place]);
+        let entry = entries[place].copied().ok()?;
+        let kept = Kept {
+            number,
+            left,
+            entry,
+        };
+        push(&mut all, kept).ok()?;
+    }
+    Some(all)
+}
+
+// Returns the matter of these rows, or `Store` if they are not sound; `None` if one of them cannot be read.
 fn made(alloc: Global, matter: MatterNo, whole: &Whole) -> Option<Result<Matter, StoreFault>> {
     let head = head_in(alloc, whole).ok()?;
     let seats = seats_in(alloc, matter, whole).ok()?;
     let entries = entries_in(alloc, matter, whole).ok()?;
-    Some(Matter::of_rows(alloc, head, seats, entries.as_slice()))
+    let figures = figures_of(entries.as_slice())?;
+    let kept = kept_in(alloc, entries)?;
+    let made = match Matter::of_part(head, seats, figures, kept) {
+        Ok(made) => made,
+        Err(fault) => return Some(Err(fault)),
+    };
+    if is_sound_whole(alloc, &made).ok()? {
+        Some(Ok(made))
+    } else {
+        Some(Err(StoreFault::Store))
+    }
 }
 
 impl Stored for Whole {

@@ -218,7 +218,7 @@ fn push(pictures: &mut Vec<Vec<u8>>, picture: Vec<u8>) -> Result<(), Wrong> {
 }
 
 // Sends messages, and returns what is then shown, as of version 2. Fails if one of them is not accepted.
-fn shown_behind(
+fn shown_after(
     alloc: Global,
     desk: &mut Desk<PlainBook>,
     messages: &[&str],
@@ -234,7 +234,7 @@ fn shown_behind(
 pub(crate) fn pictures_of(alloc: Global, work: &Work) -> Result<Vec<Vec<u8>>, Wrong> {
     let mut desk = Desk::new(PlainBook::new(alloc));
     let mut pictures = Vec::new(alloc);
-    let first = shown_behind(alloc, &mut desk, work.before)?;
+    let first = shown_after(alloc, &mut desk, work.before)?;
     match work.start {
         Start::Empty => push(&mut pictures, Vec::new(alloc))?,
         Start::Book => {}
@@ -242,7 +242,7 @@ pub(crate) fn pictures_of(alloc: Global, work: &Work) -> Result<Vec<Vec<u8>>, Wr
     }
     push(&mut pictures, first)?;
     for part in work.parts {
-        push(&mut pictures, shown_behind(alloc, &mut desk, &[*part])?)?;
+        push(&mut pictures, shown_after(alloc, &mut desk, &[*part])?)?;
     }
     Ok(pictures)
 }

@@ -1,6 +1,6 @@
 // Warnings about accepted records that may not mean what was intended.
 
-use crate::record::{Verb, field_bytes, read_verb};
+use crate::record::{Verb, field_bytes, form_of};
 use crate::remarks::excerpt::Excerpt;
 use crate::remarks::fields::text_at;
 use csv::ByteRecord;
@@ -66,7 +66,7 @@ fn place_in_single_quotes(row: &ByteRecord) -> Option<usize> {
 
 // Whether a record proposes a payment from the general fund to a payee that is written almost like the firm.
 fn is_almost_to_firm(row: &ByteRecord) -> bool {
-    matches!(read_verb(field_bytes(row, 0)), Some(Verb::Propose))
+    matches!(form_of(row), Some(form) if form.verb == Verb::Propose)
         && field_bytes(row, 4) == b"general".as_slice()
         && field_bytes(row, 6)
             .trim_ascii()

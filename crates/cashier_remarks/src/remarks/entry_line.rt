@@ -125,7 +125,7 @@ fn fault_of_matter(matter: &Matter) -> EntryFault {
 
 // The fault for a line that would take a deposit back, but may not.
 fn fault_of_return(matter: &Matter, today: Day) -> EntryFault {
-    match matter.last_behind(today) {
+    match matter.last_if_after(today) {
         Some(last) => EntryFault::WorkOf(last),
         None => EntryFault::Uncovered,
     }

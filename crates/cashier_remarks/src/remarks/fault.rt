@@ -1,12 +1,11 @@
 // What is wrong with a record that can't be read.
 
-use crate::record::{Verb, count_of, field_bytes, is_dismissal, is_text, names_entry, read_verb};
+use crate::record::{Verb, VerbForm, field_bytes, form_of, is_dismissal, is_text};
 use crate::remarks::excerpt::Excerpt;
 use crate::remarks::fields::{form_of as form_of_field, noun_of, place_of, text_at};
 use crate::remarks::line_fault::{LineFault, fault_of_dismissed};
 use crate::remarks::sum_meant::{sum_meant, sum_of_two};
 use crate::remarks::verb_fault::{VerbFault, fault_of_verb};
-use crate::remarks::verbs::{form_of, name_of};
 use csv::ByteRecord;
 use std::fmt;
 use trust_base::{BankAmount, Field, MAX_AMOUNT};
@@ -19,15 +18,15 @@ pub enum RecordFault<'a> {
     /// The first field is not a verb of a sheet.
     NoVerb(VerbFault<'a>),
     /// The record has this many fields, more than the verb takes.
-    TooMany(Verb, usize),
+    TooMany(&'static VerbForm, usize),
     /// The record has this many fields, more than the verb takes, because this amount was written with a comma.
-    Comma(Verb, usize, BankAmount),
+    Comma(&'static VerbForm, usize, BankAmount),
     /// The record has this many fields, more than the verb takes; the extra ones are empty.
-    Padded(Verb, usize),
+    Padded(&'static VerbForm, usize),
     /// The record has this many fields, fewer than the verb takes.
-    TooFew(Verb, usize),
+    TooFew(&'static VerbForm, usize),
     /// The verb takes no entry, but one is given.
-    NeedlessEntry(Verb),
+    NeedlessEntry(&'static VerbForm),
     /// The record does not have the fields of a line to dismiss.
     NoLine,
     /// The record has the fields of a line to dismiss, but one is invalid.
@@ -80,8 +79,8 @@ pub fn first_not_text(row: &ByteRecord) -> usize {
 }
 
 // The amount that was written with a comma, and so became two fields.
-fn amount_with_comma(verb: Verb, row: &ByteRecord) -> Option<BankAmount> {
-    match verb {
+fn amount_with_comma(form: &VerbForm, row: &ByteRecord) -> Option<BankAmount> {
+    match form.verb {
         Verb::Deposit | Verb::Propose | Verb::Claim | Verb::Award => {
             sum_of_two(text_at(row, 3), text_at(row, 4))
         }
@@ -90,25 +89,25 @@ fn amount_with_comma(verb: Verb, row: &ByteRecord) -> Option<BankAmount> {
 }
 
 // The fault for too many fields.
-fn fault_of_many<'a>(verb: Verb, row: &ByteRecord) -> RecordFault<'a> {
-    match amount_with_comma(verb, row) {
-        Some(amount) => RecordFault::Comma(verb, row.len(), amount),
-        None => RecordFault::TooMany(verb, row.len()),
+fn fault_of_many<'a>(form: &'static VerbForm, row: &ByteRecord) -> RecordFault<'a> {
+    match amount_with_comma(form, row) {
+        Some(amount) => RecordFault::Comma(form, row.len(), amount),
+        None => RecordFault::TooMany(form, row.len()),
     }
 }
 
 // The fault for a wrong number of fields, if it is wrong.
-fn fault_of_count<'a>(verb: Verb, row: &ByteRecord) -> Option<RecordFault<'a>> {
+fn fault_of_count<'a>(form: &'static VerbForm, row: &ByteRecord) -> Option<RecordFault<'a>> {
     let found = row.len();
-    let wanted = count_of(verb);
+    let wanted = form.field_count;
     if found < wanted {
-        Some(RecordFault::TooFew(verb, found))
+        Some(RecordFault::TooFew(form, found))
     } else if found == wanted {
         None
     } else if is_empty_from(row, wanted) {
-        Some(RecordFault::Padded(verb, found))
+        Some(RecordFault::Padded(form, found))
     } else {
-        Some(fault_of_many(verb, row))
+        Some(fault_of_many(form, row))
     }
 }
 
@@ -126,14 +125,14 @@ fn fault_of_form(row: &ByteRecord) -> RecordFault<'_> {
     if is_dismissal(row) {
         return fault_of_dismissal(row);
     }
-    let Some(verb) = read_verb(field_bytes(row, 0)) else {
+    let Some(form) = form_of(row) else {
         return RecordFault::NoVerb(fault_of_verb(row));
     };
-    if let Some(fault) = fault_of_count(verb, row) {
+    if let Some(fault) = fault_of_count(form, row) {
         return fault;
     }
-    if !names_entry(verb) && !field_bytes(row, 2).is_empty() {
-        return RecordFault::NeedlessEntry(verb);
+    if !form.names_entry && !field_bytes(row, 2).is_empty() {
+        return RecordFault::NeedlessEntry(form);
     }
     RecordFault::NotText(first_not_text(row))
 }
@@ -174,8 +173,12 @@ pub fn fault_of(row: &ByteRecord, field: Field) -> RecordFault<'_> {
 }
 
 // Writes how many fields a verb takes, and how many there are.
-fn write_count<W: fmt::Write>(f: &mut fmt::Formatter<W>, verb: Verb, found: usize) -> fmt::Result {
-    let (name, count) = (name_of(verb), count_of(verb));
+fn write_count<W: fmt::Write>(
+    f: &mut fmt::Formatter<W>,
+    form: &VerbForm,
+    found: usize,
+) -> fmt::Result {
+    let (name, count) = (form.name, form.field_count);
     write!(f, "{name} takes {count} fields, {found} are here: ")
 }
 
@@ -197,22 +200,22 @@ impl RecordFault<'_> {
     // Writes about numbers of fields, and about amounts.
     fn write_numbers<W: fmt::Write>(&self, f: &mut fmt::Formatter<W>) -> fmt::Result {
         match *self {
-            RecordFault::TooMany(verb, found) => {
-                write_count(f, verb, found)?;
-                let form = form_of(verb);
-                write!(f, "{form}, and a field with a comma in double quotes")
+            RecordFault::TooMany(form, found) => {
+                write_count(f, form, found)?;
+                let pattern = form.pattern;
+                write!(f, "{pattern}, and a field with a comma in double quotes")
             }
-            RecordFault::Comma(verb, found, amount) => {
-                write_count(f, verb, found)?;
+            RecordFault::Comma(form, found, amount) => {
+                write_count(f, form, found)?;
                 write!(f, "write the amount without a comma, {amount}")
             }
-            RecordFault::Padded(verb, found) => {
-                write_count(f, verb, found)?;
+            RecordFault::Padded(form, found) => {
+                write_count(f, form, found)?;
                 f.write_str("take the empty ones off its end")
             }
-            RecordFault::TooFew(verb, found) => {
-                write_count(f, verb, found)?;
-                f.write_str(form_of(verb))
+            RecordFault::TooFew(form, found) => {
+                write_count(f, form, found)?;
+                f.write_str(form.pattern)
             }
             RecordFault::NoAmount(text, amount) => {
                 write!(f, "{text} is no amount: write {amount}")
@@ -233,8 +236,8 @@ impl fmt::Display for RecordFault<'_> {
                 "a double quote is opened here and not closed in its line: close it, or take it away",
             ),
             RecordFault::NoVerb(fault) => fault.fmt(f),
-            RecordFault::NeedlessEntry(verb) => {
-                let name = name_of(*verb);
+            RecordFault::NeedlessEntry(form) => {
+                let name = form.name;
                 write!(f, "{name} names no entry: its third field stays empty")
             }
             RecordFault::NoLine => f.write_str(

@@ -1,6 +1,6 @@
 // Remarks about a statement with another header.
 
-use crate::record::{field_bytes, is_dismissal, read_verb};
+use crate::record::{form_of, is_dismissal};
 use crate::remarks::line_fault::HEADER;
 use crate::remarks::plain::Plain;
 use crate::remarks::rereading::Found;
@@ -39,7 +39,7 @@ pub fn remark_on_header(found: Found<'_>) -> HeaderRemark<'_> {
     let (line, here) = (found.line, first_line(found.rest));
     if is_no_text(here) {
         HeaderRemark::NotText { line }
-    } else if is_dismissal(found.row) || read_verb(field_bytes(found.row, 0)).is_some() {
+    } else if is_dismissal(found.row) || form_of(found.row).is_some() {
         HeaderRemark::Sheet { line }
     } else {
         HeaderRemark::Other {

@@ -4,7 +4,7 @@ ghost use Rattle.std.specs.Prelude.{◌≡◌, true};
 
 use crate::remarks::{Remark, Remarks};
 use command_line::{Plan, Task};
-use firm_rows::{BalanceSink, ExceptionSink, FirmLine, FirmLineSink, RowSink, StatementRow};
+use firm_rows::{BalanceRow, BalanceSink, ExceptionSink, FirmLine, FirmLineSink, RowSink};
 use std::alloc::AllocError;
 use std::marker::Model;
 use trust_base::{EntryNo, Line, MatterNo};
@@ -70,7 +70,7 @@ impl FirmLineSink for RowSeen {
 impl BalanceSink for RowSeen {
     ghost balanced = { λ _ _. true };
 
-    fn balance(&mut self, _row: &StatementRow) -> Result<(), AllocError> {
+    fn balance(&mut self, _row: &BalanceRow) -> Result<(), AllocError> {
         self.has_come = true;
         Ok(())
     }

@@ -154,7 +154,7 @@ pub fn fault_of_line(row: &ByteRecord) -> LineFault<'_> {
     }
 }
 
-// How a field is written: of an empty one, of another one, and what comes behind that.
+// How a field is written: of an empty one, of another one, and what comes after that.
 #[derive(Clone, Copy)]
 struct Form {
     noun: &'static str,

@@ -1,6 +1,6 @@
 // Remarks about refused records, and what to do.
 
-use crate::record::{Verb, field_bytes, is_dismissal, read_verb};
+use crate::record::{Verb, form_of, is_dismissal};
 use crate::remarks::fields::text_at;
 use csv::ByteRecord;
 use std::fmt;
@@ -24,7 +24,7 @@ pub struct RefusedRecord<'a> {
 impl<'a> RefusedRecord<'a> {
     /// Makes the remark about a record with this refusal.
     pub fn new(row: &'a ByteRecord, refusal: Refusal) -> RefusedRecord<'a> {
-        let verb = read_verb(field_bytes(row, 0));
+        let verb = form_of(row).map(|form| form.verb);
         let needed = if matches!(verb, Some(Verb::Propose)) {
             5
         } else {

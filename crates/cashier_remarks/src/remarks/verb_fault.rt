@@ -3,7 +3,7 @@
 use crate::record::field_bytes;
 use crate::remarks::excerpt::Excerpt;
 use crate::remarks::line_fault::is_of_statement;
-use crate::remarks::verbs::{Asker, VERBS, asker_of, verb_meant};
+use crate::remarks::verbs::{Asker, asker_of, verb_meant, write_verbs};
 use csv::ByteRecord;
 use std::fmt;
 
@@ -61,13 +61,10 @@ pub fn fault_of_verb(row: &ByteRecord) -> VerbFault<'_> {
     }
 }
 
-// Writes that there is no such verb, and what to do.
-fn write_no_verb<W: fmt::Write>(
-    f: &mut fmt::Formatter<W>,
-    name: Excerpt<'_>,
-    words: &str,
-) -> fmt::Result {
-    write!(f, "{name} is no verb: {words}")
+// Writes that there is no such verb, and which there are.
+fn write_no_verb<W: fmt::Write>(f: &mut fmt::Formatter<W>, name: Excerpt<'_>) -> fmt::Result {
+    write!(f, "{name} is no verb: ")?;
+    write_verbs(f)
 }
 
 impl fmt::Display for VerbFault<'_> {
@@ -90,8 +87,10 @@ impl fmt::Display for VerbFault<'_> {
                 )
             }
             VerbFault::Meant(name, verb) => write!(f, "{name} is no verb: write {verb}"),
-            VerbFault::NoCommas(name) => write_no_verb(f, name, "put commas between the fields"),
-            VerbFault::NoVerb(name) => write_no_verb(f, name, VERBS),
+            VerbFault::NoCommas(name) => {
+                write!(f, "{name} is no verb: put commas between the fields")
+            }
+            VerbFault::NoVerb(name) => write_no_verb(f, name),
         }
     }
 }

@@ -2,7 +2,7 @@ use Rattle.std.proofs.lemmas.Grind.{common_steps}
 use Rattle.std.proofs.lemmas.Result.{MatchResult-from_err}
 use Rattle.matter_parts.proofs.Names.{◌≡◌, ◌∙◌, None, Some, ap, arith, ints, is_some, ExchangeMoved}
 use Rattle.matter_parts.proofs.Moving.{append-written, events-counted, exchange-written, written-append, written-exchange, word}
-use Rattle.matter_parts.proofs.change.change_of.Goals.{in-Append+else-get-entries+in_ok-moves-in-Append, in-Exchange+in_ok-kept-in-Exchange+in_ok-moves-in-Exchange, in-Clear, in-Nothing}
+use Rattle.matter_parts.proofs.change.change_of.Goals.{in-Append+else-get-entries+in_ok-moves-in-Append, in-Exchange+in_ok-kept-in-Exchange+in_ok-moves-in-Exchange, in-Purge, in-Nothing}
 use Rattle.matter_parts.proofs.change.change_of.Goals as goal
 
 pub returns-in_err-moves-in-Append-clause-store : goal.returns-in_err-moves-in-Append-clause-store
@@ -34,6 +34,6 @@ returns-clause-ok c = elim c.match-edit.branch [
       (w.is_some-second.ensures ∙ ap is_some w.event-in-Exchange-2.ensures) in
       let moved : ExchangeMoved c.args.matter.now w.in-Exchange.new w.in_ok-kept-in-Exchange.kept.now w.in_ok-moves-in-Exchange.moves = grind (arith, ints, written-exchange, word) in
       grind (arith, common_steps)
-  | in-Clear w ↦ grind (arith, common_steps)
+  | in-Purge w ↦ grind (arith, common_steps)
   | in-Nothing w ↦ grind (arith, common_steps)
 ]

@@ -1,5 +1,5 @@
 use Rattle.sql_tables.proofs.Names.{rules}
-use Rattle.sql_tables.specs.declared.statements.Statement.TheVariants as statement
+use Rattle.sql_tables.specs.declared.statements.SqlStatement.TheVariants as statement
 use Rattle.sql_tables.proofs.ScriptLemmas.{performed}
 use Rattle.sql_tables.proofs.statements.perform.Goals as goal
 

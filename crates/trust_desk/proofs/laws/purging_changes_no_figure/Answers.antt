@@ -12,13 +12,13 @@ use Rattle.trust_desk.proofs.laws.purging_changes_no_figure.Goals as goal
 -- what a purge leaves is the head alone: no entry, so no total, nothing that is left and nothing that moves
 abbrev purge_of : ℕ → ℕ → MatterChange
 purge_of day last = record {
-  edit = edit.Clear day;
+  edit = edit.Purge day;
   last = last;
   moves = record { figures = no_figures; left = 0; other = None };
   movement = None;
 }
 
-is-change : (rows : Rows) (day last : ℕ) → IsKept rows (edit.Clear day) last → IsChange rows (purge_of day last)
+is-change : (rows : Rows) (day last : ℕ) → IsKept rows (edit.Purge day) last → IsChange rows (purge_of day last)
 is-change rows day last kept = grind (arith, ints, nat_tests, figures-none)
 
 -- what a caller asks on the day
@@ -29,8 +29,8 @@ by-refusal : (day p m : ℕ) (caller : Caller) (firm : Firm) (o : Option Refusal
     → is_period_purged p (after_asked o m (purge_ask day caller) firm) ≡ false → IsReportedAsBefore p firm (after_asked o m (purge_ask day caller) firm)
 by-refusal day p m caller firm (Some r) sound told whole = record { figures = refl; lists = record { transit = refl; out = refl; early = refl; exceptions = refl } }
 by-refusal day p m caller firm None sound accepted whole =
-    let last : ℕ = last_after (of m firm).head (edit.Clear day) day in
-    let kept : IsKept (of m firm) (edit.Clear day) last = kept-by_step (step (of m firm) (purge_ask day caller) (sound.matters m) tt accepted) in
+    let last : ℕ = last_after (of m firm).head (edit.Purge day) day in
+    let kept : IsKept (of m firm) (edit.Purge day) last = kept-by_step (step (of m firm) (purge_ask day caller) (sound.matters m) tt accepted) in
     let purge : IsPurge m firm (purge_of day last) = record { fits = is-change (of m firm) day last kept; day = day; clears = refl } in
     record {
       figures = no_figure-left sound-covered p m (purge_of day last) firm sound purge whole;

@@ -1,5 +1,5 @@
 use Rattle.matter_parts.proofs.Names.{sym, ◌∙◌, arith, held, whole}
-use Rattle.matter_parts.proofs.Applied.{after-append, after-exchange, after-nothing, after-open, after-seat, after-unseat, after-close, after-clear, ok-map, ok-both}
+use Rattle.matter_parts.proofs.Applied.{after-append, after-exchange, after-nothing, after-open, after-seat, after-unseat, after-close, after-purge, ok-map, ok-both}
 use Rattle.matter_parts.proofs.matter.Matter.apply.Goals as goal
 
 pub returns-in-Nothing : goal.returns-in-Nothing
@@ -43,7 +43,7 @@ returns-in-Close c =
     let a = after-close c.args.self.now c.close.new.self c.args.change.now c.in-Close.day c.last-in-Close.result (sym c.edit.ensures ∙ c.in-Close.is) c.last-in-Close.ensures c.close.ensures in
     record { ok = a.part; held = a.held; whole = a.whole; err = tt }
 
-pub returns-in-Clear : goal.returns-in-Clear
-returns-in-Clear c =
-    let a = after-clear c.args.self.now c.clear.new.self c.args.change.now c.in-Clear.day c.last-in-Clear.result (sym c.edit.ensures ∙ c.in-Clear.is) c.last-in-Clear.ensures c.clear.ensures in
+pub returns-in-Purge : goal.returns-in-Purge
+returns-in-Purge c =
+    let a = after-purge c.args.self.now c.purge.new.self c.args.change.now c.in-Purge.day c.last-in-Purge.result (sym c.edit.ensures ∙ c.in-Purge.is) c.last-in-Purge.ensures c.purge.ensures in
     record { ok = a.part; held = a.held; whole = a.whole; err = tt }

@@ -1,5 +1,5 @@
 use Rattle.sql_book.proofs.Names.{[], ◌∷◌, ap, rules, Repeated, ExceptionGone, fit_write}
-use Rattle.sql_tables.specs.declared.statements.Statement.TheVariants as statement
+use Rattle.sql_tables.specs.declared.statements.SqlStatement.TheVariants as statement
 use Rattle.sql_book.proofs.Written.{wrote}
 use Rattle.sql_book.proofs.book.SqlBookBook.dismiss.Goals as goal
 

@@ -4,7 +4,7 @@ use Rattle.trust_desk.proofs.Calls.{kept-as}
 use Rattle.trust_desk.proofs.Crashes.{leave-as}
 use Rattle.trust_desk.proofs.Own.{keeps-others, own-once}
 use Rattle.trust_desk.proofs.desk.Desk.answer.Goals as goal
-use Rattle.trust_desk.proofs.desk.Desk.answer.Goals.{in-Dismiss, in-Exceptions, in-Import, in-Journal, in-Match, in-Matter, in-OwnLedger, in-Reconcile, in-Retention, in-Trial, in-Unmatched}
+use Rattle.trust_desk.proofs.desk.Desk.answer.Goals.{in-Dismiss, in-Import, in-Match, in-Matter, in-Reconcile, in-Report}
 
 kind : {r s : Request} → r ≡ s → kind_of (Asks r) ≡ kind_of (Asks s)
 kind is = ap (λ (r : Request). kind_of (Asks r)) is
@@ -26,13 +26,8 @@ returns g c =
           (w.answer_import-answered.ensures h (kind w.in-Import.is ∙ (λ i. OfItems (import_refusal w.in-Import.caller (sym w.as_slice.ensures i)) (imported w.in-Import.caller (sym w.as_slice.ensures i)))))
       | in-Dismiss w ↦ rw (w.self-is, w.answered-is) (w.answer_dismiss-answered.ensures day h (kind w.in-Dismiss.is))
       | in-Match w ↦ rw (w.self-is, w.answered-is) (w.answer_match-answered.ensures h (kind w.in-Match.is))
-      | in-Unmatched w ↦ rw (w.self-is, w.answered-is) (w.answer_match-answered-in-Unmatched.ensures h (kind w.in-Unmatched.is))
-      | in-Exceptions w ↦ rw (w.self-is, w.answered-is) (w.answer_told-answered.ensures h (kind w.in-Exceptions.is))
-      | in-Trial w ↦ rw (w.self-is, w.answered-is) (w.answer_told-answered-in-Trial.ensures h (kind w.in-Trial.is))
-      | in-Journal w ↦ rw (w.self-is, w.answered-is) (w.answer_told-answered-in-Journal.ensures h (kind w.in-Journal.is))
+      | in-Report w ↦ rw (w.self-is, w.answered-is) (w.answer_report-answered.ensures h (kind w.in-Report.is))
       | in-Reconcile w ↦ rw (w.self-is, w.answered-is) (w.answer_reconciliation-answered.ensures day h (kind w.in-Reconcile.is))
-      | in-Retention w ↦ rw (w.self-is, w.answered-is) (w.answer_told-answered-in-Retention.ensures h (kind w.in-Retention.is))
-      | in-OwnLedger w ↦ rw (w.self-is, w.answered-is) (w.answer_told-answered-in-OwnLedger.ensures h (kind w.in-OwnLedger.is))
     ] in
     let says : c.unwrap_or_else.result ≡ reply_for answered = search rules in
     let step = λ (clean : B.clean new) (stands : B.stands old). subst (λ (reply : Reply). Steps day (firm old) h reply (firm new)) (sym says) (is.step clean stands) in

@@ -1,7 +1,7 @@
 use Rattle.command_line.proofs.Names.{arith, ints, nat_tests}
 use Rattle.command_line.proofs.AdviceFacts.{names, wants-command}
-use Rattle.command_line.proofs.faults.verb_named.Goals as goal
-use Rattle.command_line.proofs.faults.verb_named.Goals.{in-WantsCommand, in-WantsValue}
+use Rattle.command_line.proofs.faults.command_named.Goals as goal
+use Rattle.command_line.proofs.faults.command_named.Goals.{in-WantsCommand, in-WantsValue}
 
 pub returns-in-Met : goal.returns-in-Met
 returns-in-Met c = grind (arith, ints, nat_tests, names)

@@ -1,6 +1,6 @@
 use Rattle.statement_lines.proofs.Names.{List, ℕ, rules, refl, default_config, records, strip_bom, fields_of, Rows, arith, ints, nat_tests}
 use Rattle.statement_lines.proofs.RowsRead.{left-behind, left-none, left-start}
-use Rattle.statement_lines.proofs.rows.rows_behind_header.Goals as goal
+use Rattle.statement_lines.proofs.rows.rows_after_header.Goals as goal
 
 -- what the reader has left before the first record
 abbrev all_of : List ℕ → Rows

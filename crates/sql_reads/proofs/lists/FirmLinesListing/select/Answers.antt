@@ -1,0 +1,11 @@
+use Rattle.sql_reads.proofs.Names.{[], map-map, firm_scan_asks, firm_scan_answer, firm_scan_selects, firm_line_values, firm_line_at}
+use Rattle.sql_reads.proofs.Handed.{handed}
+use Rattle.sql_reads.proofs.lists.FirmLinesListing.select.Goals as goal
+
+pub returns-clause-select : goal.returns-clause-select
+returns-clause-select g c = firm_scan_selects
+
+pub returns-clause-list : goal.returns-clause-list
+returns-clause-list g c l shows leaves counted old new stands =
+    handed (firm_scan_asks l) [] _ _ stands.schema _ (firm_scan_answer l _ stands) _ firm_line_at _ _
+    (map-map firm_line_at firm_line_values _) counted old new

@@ -1,0 +1,11 @@
+use Rattle.sql_reads.proofs.Names.{[], map-map, journal_scan_asks, journal_scan_answer, journal_scan_selects, movement_values, movement_at}
+use Rattle.sql_reads.proofs.Handed.{handed}
+use Rattle.sql_reads.proofs.lists.MovementsListing.select.Goals as goal
+
+pub returns-clause-select : goal.returns-clause-select
+returns-clause-select g c = journal_scan_selects
+
+pub returns-clause-list : goal.returns-clause-list
+returns-clause-list g c l shows leaves counted old new stands =
+    handed (journal_scan_asks l) [] _ _ stands.schema _ (journal_scan_answer l _ stands) _ movement_at _ _
+    (map-map movement_at movement_values _) counted old new
