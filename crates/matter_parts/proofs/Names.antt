@@ -32,7 +32,7 @@ pub use Rattle.matter_parts.specs.Applied.{IsWritten, entry_put, kept_as, left_w
 pub use Rattle.matter_parts.specs.Audit.{AreDrawn, AreInPlace, IsInPlace, IsSoundWhole, IsUntargeted, WholeIsSound, rows_kept}
 pub use Rattle.matter_parts.specs.Changes.{AreLeft, AreLefts, AreMoved, AreSmallTotals, IsChange, IsExchange, IsMovedWithin, IsOther, IsPlace, IsSmallOther, MatterChange, NoneLeft, changed, changed_by, edited, head_after, movement_of, seats_after}
 pub use Rattle.matter_parts.specs.NamedEntries.{IsNextPlace, has_number}
-pub use Rattle.matter_parts.specs.Parts.{AreAllKept, AreBalances, AreEmptyIfClosed, AreFigures, AreKept, AreNumbered, AreSmall, HoldsAll, HoldsOn, IsEntryOf, IsPart, IsWhole, Part, entries_kept, entry_in, is_held, is_held_or_none, is_it, is_named, kept_at, kept_in, left_if, left_kept, named_part, no_figures, target_by}
+pub use Rattle.matter_parts.specs.Parts.{AreBalances, AreEmptyIfClosed, AreFigures, AreKept, AreNumbered, AreSmall, HoldsAll, HoldsOn, IsEntryOf, IsPart, IsWhole, Part, entries_kept, entry_in, is_held, is_held_or_none, is_it, is_named, kept_at, kept_in, left_if, left_kept, named_part, no_figures, target_by}
 pub use Rattle.matter_parts.specs.TotalsAfter.{AppendMoved, EditMoved, EntryMoved, ExchangeMoved, FiguresMoved, NoneMoved, OtherCases, OtherMoved, movement_kept}
 pub use Rattle.matter_parts.specs.declared.change.Before.{Before}
 pub use Rattle.matter_parts.specs.declared.change.Left.{Left}

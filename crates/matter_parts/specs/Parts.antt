@@ -101,22 +101,11 @@ AreNumbered n (k ∷ ks) = (k.number ≡ n) × AreNumbered (n + 1) ks
 abbrev pub entries_kept : List Kept → List Entry
 entries_kept ks = map (λ k. k.entry) ks
 
--- all entries are loaded in the order of their numbers, each with what is left of it, in range
-pub record AreAllKept (ks : List Kept) (es : List Entry) : Type 0 where
-  pub entries : entries_kept ks ≡ es
-  pub numbered : AreNumbered 1 ks
-  pub own : AreKept ks es
-  pub small : (n : ℕ) (k : Kept) → kept_in ks n ≡ Some k → k.left ≤ MAX_TOTAL
-
 -- the matter is a part of the rows with all their entries loaded, in the order of their numbers
 pub record IsWhole (m : Part) (rows : Rows) : Type 0 where
   pub part : IsPart m rows
   pub entries : entries_kept m.kept ≡ rows.entries
   pub numbered : AreNumbered 1 m.kept
-
--- a whole matter has every entry loaded
-abbrev pub WholeHoldsAll : Type 0
-WholeHoldsAll = (m : Part) (rows : Rows) → IsWhole m rows → HoldsAll m
 
 abbrev pub entry_in : Option Kept → Option Entry
 entry_in None = None

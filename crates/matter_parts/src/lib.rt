@@ -33,5 +33,5 @@ pub use change::{Change, Left, TotalsAfter, change_of};
 pub use edit::{Edit, Numbered, Opening};
 pub use figures::{Balances, Figures};
 pub use kept::Kept;
-pub use matter::{Matter, whole_holds_all};
+pub use matter::Matter;
 pub use totals::{balances, claim_left, fee_left};

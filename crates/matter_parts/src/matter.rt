@@ -8,7 +8,7 @@ ghost use Rattle.matter_rows.specs.declared.limits.TheConstants.{MAX_TOTAL};
 ghost use Rattle.matter_rows.specs.Sound.{Sound, AreInOrder};
 ghost use Rattle.matter_rows.specs.Balances.{exceeds};
 ghost use Rattle.matter_parts.specs.NamedEntries.{has_number};
-ghost use Rattle.matter_parts.specs.Parts.{Part, no_figures, IsPart, IsWhole, HoldsOn, kept_at, is_held, is_named, named_part, target_by, AreSmall, AreInRange, WholeHoldsAll, is_held_or_none};
+ghost use Rattle.matter_parts.specs.Parts.{Part, no_figures, IsPart, IsWhole, HoldsOn, kept_at, is_held, is_named, named_part, target_by, AreSmall, AreInRange, is_held_or_none};
 ghost use Rattle.matter_parts.specs.Changes.{IsChange, AreSmallTotals, changed};
 ghost use Rattle.matter_parts.specs.Applied.{IsWritten};
 
@@ -437,8 +437,3 @@ impl Matter {
         amount <= self.figures().available
     }
 }
-
-/// A whole matter has every entry loaded.
-pub fn whole_holds_all()
-    ensures { WholeHoldsAll }
-{}

@@ -1,7 +1,6 @@
 -- Clients that are served in turn.
-use Rattle.portal_http.proofs.Names.{◌≡◌, ◌+◌, ◌<◌, ◌≤◌, ℕ, suc, List, [], ◌∷◌, ◌++◌, Option, take, length, refl, sym, ap, ◌∙◌, subst, arith, length-append, Appends, Appends-nil, Appends-trans, take-append-add, append-nil, Firm, StreamEnd, AreServedInTurn, IsClientServed, KeepsStanding, ServedAll, ints, nat_tests}
+use Rattle.portal_http.proofs.Names.{Seen, ◌≡◌, ◌+◌, ◌<◌, ◌≤◌, ℕ, suc, List, [], ◌∷◌, ◌++◌, Option, take, length, refl, sym, ap, ◌∙◌, subst, arith, length-append, Appends, Appends-nil, Appends-trans, take-append-add, append-nil, Firm, StreamEnd, AreServedInTurn, IsClientServed, KeepsStanding, ServedAll, ints, nat_tests}
 use Rattle.std.proofs.lemmas.List.Concat.{flat_map-append}
-use Rattle.portal_http.proofs.Calls.{kept-still, kept-then}
 use Rattle.portal_http.specs.Clients.{Comes, Refused}
 use Rattle.portal_http.specs.EndLines.{end_line, end_lines}
 use Rattle.portal_http.specs.declared.server.ServeEnd.TheVariants as serving
@@ -13,69 +12,75 @@ lines-push ends end = flat_map-append end_line ends (end ∷ []) ∙ ap (λ line
 pub length-push : (ends : List StreamEnd) (end : StreamEnd) → length (ends ++ end ∷ []) ≡ length ends + 1
 length-push ends end = length-append ends (end ∷ [])
 
-module _ {B W : Type 0} (clean sure stands lasts : B → Type 0) (leaves : B → Firm → Type 0) (firm : B → Firm) (refusals : B → ℕ) (contents : W → Option (List ℕ)) where
+pub standing-still : (b : Seen) → KeepsStanding b b
+standing-still b = record { was_clean = λ clean. clean; was_sure = λ sure. sure; still_stands = λ clean stands. stands; still_lasts = λ _ _ lasts. lasts }
+
+pub standing-then : {old mid new : Seen} → KeepsStanding old mid → KeepsStanding mid new → KeepsStanding old new
+standing-then a b = grind (arith, ints, nat_tests)
+
+module _ {B W : Type 0} (seen : B → Seen) (contents : W → Option (List ℕ)) where
   -- what may come of one accept may come of another
   pub client-as : (day : ℕ) (comes may : Comes W → Type 0) (old : B) (end : StreamEnd) (new : B) → ((c : Comes W) → comes c → may c)
-      → IsClientServed clean sure stands lasts leaves firm refusals contents day comes old end new
-      → IsClientServed clean sure stands lasts leaves firm refusals contents day may old end new
+      → IsClientServed seen contents day comes old end new
+      → IsClientServed seen contents day may old end new
   client-as day comes may old end new also x7 = grind (arith, ints, nat_tests)
 
   -- one client more
   pub in-turn-push : (day : ℕ) (comes : ℕ → Comes W → Type 0) (old mid new : B) (ends : List StreamEnd) (end : StreamEnd)
-      → AreServedInTurn clean sure stands lasts leaves firm refusals contents day comes old ends mid
-      → IsClientServed clean sure stands lasts leaves firm refusals contents day (comes (length ends)) mid end new
-      → AreServedInTurn clean sure stands lasts leaves firm refusals contents day comes old (ends ++ end ∷ []) new
+      → AreServedInTurn seen contents day comes old ends mid
+      → IsClientServed seen contents day (comes (length ends)) mid end new
+      → AreServedInTurn seen contents day comes old (ends ++ end ∷ []) new
   in-turn-push day comes old mid new [] end same client = grind (arith, ints, nat_tests)
   in-turn-push day comes old mid new (e ∷ es) end (next, first, rest) client =
       (next, first, in-turn-push day (λ k. comes (suc k)) next mid new es end rest client)
 
   -- a client leaves the book standing
   pub client-keeps : (day : ℕ) (comes : Comes W → Type 0) (old : B) (end : StreamEnd) (new : B)
-      → IsClientServed clean sure stands lasts leaves firm refusals contents day comes old end new → KeepsStanding clean sure stands lasts old new
-  client-keeps day comes old end new x5 = grind (arith, ints, nat_tests, kept-still)
+      → IsClientServed seen contents day comes old end new → KeepsStanding (seen old) (seen new)
+  client-keeps day comes old end new x5 = grind (arith, ints, nat_tests, standing-still)
 
 -- so many clients were served, and each one's end was told; what may come of the accepts to come
-pub record ServingAll {B W : Type 0} (clean sure stands lasts : B → Type 0) (leaves : B → Firm → Type 0) (firm : B → Firm) (refusals : B → ℕ)
+pub record ServingAll {B W : Type 0} (seen : B → Seen)
     (contents : W → Option (List ℕ)) (day : ℕ) (comes : ℕ → Comes W → Type 0) (before : Option (List ℕ)) (old : B) (n : ℕ)
     (coming : ℕ → Comes W → Type 0) (after : Option (List ℕ)) (new : B) : Type 0 where
   pub ends : List StreamEnd
   pub many : length ends ≡ n
-  pub served : AreServedInTurn clean sure stands lasts leaves firm refusals contents day comes old ends new
+  pub served : AreServedInTurn seen contents day comes old ends new
   pub told : Appends before after (end_lines ends)
   pub behind : (k : ℕ) (c : Comes W) → coming k c → comes (n + k) c
-  pub kept : KeepsStanding clean sure stands lasts old new
+  pub kept : KeepsStanding (seen old) (seen new)
 
-module _ {B W : Type 0} (clean sure stands lasts : B → Type 0) (leaves : B → Firm → Type 0) (firm : B → Firm) (refusals : B → ℕ)
+module _ {B W : Type 0} (seen : B → Seen)
     (contents : W → Option (List ℕ)) (day : ℕ) (comes : ℕ → Comes W → Type 0) (before : Option (List ℕ)) (old : B) where
   -- nobody was served yet
-  pub serving-none : ServingAll clean sure stands lasts leaves firm refusals contents day comes before old 0 comes before old
+  pub serving-none : ServingAll seen contents day comes before old 0 comes before old
   serving-none = record {
     ends = [];
     many = refl;
     served = refl;
     told = Appends-nil before;
     behind = λ k c may. subst (λ j. comes j c) (omega arith) may;
-    kept = kept-still old;
+    kept = standing-still (seen old);
   }
 
   module _ (n : ℕ) (coming : ℕ → Comes W → Type 0) (mid : Option (List ℕ)) (book : B)
-      (h : ServingAll clean sure stands lasts leaves firm refusals contents day comes before old n coming mid book) where
+      (h : ServingAll seen contents day comes before old n coming mid book) where
     -- what may come next may come behind those that were served
     next : (c : Comes W) → coming 0 c → comes (length h.ends) c
     next c may = subst (λ k. comes k c) (omega (arith, h.many)) (h.behind 0 c may)
 
     -- as many were served as were to be
-    pub served-done : (count : ℕ) → n ≡ count → ServedAll clean sure stands lasts leaves firm refusals contents day count comes before old serving.Done mid book
+    pub served-done : (count : ℕ) → n ≡ count → ServedAll seen contents day count comes before old serving.Done mid book
     served-done count same = record { ends = h.ends; served = h.served; told = (h.many ∙ same, h.told); refused = λ e. cc }
 
     -- the network refused an accept
     pub served-network_fault : (count : ℕ) → n < count → coming 0 Refused
-        → ServedAll clean sure stands lasts leaves firm refusals contents day count comes before old serving.NetworkFault mid book
+        → ServedAll seen contents day count comes before old serving.NetworkFault mid book
     served-network_fault count less refused = record { ends = h.ends; served = h.served; told = (omega (arith, h.many, less), h.told); refused = λ _. next Refused refused }
 
-    module _ (end : StreamEnd) (new : B) (client : IsClientServed clean sure stands lasts leaves firm refusals contents day (coming 0) book end new) where
+    module _ (end : StreamEnd) (new : B) (client : IsClientServed seen contents day (coming 0) book end new) where
       -- the clients with this one
-      in-turn-more : AreServedInTurn clean sure stands lasts leaves firm refusals contents day comes old (h.ends ++ end ∷ []) new
+      in-turn-more : AreServedInTurn seen contents day comes old (h.ends ++ end ∷ []) new
       in-turn-more = grind (arith, ints, nat_tests, in-turn-push, client-as, length, next)
 
       more : length (h.ends ++ end ∷ []) ≡ n + 1
@@ -84,20 +89,20 @@ module _ {B W : Type 0} (clean sure stands lasts : B → Type 0) (leaves : B →
       -- a client more was served, and its end was told
       pub serving-more : (later : ℕ → Comes W → Type 0) → ((k : ℕ) (c : Comes W) → later k c → coming (k + 1) c)
           → (after : Option (List ℕ)) → Appends mid after (end_line end)
-          → ServingAll clean sure stands lasts leaves firm refusals contents day comes before old (n + 1) later after new
+          → ServingAll seen contents day comes before old (n + 1) later after new
       serving-more later next after told = record {
         ends = h.ends ++ end ∷ [];
         many = more;
         served = in-turn-more;
         told = subst (Appends before after) (sym (lines-push h.ends end)) (Appends-trans before mid after _ _ h.told told);
         behind = λ k c may. subst (λ j. comes j c) (omega arith) (h.behind (k + 1) c (next k c may));
-        kept = kept-then h.kept (client-keeps clean sure stands lasts leaves firm refusals contents day _ _ _ _ client);
+        kept = standing-then h.kept (client-keeps seen contents day _ _ _ _ client);
       }
 
       -- a client more was served, and its end could not be told
       pub served-write_fault : (count : ℕ) → n + 1 ≤ count → (after : Option (List ℕ))
           → (k : ℕ) × (k < length (end_line end)) × Appends mid after (take k (end_line end))
-          → ServedAll clean sure stands lasts leaves firm refusals contents day count comes before old serving.WriteFault after new
+          → ServedAll seen contents day count comes before old serving.WriteFault after new
       served-write_fault count room after (k, less, wrote) = record {
         ends = h.ends ++ end ∷ [];
         served = in-turn-more;

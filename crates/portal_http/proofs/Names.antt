@@ -31,3 +31,4 @@ pub use Rattle.portal_http.specs.ServedAll.{AreServedInTurn, IsClientServed, Kee
 pub use Rattle.portal_http.specs.declared.stream.StreamEnd.{StreamEnd}
 pub use Rattle.std.proofs.lemmas.Bool.Decides.{nat_tests}
 pub use Rattle.std.proofs.lemmas.Int.{ints}
+pub use Rattle.trust_store.specs.Seen.{Seen}

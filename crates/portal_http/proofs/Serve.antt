@@ -1,5 +1,5 @@
 -- A stream that is served.
-use Rattle.portal_http.proofs.Names.{◌≡◌, ◌⊎◌, inl, inr, true, false, ◌<◌, ◌+◌, ℕ, List, [], ◌∷◌, ◌++◌, Option, Some, None, length, map, refl, sym, ap, ◌∙◌, subst, arith, length-append, append_assoc, IfSome, append-nil, map-append, Appends, Keeps, Appends-nil, Appends-trans, Refusal, Memory, Firm, Reply, KeepsBook, counted_reply, counted_replies, AreNoFaults, AreNoFaultsButLast, IsMade, IsMadeInRun, MayLeave, before_fault, IsUnstopped, RunsSoundly, Steps, firm_step, Heard, is_fault_reply, refused, runs-covered, kept-as, kept-still, kept-then, leave-as, leave-still, leave-then, fault-front, made-before, made-last, none-at_all, none-before, none-last, plain-step, each-own, RunsSoundly-push, counted-push, sound-runs-are-runs, Message, Began, IsNext, heard_of, replies_bytes, reply_bytes, AreBehind, AreFirst, IsCut, IsFrontRun, IsRead, IsTail, IsWritten, MayLeaveServed, Served, Serving, whole_text, StreamEnd, ints, nat_tests}
+use Rattle.portal_http.proofs.Names.{Seen, ◌≡◌, ◌⊎◌, inl, inr, true, false, ◌<◌, ◌+◌, ℕ, List, [], ◌∷◌, ◌++◌, Option, Some, None, length, map, refl, sym, ap, ◌∙◌, subst, arith, length-append, append_assoc, IfSome, append-nil, map-append, Appends, Keeps, Appends-nil, Appends-trans, Refusal, Memory, Firm, Reply, KeepsBook, counted_reply, counted_replies, AreNoFaults, AreNoFaultsButLast, IsMade, IsMadeInRun, MayLeave, before_fault, IsUnstopped, RunsSoundly, Steps, firm_step, Heard, is_fault_reply, refused, runs-covered, kept-as, kept-still, kept-then, leave-as, leave-still, leave-then, fault-front, made-before, made-last, none-at_all, none-before, none-last, plain-step, each-own, RunsSoundly-push, counted-push, sound-runs-are-runs, Message, Began, IsNext, heard_of, replies_bytes, reply_bytes, AreBehind, AreFirst, IsCut, IsFrontRun, IsRead, IsTail, IsWritten, MayLeaveServed, Served, Serving, whole_text, StreamEnd, ints, nat_tests}
 use Rattle.std.proofs.lemmas.Grind.{flat_map-append}
 use Rattle.firm_rows.specs.FirmSound.{FirmSound}
 use Rattle.trust_desk.specs.Isolation.{IsOwn}
@@ -54,13 +54,13 @@ front-whole day firm mid ms rest rs run = record { front = ms; rest = rest; part
 keeps-self : (a : Option (List ℕ)) → Keeps a a
 keeps-self a = grind (arith, ints, nat_tests)
 
-module _ {B : Type 0} (clean sure stands lasts : B → Type 0) (leaves : B → Firm → Type 0) (firm : B → Firm) (refusals : B → ℕ) (sound : (b : B) → stands b → FirmSound (firm b)) (day : ℕ) (stream before : Option (List ℕ)) (old : B) where
+module _ (day : ℕ) (stream before : Option (List ℕ)) (old : Seen) (sound : old.stands → FirmSound old.firm) where
   -- what is being served, and what was served
-  abbrev Serves : ℕ → Option (List ℕ) → Option (List ℕ) → B → Type 0
-  Serves n unread after new = Serving clean sure stands lasts leaves firm refusals day stream before old n unread after new
+  abbrev Serves : ℕ → Option (List ℕ) → Option (List ℕ) → Seen → Type 0
+  Serves n unread after new = Serving day stream before old n unread after new
 
-  abbrev WasServed : StreamEnd → Option (List ℕ) → B → Type 0
-  WasServed end after new = Served clean sure stands lasts leaves firm refusals day stream before old end after new
+  abbrev WasServed : StreamEnd → Option (List ℕ) → Seen → Type 0
+  WasServed end after new = Served day stream before old end after new
 
   pub serving-none : (unread : Option (List ℕ)) → Keeps stream unread → Serves 0 unread before old
   serving-none unread k = record {
@@ -72,17 +72,18 @@ module _ {B : Type 0} (clean sure stands lasts : B → Type 0) (leaves : B → F
     written = Appends-nil before;
     run = λ clean stands. refl;
     kept = kept-still old;
-    crash = λ sure clean stands but_last. leave-still (firm old) old;
-    shut = λ sure clean stands. front-whole day (firm old) (firm old) [] [] [] refl;
+    crash = λ sure clean stands but_last. leave-still old.firm old;
+    shut = λ sure clean stands. front-whole day old.firm old.firm [] [] [] refl;
   }
 
   pub serving-nothing : Serves 0 stream before old
   serving-nothing = serving-none stream (keeps-self stream)
 
   -- one more message, and its reply
-  module _ (n : ℕ) (unread after : Option (List ℕ)) (mid : B) (s : Serves n unread after mid) (left later : Option (List ℕ)) (next : B) (m : Message) (reply : Reply)
-      (comes : IsNext unread left (nexts.Message m)) (step : clean next → stands mid → Steps day (firm mid) (heard_of m) reply (firm next)) (kept : KeepsBook clean sure stands lasts refusals (counted_reply reply) mid next)
-      (may : sure next → clean mid → stands mid → MayLeave clean leaves (is_fault_reply reply ≡ false) (IsMade day (firm mid) (heard_of m)) (firm mid) (firm_step day (firm mid) (heard_of m)).firm mid next) where
+  module _ (n : ℕ) (unread after : Option (List ℕ)) (mid : Seen) (s : Serves n unread after mid) (left later : Option (List ℕ)) (next : Seen) (m : Message) (reply : Reply)
+      (comes : IsNext unread left (nexts.Message m)) (step : next.clean → mid.stands → Steps day mid.firm (heard_of m) reply next.firm) (kept : KeepsBook (counted_reply reply) mid next)
+      (may : next.sure → mid.clean → mid.stands → MayLeave (is_fault_reply reply ≡ false) (IsMade day mid.firm (heard_of m)) mid.firm (firm_step day mid.firm (heard_of m)).firm mid next)
+      (fit : next.stands → FirmSound next.firm) where
     abbrev messages-more : List Message
     messages-more = s.messages ++ m ∷ []
 
@@ -92,25 +93,25 @@ module _ {B : Type 0} (clean sure stands lasts : B → Type 0) (leaves : B → F
     paired-more : length replies-more ≡ length messages-more
     paired-more = length-append s.replies (reply ∷ []) ∙ (ap (λ k. k + 1) s.paired ∙ sym (length-append s.messages (m ∷ [])))
 
-    run-more : clean next → stands old → RunsSoundly day (firm old) (map heard_of messages-more) replies-more (firm next)
+    run-more : next.clean → old.stands → RunsSoundly day old.firm (map heard_of messages-more) replies-more next.firm
     run-more clean stands =
         let was = kept.was_clean clean in
         let now = s.kept.still_stands was stands in
-        subst (λ (hs : List Heard). RunsSoundly day (firm old) hs replies-more (firm next)) (sym (map-append heard_of s.messages (m ∷ [])))
-        (RunsSoundly-push day (firm old) (firm mid) (firm next) (map heard_of s.messages) (heard_of m) s.replies reply (s.run was stands) (step clean now) (sound next (kept.still_stands clean now)))
+        subst (λ (hs : List Heard). RunsSoundly day old.firm hs replies-more next.firm) (sym (map-append heard_of s.messages (m ∷ [])))
+        (RunsSoundly-push day old.firm mid.firm next.firm (map heard_of s.messages) (heard_of m) s.replies reply (s.run was stands) (step clean now) (fit (kept.still_stands clean now)))
 
-    own-more : clean next → stands old → (k : ℕ) → IsUnstopped k (map heard_of messages-more) replies-more → IsOwn k day (firm old) (map heard_of messages-more) replies-more (firm next)
-    own-more clean stands k fine = each-own k day (firm old) (map heard_of messages-more) replies-more (firm next) fine (sound-runs-are-runs day (firm old) (firm next) (map heard_of messages-more) replies-more (run-more clean stands))
+    own-more : next.clean → old.stands → (k : ℕ) → IsUnstopped k (map heard_of messages-more) replies-more → IsOwn k day old.firm (map heard_of messages-more) replies-more next.firm
+    own-more clean stands k fine = each-own k day old.firm (map heard_of messages-more) replies-more next.firm fine (sound-runs-are-runs day old.firm next.firm (map heard_of messages-more) replies-more (run-more clean stands))
 
     -- the store served before this message, where no reply before it is Store or Memory
-    served-before : sure next → clean old → stands old → AreNoFaults s.replies → clean mid
+    served-before : next.sure → old.clean → old.stands → AreNoFaults s.replies → mid.clean
     served-before sure clean stands plain = (s.crash (kept.was_sure sure) clean stands (none-at_all s.replies plain)).serves clean plain
 
     -- and after it, where this one is neither
-    served-after : sure next → clean old → stands old → AreNoFaults s.replies → is_fault_reply reply ≡ false → clean next
+    served-after : next.sure → old.clean → old.stands → AreNoFaults s.replies → is_fault_reply reply ≡ false → next.clean
     served-after sure clean stands plain fine = grind (arith, ints, nat_tests, served-before)
 
-    crash-more : sure next → clean old → stands old → AreNoFaultsButLast replies-more → MayLeaveServed clean sure stands lasts leaves firm refusals day old messages-more replies-more next
+    crash-more : next.sure → old.clean → old.stands → AreNoFaultsButLast replies-more → MayLeaveServed day old messages-more replies-more next
     crash-more known served standing but_last =
         let plain = none-before s.replies reply but_last in
         let so_far = s.crash (kept.was_sure known) served standing (none-at_all s.replies plain) in
@@ -120,20 +121,20 @@ module _ {B : Type 0} (clean sure stands lasts : B → Type 0) (leaves : B → F
         let h = heard_of m in
         let hs = map heard_of s.messages in
         let last = λ (fine : AreNoFaults replies-more). none-last s.replies reply fine in
-        let made = leave-as last (λ found is. is) (λ fine. plain-step day (firm mid) (firm next) h reply (last fine) (step (one.serves was (last fine)) stood)) one in
-        subst (λ (l : List Heard). MayLeave clean leaves (AreNoFaults replies-more) (IsMadeInRun day (firm old) l) (firm old) (firm next) old next) (sym (map-append heard_of s.messages (m ∷ [])))
-        (leave-then (λ found is. made-before day (firm old) found hs h is) (λ found is. made-last day (firm old) (firm mid) found hs h s.replies (s.run was standing) plain is) plain so_far made)
+        let made = leave-as last (λ found is. is) (λ fine. plain-step day mid.firm next.firm h reply (last fine) (step (one.serves was (last fine)) stood)) one in
+        subst (λ (l : List Heard). MayLeave (AreNoFaults replies-more) (IsMadeInRun day old.firm l) old.firm next.firm old next) (sym (map-append heard_of s.messages (m ∷ [])))
+        (leave-then (λ found is. made-before day old.firm found hs h is) (λ found is. made-last day old.firm mid.firm found hs h s.replies (s.run was standing) plain is) plain so_far made)
 
-    shut-more : sure next → clean old → stands old → IsFrontRun day (firm old) messages-more (before_fault replies-more)
+    shut-more : next.sure → old.clean → old.stands → IsFrontRun day old.firm messages-more (before_fault replies-more)
     shut-more sure clean stands =
         let was = λ (plain : AreNoFaults s.replies). served-before sure clean stands plain in
-        fault-front (IsFrontRun day (firm old) messages-more) s.replies reply (front-more day (firm old) s.messages m (before_fault s.replies) (s.shut (kept.was_sure sure) clean stands))
-        (λ plain. front-whole day (firm old) (firm mid) s.messages (m ∷ []) s.replies (s.run (was plain) stands))
-        (λ plain fine. subst (λ (l : List Message). IsFrontRun day (firm old) l replies-more) (append-nil messages-more)
-        (front-whole day (firm old) (firm next) messages-more [] replies-more (run-more (served-after sure clean stands plain fine) stands)))
+        fault-front (IsFrontRun day old.firm messages-more) s.replies reply (front-more day old.firm s.messages m (before_fault s.replies) (s.shut (kept.was_sure sure) clean stands))
+        (λ plain. front-whole day old.firm mid.firm s.messages (m ∷ []) s.replies (s.run (was plain) stands))
+        (λ plain fine. subst (λ (l : List Message). IsFrontRun day old.firm l replies-more) (append-nil messages-more)
+        (front-whole day old.firm next.firm messages-more [] replies-more (run-more (served-after sure clean stands plain fine) stands)))
 
-    kept-more : KeepsBook clean sure stands lasts refusals (counted_replies replies-more) old next
-    kept-more = kept-as (λ sure stands. sym (counted-push s.replies reply (refusals old))) (kept-then s.kept kept)
+    kept-more : KeepsBook (counted_replies replies-more) old next
+    kept-more = kept-as (λ sure stands. sym (counted-push s.replies reply old.refusals)) (kept-then s.kept kept)
 
     read-more : Began stream messages-more left
     read-more = began-push stream unread left s.messages m s.read comes
@@ -166,21 +167,21 @@ module _ {B : Type 0} (clean sure stands lasts : B → Type 0) (leaves : B → F
           written = subst (λ (t : List ℕ × List ℕ). IsCut t.0 t.1 before later) (λ i. (all i, sym (last-push s.replies reply) i)) (cut-behind before after later (replies_bytes s.replies) (reply_bytes reply) s.written wrote);
           run = run-more;
           own = own-more;
-          covered = λ clean stands. runs-covered day (firm old) (firm next) (map heard_of messages-more) replies-more (sound old stands) (run-more clean stands);
+          covered = λ clean stands. runs-covered day old.firm next.firm (map heard_of messages-more) replies-more (sound stands) (run-more clean stands);
           kept = kept-more;
           crash = crash-more;
           shut = shut-more;
           serves = λ sure clean stands plain. (crash-more sure clean stands (none-at_all replies-more plain)).serves clean plain;
         }
 
-  module _ (n : ℕ) (unread after : Option (List ℕ)) (new : B) (s : Serves n unread after new) where
-    own : clean new → stands old → (m : ℕ) → IsUnstopped m (map heard_of s.messages) s.replies → IsOwn m day (firm old) (map heard_of s.messages) s.replies (firm new)
-    own clean stands m fine = each-own m day (firm old) (map heard_of s.messages) s.replies (firm new) fine (sound-runs-are-runs day (firm old) (firm new) (map heard_of s.messages) s.replies (s.run clean stands))
+  module _ (n : ℕ) (unread after : Option (List ℕ)) (new : Seen) (s : Serves n unread after new) where
+    own : new.clean → old.stands → (m : ℕ) → IsUnstopped m (map heard_of s.messages) s.replies → IsOwn m day old.firm (map heard_of s.messages) s.replies new.firm
+    own clean stands m fine = each-own m day old.firm (map heard_of s.messages) s.replies new.firm fine (sound-runs-are-runs day old.firm new.firm (map heard_of s.messages) s.replies (s.run clean stands))
 
-    covered : clean new → stands old → CoveredRun day (firm old) (map heard_of s.messages) s.replies (firm new)
-    covered clean stands = runs-covered day (firm old) (firm new) (map heard_of s.messages) s.replies (sound old stands) (s.run clean stands)
+    covered : new.clean → old.stands → CoveredRun day old.firm (map heard_of s.messages) s.replies new.firm
+    covered clean stands = runs-covered day old.firm new.firm (map heard_of s.messages) s.replies (sound stands) (s.run clean stands)
 
-    serves : sure new → clean old → stands old → AreNoFaults s.replies → clean new
+    serves : new.sure → old.clean → old.stands → AreNoFaults s.replies → new.clean
     serves sure clean stands plain = (s.crash sure clean stands (none-at_all s.replies plain)).serves clean plain
 
     no-tail : Appends before after (whole_text s.replies None)

@@ -4,6 +4,7 @@ use Rattle.std.specs.Io.KnownBytes.{Appends}
 use Rattle.trust_base.specs.declared.refusal.Refusal.{Refusal}
 use Rattle.trust_base.specs.declared.refusal.Refusal.TheVariants.{Memory}
 use Rattle.firm_rows.specs.Firm.{Firm}
+use Rattle.trust_store.specs.Seen.{Seen}
 use Rattle.trust_desk.specs.declared.requests.Reply.{Reply}
 use Rattle.trust_desk.specs.Calls.{KeepsBook}
 use Rattle.trust_desk.specs.Counts.{counted_replies}
@@ -89,56 +90,52 @@ pub record IsFrontRun (day : ℕ) (firm : Firm) (messages : List Message) (repli
   pub mid : Firm
   pub run : RunsSoundly day firm (map heard_of front) replies mid
 
--- Only these are used of a book: whether its store is clean, whether it is sure, whether it stands for a sound firm,
--- whether what a crash leaves of it lasts, what that may be, its firm, and how often it failed.
-module _ {B : Type 0} (clean sure stands lasts : B → Type 0) (leaves : B → Firm → Type 0) (firm : B → Firm)
-    (refusals : B → ℕ) where
-  -- what a crash may leave after these messages: what it might have left before, or the rows after some first
-  -- messages and a part of the next; if no reply is `Store` or `Memory`, a settled book is settled, and a store that
-  -- was clean is still clean
-  abbrev pub MayLeaveServed : ℕ → B → List Message → List Reply → B → Type 0
-  MayLeaveServed day old messages replies new =
-      MayLeave clean leaves (AreNoFaults replies) (IsMadeInRun day (firm old) (map heard_of messages)) (firm old)
-      (firm new) old new
+-- what a crash may leave after these messages: what it might have left before, or the rows after some first
+-- messages and a part of the next; if no reply is `Store` or `Memory`, a settled book is settled, and a store that
+-- was clean is still clean
+abbrev pub MayLeaveServed : ℕ → Seen → List Message → List Reply → Seen → Type 0
+MayLeaveServed day old messages replies new =
+    MayLeave (AreNoFaults replies) (IsMadeInRun day old.firm (map heard_of messages)) old.firm
+    new.firm old new
 
-  -- a stream was served: its messages and their replies in order, what was written, and how the book changed
-  pub record Served (day : ℕ) (stream before : Option (List ℕ)) (old : B) (end : StreamEnd) (after : Option (List ℕ))
-      (new : B) : Type 0 where
-    pub messages : List Message
-    pub replies : List Reply
-    pub tail : Option Refusal
-    pub read : IfSome stream (λ bytes. IsRead end bytes messages tail)
-    pub paired : length replies ≡ length messages
-    pub behind : IsTail end tail
-    pub written : IsWritten end replies tail before after
-    -- each reply is that of the firm's step, and the firm is sound after it
-    pub run : clean new → stands old → RunsSoundly day (firm old) (map heard_of messages) replies (firm new)
-    -- each matter is answered by its own machine, which also gives its rows
-    pub own : clean new → stands old → (m : ℕ) → IsUnstopped m (map heard_of messages) replies
-        → IsOwn m day (firm old) (map heard_of messages) replies (firm new)
-    -- no ledger is below zero before, in and after each message and each item of an import
-    pub covered : clean new → stands old
-        → CoveredRun day (firm old) (map heard_of messages) replies (firm new)
-    pub kept : KeepsBook clean sure stands lasts refusals (counted_replies replies) old new
-    -- if the store was clean when the stream began, and no reply except the last is `Store` or `Memory`
-    pub crash : sure new → clean old → stands old → AreNoFaultsButLast replies
-        → MayLeaveServed day old messages replies new
-    -- the replies before the first `Store` or `Memory` are those of a run, even if a fault has closed the store since
-    pub shut : sure new → clean old → stands old → IsFrontRun day (firm old) messages (before_fault replies)
-    -- without such a reply the store is still clean, so all of this holds
-    pub serves : sure new → clean old → stands old → AreNoFaults replies → clean new
+-- a stream was served: its messages and their replies in order, what was written, and how the book changed
+pub record Served (day : ℕ) (stream before : Option (List ℕ)) (old : Seen) (end : StreamEnd) (after : Option (List ℕ))
+    (new : Seen) : Type 0 where
+  pub messages : List Message
+  pub replies : List Reply
+  pub tail : Option Refusal
+  pub read : IfSome stream (λ bytes. IsRead end bytes messages tail)
+  pub paired : length replies ≡ length messages
+  pub behind : IsTail end tail
+  pub written : IsWritten end replies tail before after
+  -- each reply is that of the firm's step, and the firm is sound after it
+  pub run : new.clean → old.stands → RunsSoundly day old.firm (map heard_of messages) replies new.firm
+  -- each matter is answered by its own machine, which also gives its rows
+  pub own : new.clean → old.stands → (m : ℕ) → IsUnstopped m (map heard_of messages) replies
+      → IsOwn m day old.firm (map heard_of messages) replies new.firm
+  -- no ledger is below zero before, in and after each message and each item of an import
+  pub covered : new.clean → old.stands
+      → CoveredRun day old.firm (map heard_of messages) replies new.firm
+  pub kept : KeepsBook (counted_replies replies) old new
+  -- if the store was clean when the stream began, and no reply except the last is `Store` or `Memory`
+  pub crash : new.sure → old.clean → old.stands → AreNoFaultsButLast replies
+      → MayLeaveServed day old messages replies new
+  -- the replies before the first `Store` or `Memory` are those of a run, even if a fault has closed the store since
+  pub shut : new.sure → old.clean → old.stands → IsFrontRun day old.firm messages (before_fault replies)
+  -- without such a reply the store is still clean, so all of this holds
+  pub serves : new.sure → old.clean → old.stands → AreNoFaults replies → new.clean
 
-  -- a stream is being served: this many messages were read and answered
-  pub record Serving (day : ℕ) (stream before : Option (List ℕ)) (old : B) (n : ℕ) (unread after : Option (List ℕ))
-      (new : B) : Type 0 where
-    pub messages : List Message
-    pub replies : List Reply
-    pub many : length messages ≡ n
-    pub paired : length replies ≡ length messages
-    pub read : Began stream messages unread
-    pub written : Appends before after (replies_bytes replies)
-    pub run : clean new → stands old → RunsSoundly day (firm old) (map heard_of messages) replies (firm new)
-    pub kept : KeepsBook clean sure stands lasts refusals (counted_replies replies) old new
-    pub crash : sure new → clean old → stands old → AreNoFaultsButLast replies
-        → MayLeaveServed day old messages replies new
-    pub shut : sure new → clean old → stands old → IsFrontRun day (firm old) messages (before_fault replies)
+-- a stream is being served: this many messages were read and answered
+pub record Serving (day : ℕ) (stream before : Option (List ℕ)) (old : Seen) (n : ℕ) (unread after : Option (List ℕ))
+    (new : Seen) : Type 0 where
+  pub messages : List Message
+  pub replies : List Reply
+  pub many : length messages ≡ n
+  pub paired : length replies ≡ length messages
+  pub read : Began stream messages unread
+  pub written : Appends before after (replies_bytes replies)
+  pub run : new.clean → old.stands → RunsSoundly day old.firm (map heard_of messages) replies new.firm
+  pub kept : KeepsBook (counted_replies replies) old new
+  pub crash : new.sure → old.clean → old.stands → AreNoFaultsButLast replies
+      → MayLeaveServed day old messages replies new
+  pub shut : new.sure → old.clean → old.stands → IsFrontRun day old.firm messages (before_fault replies)

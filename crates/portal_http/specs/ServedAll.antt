@@ -1,7 +1,6 @@
 -- What serving connections one after the other does.
 use Rattle.std.specs.Prelude.{◌≡◌, ◌⊎◌, ℕ, suc, length, List, [], ◌∷◌, Option}
-use Rattle.firm_rows.specs.Firm.{Firm}
-use Rattle.portal_http.specs.Calls.{KeepsBook}
+use Rattle.trust_store.specs.Seen.{Seen}
 use Rattle.portal_http.specs.Served.{Served}
 use Rattle.portal_http.specs.declared.stream.StreamEnd.{StreamEnd}
 use Rattle.portal_http.specs.declared.stream.StreamEnd.TheVariants as stream
@@ -10,19 +9,15 @@ use Rattle.portal_http.specs.EndLines.{IsTold}
 use Rattle.portal_http.specs.declared.server.ServeEnd.{ServeEnd}
 use Rattle.portal_http.specs.declared.server.ServeEnd.TheVariants as serving
 
--- Only these are used of a book: whether its store is clean, whether it is sure, whether it stands for a sound firm,
--- whether what a crash leaves of it lasts, what that may be, its firm, and how often it failed; and of a client, what
--- was written to it.
-module _ {B W : Type 0} (clean sure stands lasts : B → Type 0) (leaves : B → Firm → Type 0) (firm : B → Firm)
-    (refusals : B → ℕ) (contents : W → Option (List ℕ)) where
+-- Of a book only what is seen of it is used, and of a client what was written to it.
+module _ {B W : Type 0} (seen : B → Seen) (contents : W → Option (List ℕ)) where
   -- the stream of a client that may come was served to that client: its writer before and after
   pub record IsStreamServed (day : ℕ) (comes : Comes W → Type 0) (old : B) (end : StreamEnd) (new : B) : Type 0 where
     pub stream : Option (List ℕ)
     pub writer : W
     pub left : W
     pub came : comes (Client stream writer)
-    pub served : Served clean sure stands lasts leaves firm refusals day stream (contents writer) old end
-        (contents left) new
+    pub served : Served day stream (contents writer) (seen old) end (contents left) (seen new)
 
   -- a client was gone, or the system could not make its connection; nothing was done
   pub record IsAborted (comes : Comes W → Type 0) (old : B) (end : StreamEnd) (new : B) : Type 0 where
@@ -53,5 +48,8 @@ module _ {B W : Type 0} (clean sure stands lasts : B → Type 0) (leaves : B →
 -- if the store is sure now it was sure before, and if it is clean now it was clean before; a book that stood for a
 -- sound firm still does, and what a crash leaves still lasts; faults of the store are not counted, since no answers
 -- are given here
-abbrev pub KeepsStanding : {B : Type 0} → (B → Type 0) → (B → Type 0) → (B → Type 0) → (B → Type 0) → B → B → Type 0
-KeepsStanding clean sure stands lasts old new = KeepsBook clean sure stands lasts (λ _. 0) (λ n. n) old new
+pub record KeepsStanding (old new : Seen) : Type 0 where
+  pub was_clean : new.clean → old.clean
+  pub was_sure : new.sure → old.sure
+  pub still_stands : new.clean → old.stands → new.stands
+  pub still_lasts : new.sure → (old.clean → old.stands) → old.lasts → new.lasts

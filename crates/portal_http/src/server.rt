@@ -325,8 +325,8 @@ pub fn serve_connection<
     routes: &Option<Routes>,
     day: Day,
 ) -> Answered<W>
-    ensures { Served B.clean B.sure B.stands B.lasts B.leaves B.firm B.refusals day (R.remaining client.reader)
-        (W.contents client.writer) desk.old result.end (W.contents result.writer) desk.new }
+    ensures { Served day (R.remaining client.reader)
+        (W.contents client.writer) (B.seen desk.old) result.end (W.contents result.writer) (B.seen desk.new) }
 {
     let Connection { mut reader, writer } = client;
     let phase = Cell::new(Phase::Between);
@@ -366,10 +366,10 @@ pub fn serve_connections<C: Clock + Drop, L: ClientListener, W: Write, B: Book>(
     desk: &mut Desk<B>,
     day: Day,
 ) -> ServeEnd
-    ensures served { ServedAll B.clean B.sure B.stands B.lasts B.leaves B.firm B.refusals L.Writer.contents day count
-        (L.comes listener.old) (W.contents writer.old) desk.old result (W.contents writer.new) desk.new }
+    ensures served { ServedAll B.seen L.Writer.contents day count (L.comes listener.old) (W.contents writer.old)
+        desk.old result (W.contents writer.new) desk.new }
     // A firm that was sound is still sound, as it is after each message of each client.
-    ensures kept { KeepsStanding B.clean B.sure B.stands B.lasts desk.old desk.new }
+    ensures kept { KeepsStanding (B.seen desk.old) (B.seen desk.new) }
 {
     // Made once for all clients. If memory runs out here, each connection makes its own.
     let routes = Routes::new(alloc).ok();

@@ -183,8 +183,8 @@ pub(crate) fn serve_routes<R: Read + Drop, W: Write, B: Book>(
     routes: &Routes,
     day: Day,
 ) -> StreamEnd
-    ensures { Served B.clean B.sure B.stands B.lasts B.leaves B.firm B.refusals day (R.remaining reader)
-        (W.contents writer.old) desk.old result (W.contents writer.new) desk.new }
+    ensures { Served day (R.remaining reader)
+        (W.contents writer.old) (B.seen desk.old) result (W.contents writer.new) (B.seen desk.new) }
 {
     let mut input = Input::new(alloc, reader);
     for _ in 0..MAX_MESSAGES {
@@ -239,8 +239,8 @@ pub fn serve_stream<R: Read + Drop, W: Write, B: Book>(
     desk: &mut Desk<B>,
     day: Day,
 ) -> StreamEnd
-    ensures { Served B.clean B.sure B.stands B.lasts B.leaves B.firm B.refusals day (R.remaining reader)
-        (W.contents writer.old) desk.old result (W.contents writer.new) desk.new }
+    ensures { Served day (R.remaining reader)
+        (W.contents writer.old) (B.seen desk.old) result (W.contents writer.new) (B.seen desk.new) }
 {
     match Routes::new(alloc) {
         Ok(routes) => serve_routes(alloc, reader, writer, desk, &routes, day),

@@ -11,10 +11,7 @@
 //!   nothing is read (`again`, `last`). Something that is no message is refused by BadMessage, LengthRequired or
 //!   TooLarge, whatever the reader's contract says (`framing`).
 //! - `laws` `one_reading`: a stream of bytes has one list of messages, and one end.
-//! - `path`, `named_matter`: what is before the first question mark of a request target; the matter that a path names,
-//!   with a route or without one.
-//! - `Routes::new`: the routes as `matchit` keeps the 28 paths of the table, taken in order (its type's invariant); the
-//!   only error is that memory runs out, since each path is good and no two of them conflict (`memory`).
+//! - `path`: what is before the first question mark of a request target.
 #![tactic(auto)]
 
 mod input;

@@ -5,6 +5,7 @@ use Rattle.trust_store.specs.Books.{counted}
 use Rattle.trust_store.specs.Calls.{IsWrite, IsWriteIf}
 use Rattle.sql_tables.specs.Reading.{LeavesOnly}
 use Rattle.sql_rows.specs.Scripts.{IsTyped, IsScriptMeant, ScriptsAreMeant}
+use Rattle.sql_book.specs.Books.{seen_of}
 use Rattle.sql_book.proofs.Scripts.{made_of_steps, keyed}
 
 both_ok : {T E P Q R : Type 0} (r : Result T E) → OnOk r P → OnOk r Q → (P → Q → R) → OnOk r R
@@ -45,11 +46,11 @@ pub record Wrote {E : Type 0} (script : List SqlStatement) (result : Result Unit
 
 -- what a book promises of a write, and what it promises if something holds
 abbrev pub IsBookWrite : {S T : Type 0} → Ghosts S → FirmChange → Result T StoreFault → HeldBook S → HeldBook S → Type 0
-IsBookWrite g = IsWrite (firm_of g) (IsServing g) (IsSure g) (IsStanding g) (IsLasting g) (MayLeave g) (λ b. b.refusals)
+IsBookWrite g change result old new = IsWrite change result (seen_of g old) (seen_of g new)
 
 abbrev pub IsBookWriteIf : {S T : Type 0} → Ghosts S → Type 0 → FirmChange → Result T StoreFault → HeldBook S → HeldBook S
     → Type 0
-IsBookWriteIf g = IsWriteIf (firm_of g) (IsServing g) (IsSure g) (IsStanding g) (IsLasting g) (MayLeave g) (λ b. b.refusals)
+IsBookWriteIf g fits change result old new = IsWriteIf fits change result (seen_of g old) (seen_of g new)
 
 -- if the book serves and stands, the change fits its firm
 abbrev pub FitsBook : {S : Type 0} → Ghosts S → FirmChange → HeldBook S → Type 0
@@ -127,12 +128,12 @@ told : {E F : Type 0} (script : List SqlStatement) (q : Result Unit E) (r : Resu
 told script q r old new alike w = grind (arith, ints, nat_tests)
 
 -- the same of a book that is seen to hold the connection
-pub wrote : {S : Type 0} (g : Ghosts S) {l : Layout} {before now : Held S} {few many : ℕ} {q : Result Unit Error}
+pub wrote : {S : Type 0} (g : Ghosts S) {l : Layout} {before : Held S} (now : Held S) {few many : ℕ} {q : Result Unit Error}
     {r : Result Unit StoreFault} {old : HeldBook S} (change : FirmChange) (script : List SqlStatement)
     → holding before l few ≡ old → is_ok r ≡ is_ok q → many ≡ counted r few → ScriptsAreMeant
     → Wrote script q (state g before) (state g now) → script ≢ [] → IsTyped change → map step_of script ≡ steps_of change
     → IsBookWriteIf g (FitsBook g change old) change r old (holding now l many)
-wrote g {l} {before} {now} {few} {many} {q} {r} change script held alike count meant w some typed is =
+wrote g {l} {before} now {few} {many} {q} {r} change script held alike count meant w some typed is =
     subst (λ b. IsBookWriteIf g (FitsBook g change b) change r b (holding now l many)) held
     (is_write g l before now few many change script some (meant change) typed is r
     (told script q r (state g before) (state g now) alike w) count)

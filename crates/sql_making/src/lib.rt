@@ -10,7 +10,7 @@
 //!   Ok the connection is open (`serves`).
 //! - `sql_making::adopt`: a book of version 1 becomes one of this version, settled, in a database that lists what it
 //!   holds: if its tables stood for records, the new ones stand for the same, row by row, and the old three are empty;
-//!   the tables that both have keep their rows (`moved`, `taken`, `listed`). All of it or nothing: after an error that
+//!   the tables that both have keep their rows (`taken`, `listed`). All of it or nothing: after an error that
 //!   leaves the connection open all is as it was (`kept`), and what a crash may leave is what it might have left
 //!   before, or, of a book of version 1 alone, the moved tables (`crash`). A book of this version is taken as it is;
 //!   NotABook only of a database that is neither (`refused`); if there is no book of version 1, Store only if the store

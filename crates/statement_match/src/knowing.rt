@@ -353,9 +353,9 @@ impl FirmLineSink for KnownCollector {
 ///
 /// Returns `Store` if the book's store failed, and `Memory` if memory ran out.
 pub(crate) fn known_in<B: Book>(alloc: Global, book: &mut B) -> Result<Known, StoreFault>
-    ensures known { B.clean book.new → B.stands book.old
-        → IfOk result (λ known. known ≡ known_of (B.firm book.old)) }
-    ensures read { IsRead B.firm B.clean B.sure B.stands B.lasts B.leaves B.refusals result book.old book.new }
+    ensures known { (B.seen book.new).clean → (B.seen book.old).stands
+        → IfOk result (λ known. known ≡ known_of (B.seen book.old).firm) }
+    ensures read { IsRead result (B.seen book.old) (B.seen book.new) }
 {
     let mut collector = KnownCollector::new(alloc);
     book.each_row(&mut collector)?;

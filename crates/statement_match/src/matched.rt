@@ -87,9 +87,9 @@ pub fn match_statement<B: Book>(
     book: &mut B,
     statement: &[u8],
 ) -> Result<Matched, StoreFault>
-    ensures matched { B.clean book.new → B.stands book.old
-        → IfOk result (λ found. found ≡ matched today (B.firm book.old) statement.now) }
-    ensures read { IsRead B.firm B.clean B.sure B.stands B.lasts B.leaves B.refusals result book.old book.new }
+    ensures matched { (B.seen book.new).clean → (B.seen book.old).stands
+        → IfOk result (λ found. found ≡ matched today (B.seen book.old).firm statement.now) }
+    ensures read { IsRead result (B.seen book.old) (B.seen book.new) }
 {
     let known = known_in(alloc, book)?;
     let records = records_in(alloc, statement)?;

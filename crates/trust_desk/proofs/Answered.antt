@@ -1,5 +1,5 @@
 -- How a request is answered, by what the calls of the book were.
-use Rattle.trust_desk.proofs.Names.{◌≡◌, ◌⊎◌, inl, inr, ◌∙◌, ℕ, true, false, Ok, Err, Result, refl, ap, sym, subst, IfOk, cond-false, is_fault, refused_by, Refusal, StoreFault, Ask, Asked, Caller, refusal, IsDecided, MatterChange, Firm, FirmChange, of, after, after_change, after_edit, IsRead, IsWrite, Reply, IsAnswered, counted_end, counted_reply, is_store, IsMade, KindIsMade, is_fault_end, Steps, after_ask, after_asked, firm_step, kind_step, Heard, Kind, OfMatter, OnlyTold, asked_on, kind_of, is_fault_reply, refused, replied, reply_for, reply_of, text_reply, List, arith, ints, nat_tests}
+use Rattle.trust_desk.proofs.Names.{Seen, ◌≡◌, ◌⊎◌, inl, inr, ◌∙◌, ℕ, true, false, Ok, Err, Result, refl, ap, sym, subst, IfOk, cond-false, is_fault, refused_by, Refusal, StoreFault, Ask, Asked, Caller, refusal, IsDecided, MatterChange, Firm, FirmChange, of, after, after_change, after_edit, IsRead, IsWrite, Reply, IsAnswered, counted_end, counted_reply, is_store, IsMade, KindIsMade, is_fault_end, Steps, after_ask, after_asked, firm_step, kind_step, Heard, Kind, OfMatter, OnlyTold, asked_on, kind_of, is_fault_reply, refused, replied, reply_for, reply_of, text_reply, List, arith, ints, nat_tests}
 use Rattle.trust_desk.proofs.Calls.{uncounted, kept-as, kept-then, read-kept, write-kept}
 use Rattle.trust_desk.proofs.Crashes.{leave-as, leave-failed, read-leaves, written-leaves}
 use Rattle.trust_desk.proofs.Refused.{IsTold, fault-counted, fault-told}
@@ -19,19 +19,19 @@ refused-steps day firm new h r why same =
     grind (arith, ints, nat_tests, is_fault, refused, steps-fault, nothing-done, steps-plain)
 
 -- a fault of a read is answered, and nothing changes
-pub unread-answered : {B T : Type 0} {firm : B → Firm} {clean sure stands lasts : B → Type 0} {leaves : B → Firm → Type 0} {refusals : B → ℕ} {old new : B} (day : ℕ) (h : Heard) (fault : StoreFault)
-    → IsRead {T = T} firm clean sure stands lasts leaves refusals (Err fault) old new
-    → IsAnswered firm clean sure stands lasts leaves refusals day h (Err (refused_by fault)) old new
-unread-answered {firm} {refusals} {old} {new} day h fault read =
+pub unread-answered : {T : Type 0} {old new : Seen} (day : ℕ) (h : Heard) (fault : StoreFault)
+    → IsRead {T = T} (Err fault) old new
+    → IsAnswered day h (Err (refused_by fault)) old new
+unread-answered {old} {new} day h fault read =
     grind (arith, ints, nat_tests, refused-steps, fault-told, kept-as, fault-counted, read-kept, leave-failed, read-leaves)
 
 -- a text of what was read is told, or why it is refused, and nothing changes
-pub told-answered : {B T : Type 0} {firm : B → Firm} {clean sure stands lasts : B → Type 0} {leaves : B → Firm → Type 0} {refusals : B → ℕ} {old new : B} {read : T} (day : ℕ) (h : Heard) (text : ℕ → Firm → Result (List ℕ) Refusal) (result : Result Reply Refusal)
+pub told-answered : {T : Type 0} {old new : Seen} {read : T} (day : ℕ) (h : Heard) (text : ℕ → Firm → Result (List ℕ) Refusal) (result : Result Reply Refusal)
     → kind_of h ≡ OnlyTold text → IfOk result (λ reply. is_fault_reply reply ≡ false) → is_fault_end result ≡ false
-    → IsRead firm clean sure stands lasts leaves refusals (Ok read) old new
-    → (clean new → stands old → reply_for result ≡ text_reply (text day (firm old)))
-    → IsAnswered firm clean sure stands lasts leaves refusals day h result old new
-told-answered {firm} {refusals} {old} {new} day h text result kind plain fine read tells =
+    → IsRead (Ok read) old new
+    → (new.clean → old.stands → reply_for result ≡ text_reply (text day old.firm))
+    → IsAnswered day h result old new
+told-answered {old} {new} day h text result kind plain fine read tells =
     grind (arith, ints, nat_tests, steps-plain, kept-as, read-kept, leave-as, read-leaves)
 
 -- An ask of a matter.
@@ -57,44 +57,44 @@ module _ (day : ℕ) (h : Heard) (m : ℕ) (caller : Caller) (ask : Ask) (kind :
       → (is_fault r ≡ true) ⊎ ((refused r ≡ (firm_step day f h).reply) × (f ≡ (firm_step day f h).firm))
   refuses f r tells = grind (arith, ints, nat_tests, replied, of, a, says_it, after_asked, leaves_it)
 
-  module _ {B : Type 0} {firm : B → Firm} {clean sure stands lasts : B → Type 0} {leaves : B → Firm → Type 0} {refusals : B → ℕ} {old new : B} where
+  module _ {old new : Seen} where
     -- it is refused, by what was read
-    pub ask-refused : {T : Type 0} {read : T} (r : Refusal) → IsRead firm clean sure stands lasts leaves refusals (Ok read) old new
-        → (clean new → stands old → IsTold (refusal (of m (firm old)) a) r)
-        → IsAnswered firm clean sure stands lasts leaves refusals day h (Err r) old new
+    pub ask-refused : {T : Type 0} {read : T} (r : Refusal) → IsRead (Ok read) old new
+        → (new.clean → old.stands → IsTold (refusal (of m old.firm) a) r)
+        → IsAnswered day h (Err r) old new
     ask-refused r read tells = record {
-      step = λ served stood. refused-steps day (firm old) (firm new) h r (refuses (firm old) r (tells served stood)) (read.same served stood);
+      step = λ served stood. refused-steps day old.firm new.firm h r (refuses old.firm r (tells served stood)) (read.same served stood);
       plain = tt;
       kept = kept-as (λ is stood.
           let served = read.serves is in
           sym (cond-false (is_store r) _ _ (tells served (stood (read.was_clean served))).told)) (read-kept read);
       crash = λ is stood before.
           leave-as (λ plain. refl) (λ f made. made)
-          (λ plain. elim (refuses (firm old) r (tells (read.serves is) stood)) [ inl fault ↦ absurd (cc) | inr same ↦ sym same.1 ])
+          (λ plain. elim (refuses old.firm r (tells (read.serves is) stood)) [ inl fault ↦ absurd (cc) | inr same ↦ sym same.1 ])
           (read-leaves read is stood);
     }
 
     -- its change is written
-    pub ask-written : {T U : Type 0} {read : T} {done : U} {change : FirmChange} {now : B} (reply : Reply) → is_fault_reply reply ≡ false
-        → IsRead firm clean sure stands lasts leaves refusals (Ok read) old now → IsWrite firm clean sure stands lasts leaves refusals change (Ok done) now new
-        → (clean now → stands old → (reply ≡ reply_of m (of m (firm old)) a) × (after change (firm old) ≡ after_ask m a (firm old)))
-        → IsAnswered firm clean sure stands lasts leaves refusals day h (Ok reply) old new
+    pub ask-written : {T U : Type 0} {read : T} {done : U} {change : FirmChange} {now : Seen} (reply : Reply) → is_fault_reply reply ≡ false
+        → IsRead (Ok read) old now → IsWrite change (Ok done) now new
+        → (now.clean → old.stands → (reply ≡ reply_of m (of m old.firm) a) × (after change old.firm ≡ after_ask m a old.firm))
+        → IsAnswered day h (Ok reply) old new
     ask-written {change} reply plain read write tells = record {
       step = λ served stood.
           let was = write.was_clean served in
           let is = tells was stood in
-          steps-plain day (firm old) (firm new) h reply plain (is.0 ∙ says_it (firm old))
-          (write.ok served (read.still_stands was stood) ∙ (ap (after change) (read.same was stood) ∙ (is.1 ∙ leaves_it (firm old))));
+          steps-plain day old.firm new.firm h reply plain (is.0 ∙ says_it old.firm)
+          (write.ok served (read.still_stands was stood) ∙ (ap (after change) (read.same was stood) ∙ (is.1 ∙ leaves_it old.firm)));
       plain = plain;
       kept = kept-then (read-kept read) (write-kept write);
       crash = λ is stood before.
-          leave-as (λ fine. refl) (makes_it (firm old)) (λ fine. sym (leaves_it (firm old))) (written-leaves read write (λ served. (tells served stood).1) is stood);
+          leave-as (λ fine. refl) (makes_it old.firm) (λ fine. sym (leaves_it old.firm)) (written-leaves read write (λ served. (tells served stood).1) is stood);
     }
 
     -- or the store or memory stops that
-    pub ask-unwritten : {T U : Type 0} {read : T} {change : FirmChange} {now : B} (fault : StoreFault)
-        → IsRead firm clean sure stands lasts leaves refusals (Ok read) old now → IsWrite {T = U} firm clean sure stands lasts leaves refusals change (Err fault) now new
-        → (clean now → stands old → after change (firm old) ≡ after_ask m a (firm old))
-        → IsAnswered firm clean sure stands lasts leaves refusals day h (Err (refused_by fault)) old new
+    pub ask-unwritten : {T U : Type 0} {read : T} {change : FirmChange} {now : Seen} (fault : StoreFault)
+        → IsRead (Ok read) old now → IsWrite {T = U} change (Err fault) now new
+        → (now.clean → old.stands → after change old.firm ≡ after_ask m a old.firm)
+        → IsAnswered day h (Err (refused_by fault)) old new
     ask-unwritten fault read write makes =
         grind (arith, ints, nat_tests, refused-steps, fault-told, kept-as, fault-counted, kept-then, read-kept, write-kept, leave-failed, makes_it, written-leaves)

@@ -1,5 +1,5 @@
 -- How an item is applied beside what is known of the firm's own ledger.
-use Rattle.trust_desk.proofs.Names.{◌≡◌, ◌∙◌, ℕ, List, Option, Some, None, Result, Ok, Err, ap, IfOk, IfSome, OnErr, ⊤, Line, StoreFault, LineEffect, BankLine, line_on, BalanceKind, FirmLine, Verdict, Firm, of, FirmChange, after, by_balance, by_firm_line, firm_verdict, IsFirmVerdict, edit-leaves, Item, IsRead, IsWrite, IsWriteIf, Counted, IsItemApplied, AgreesWith, IsAppliedBeside, KeepsBeside, lines_after, KeepsBook, after_item, after_told, balance_on, counted_by, counted_of, arith, ints, nat_tests}
+use Rattle.trust_desk.proofs.Names.{Seen, ◌≡◌, ◌∙◌, ℕ, List, Option, Some, None, Result, Ok, Err, ap, IfOk, IfSome, OnErr, ⊤, Line, StoreFault, LineEffect, BankLine, line_on, BalanceKind, FirmLine, Verdict, Firm, of, FirmChange, after, by_balance, by_firm_line, firm_verdict, IsFirmVerdict, edit-leaves, Item, IsRead, IsWrite, IsWriteIf, Counted, IsItemApplied, AgreesWith, IsAppliedBeside, KeepsBeside, lines_after, KeepsBook, after_item, after_told, balance_on, counted_by, counted_of, arith, ints, nat_tests}
 use Rattle.trust_matter.specs.declared.line_verdict.LineEffect.TheVariants as told
 use Rattle.firm_rows.specs.declared.ledger.BalanceKind.TheVariants as kind
 use Rattle.firm_rows.specs.declared.ledger.Verdict.TheVariants as own
@@ -47,44 +47,44 @@ lines-still : (day : ℕ) (it : Item) (result : Result Counted StoreFault) (a b 
     → IfOk result (λ c. (c ≡ counted_of day a it) × (b ≡ after_item day a it)) → OnErr result (b ≡ a) → b.firm_lines ≡ a.firm_lines
 lines-still day it result a b apart step err = grind (arith, ints, nat_tests, item-lines)
 
-pub kept-beside : {B : Type 0} (firm : B → Firm) {clean sure stands lasts : B → Type 0} {refusals : B → ℕ} {count : ℕ → ℕ} {old new : B} (known left : Option (List FirmLine))
-    → (clean new → stands old → AgreesWith known (firm old) → AgreesWith left (firm new))
-    → KeepsBook clean sure stands lasts refusals count old new → KeepsBeside firm clean sure stands lasts refusals count old known new left
-kept-beside firm known left agrees k = grind (arith, ints, nat_tests)
+pub kept-beside : {count : ℕ → ℕ} {old new : Seen} (known left : Option (List FirmLine))
+    → (new.clean → old.stands → AgreesWith known old.firm → AgreesWith left new.firm)
+    → KeepsBook count old new → KeepsBeside count old known new left
+kept-beside known left agrees k = grind (arith, ints, nat_tests)
 
 -- the book alone
-pub kept-alone : {B : Type 0} (firm : B → Firm) (clean sure stands lasts : B → Type 0) (refusals : B → ℕ) {count : ℕ → ℕ} {old new : B} {left : Option (List FirmLine)}
-    → KeepsBeside firm clean sure stands lasts refusals count old None new left → KeepsBook clean sure stands lasts refusals count old new
-kept-alone firm clean sure stands lasts refusals k = grind (arith, ints, nat_tests)
+pub kept-alone : {count : ℕ → ℕ} {old new : Seen} (left : Option (List FirmLine))
+    → KeepsBeside count old None new left → KeepsBook count old new
+kept-alone left k = grind (arith, ints, nat_tests)
 
-module _ {B : Type 0} {firm : B → Firm} {clean sure stands lasts : B → Type 0} {leaves : B → Firm → Type 0} {refusals : B → ℕ} {day : ℕ} {old new : B} (known : Option (List FirmLine)) where
+module _ {day : ℕ} {old new : Seen} (known : Option (List FirmLine)) where
   -- an item that is no line of the firm's own
-  pub item-apart : {it : Item} {result : Result Counted StoreFault} → IsApart it → IsItemApplied firm clean sure stands lasts leaves refusals day it result old new
-      → IsAppliedBeside firm clean sure stands lasts leaves refusals day it result old known new known
+  pub item-apart : {it : Item} {result : Result Counted StoreFault} → IsApart it → IsItemApplied day it result old new
+      → IsAppliedBeside day it result old known new known
   item-apart {it} {result} apart a = record {
     step = λ served stood. a.step served stood.0;
     err = λ served stood. a.err served stood.0;
-    kept = kept-beside firm known known (λ served stood right. agrees-still known (firm old) (firm new) (lines-still day it result (firm old) (firm new) apart (a.step served stood) (a.err served stood)) right) a.kept;
+    kept = kept-beside known known (λ served stood right. agrees-still known old.firm new.firm (lines-still day it result old.firm new.firm apart (a.step served stood) (a.err served stood)) right) a.kept;
     crash = λ sure stood. a.crash sure stood.0;
   }
 
   -- an item that is written by what is known, with no read
-  pub beside-written : {T : Type 0} {done : T} {change : FirmChange} (it : Item) (k : Counted) → IsWrite firm clean sure stands lasts leaves refusals change (Ok done) old new
+  pub beside-written : {T : Type 0} {done : T} {change : FirmChange} (it : Item) (k : Counted) → IsWrite change (Ok done) old new
       → ((f : Firm) → (after change f).firm_lines ≡ f.firm_lines)
-      → (AgreesWith known (firm old) → (k ≡ counted_of day (firm old) it) × (after change (firm old) ≡ after_item day (firm old) it))
-      → IsAppliedBeside firm clean sure stands lasts leaves refusals day it (Ok k) old known new known
+      → (AgreesWith known old.firm → (k ≡ counted_of day old.firm it) × (after change old.firm ≡ after_item day old.firm it))
+      → IsAppliedBeside day it (Ok k) old known new known
   beside-written it k write leaves_lines tells =
       grind (arith, ints, nat_tests, kept-beside, agrees-still, write-kept, leave-as, write-leaves)
 
-  pub beside-unwritten : {T : Type 0} {change : FirmChange} (it : Item) (k : Counted) (fault : StoreFault) → IsWrite {T = T} firm clean sure stands lasts leaves refusals change (Err fault) old new
-      → (AgreesWith known (firm old) → (k ≡ counted_of day (firm old) it) × (after change (firm old) ≡ after_item day (firm old) it))
-      → IsAppliedBeside firm clean sure stands lasts leaves refusals day it (Err fault) old known new known
+  pub beside-unwritten : {T : Type 0} {change : FirmChange} (it : Item) (k : Counted) (fault : StoreFault) → IsWrite {T = T} change (Err fault) old new
+      → (AgreesWith known old.firm → (k ≡ counted_of day old.firm it) × (after change old.firm ≡ after_item day old.firm it))
+      → IsAppliedBeside day it (Err fault) old known new known
   beside-unwritten it k fault write tells =
       grind (arith, ints, nat_tests, kept-beside, agrees-still, write-kept, leave-failed, write-leaves)
 
   -- nothing was read
-  pub beside-unread : {T : Type 0} (it : Item) (fault : StoreFault) → IsRead {T = T} firm clean sure stands lasts leaves refusals (Err fault) old new
-      → IsAppliedBeside firm clean sure stands lasts leaves refusals day it (Err fault) old known new known
+  pub beside-unread : {T : Type 0} (it : Item) (fault : StoreFault) → IsRead {T = T} (Err fault) old new
+      → IsAppliedBeside day it (Err fault) old known new known
   beside-unread it fault read =
       grind (arith, ints, nat_tests, kept-beside, agrees-still, read-kept, leave-failed, read-leaves)
 
@@ -94,27 +94,27 @@ module _ {B : Type 0} {firm : B → Firm} {clean sure stands lasts : B → Type 
 fits : (day : ℕ) (line : Line) (lines : List FirmLine) (f : Firm) (v : Verdict) → v ≡ firm_verdict lines line day → lines ≡ f.firm_lines → IsFirmVerdict f line v
 fits day line lines f v is same = (day, is ∙ ap (λ (ls : List FirmLine). firm_verdict ls line day) same)
 
-module _ {B : Type 0} {firm : B → Firm} {clean sure stands lasts : B → Type 0} {leaves : B → Firm → Type 0} {refusals : B → ℕ} (day : ℕ) (line : Line) (lines : List FirmLine) where
+module _ (day : ℕ) (line : Line) (lines : List FirmLine) where
   -- a line that is written by the ledger that is known
-  pub firm_line-written : {T : Type 0} {done : T} {old new : B} (v : Verdict) (k : Counted) (left : Option (List FirmLine)) → v ≡ firm_verdict lines line day → k ≡ counted_by v
+  pub firm_line-written : {T : Type 0} {done : T} {old new : Seen} (v : Verdict) (k : Counted) (left : Option (List FirmLine)) → v ≡ firm_verdict lines line day → k ≡ counted_by v
       → IfSome left (λ ls. ls ≡ lines_after line v lines)
-      → IsWriteIf firm clean sure stands lasts leaves refusals (clean old → IsFirmVerdict (firm old) line v) (by_firm_line line v) (Ok done) old new
-      → IsAppliedBeside firm clean sure stands lasts leaves refusals day (item.OfFirm line) (Ok k) old (Some lines) new left
+      → IsWriteIf (old.clean → IsFirmVerdict old.firm line v) (by_firm_line line v) (Ok done) old new
+      → IsAppliedBeside day (item.OfFirm line) (Ok k) old (Some lines) new left
   firm_line-written {old} {new} v k left is count added w =
-      let right = λ (same : lines ≡ (firm old).firm_lines). fit_write (λ (served : clean old). fits day line lines (firm old) v is same) w in
-      let tells = λ (same : lines ≡ (firm old).firm_lines). agreed-tells day line lines (firm old) v is same in
+      let right = λ (same : lines ≡ old.firm.firm_lines). fit_write (λ (served : old.clean). fits day line lines old.firm v is same) w in
+      let tells = λ (same : lines ≡ old.firm.firm_lines). agreed-tells day line lines old.firm v is same in
       grind (arith, ints, nat_tests, added-agrees, leave-as, write-leaves)
 
-  pub firm_line-unwritten : {T : Type 0} {old new : B} (v : Verdict) (fault : StoreFault) → v ≡ firm_verdict lines line day
-      → IsWriteIf {T = T} firm clean sure stands lasts leaves refusals (clean old → IsFirmVerdict (firm old) line v) (by_firm_line line v) (Err fault) old new
-      → IsAppliedBeside firm clean sure stands lasts leaves refusals day (item.OfFirm line) (Err fault) old (Some lines) new None
+  pub firm_line-unwritten : {T : Type 0} {old new : Seen} (v : Verdict) (fault : StoreFault) → v ≡ firm_verdict lines line day
+      → IsWriteIf {T = T} (old.clean → IsFirmVerdict old.firm line v) (by_firm_line line v) (Err fault) old new
+      → IsAppliedBeside day (item.OfFirm line) (Err fault) old (Some lines) new None
   firm_line-unwritten {old} {new} v fault is w =
       grind (arith, ints, nat_tests, fit_write, agreed-tells, leave-failed, write-leaves)
 
   -- after the ledger was read
-  pub beside-read : {it : Item} {result : Result Counted StoreFault} {old now new : B} {left : Option (List FirmLine)} → IsRead firm clean sure stands lasts leaves refusals (Ok lines) old now
-      → (clean now → stands old → lines ≡ (firm old).firm_lines)
-      → IsAppliedBeside firm clean sure stands lasts leaves refusals day it result now (Some lines) new left
-      → IsAppliedBeside firm clean sure stands lasts leaves refusals day it result old None new left
+  pub beside-read : {it : Item} {result : Result Counted StoreFault} {old now new : Seen} {left : Option (List FirmLine)} → IsRead (Ok lines) old now
+      → (now.clean → old.stands → lines ≡ old.firm.firm_lines)
+      → IsAppliedBeside day it result now (Some lines) new left
+      → IsAppliedBeside day it result old None new left
   beside-read {it} {result} {old} {now} {new} {left} read found a =
       grind (arith, ints, nat_tests, counted_of, after_item, kept-then, leave-then, read-leaves)

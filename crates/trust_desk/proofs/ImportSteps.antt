@@ -1,5 +1,5 @@
 -- The course of an import is its step.
-use Rattle.trust_desk.proofs.Names.{◌≡◌, ◌⊎◌, ℕ, Bool, true, false, List, [], ◌∷◌, Option, Some, None, Ok, Err, refl, sym, ap, ◌∙◌, subst, append-nil, cond-false, nat_lt, is_none, unwrap_or, false≢true, Refusal, is_fault, Caller, first, Firm, Item, items, LacksHeader, ImportEnd, ImportStop, Json, is_store, counted_refusal, refused, after_items, counts_after, none_counted, AreFirst, AreFront, Imports, IsAfterFirst, IsStop, IsMade, IsOfItems, KindIsMade, KindStopped, MayLeave, IsAnswered, KeepsBook, is_stopped, IsAfterFront, import_refusal, items_unless, imported, counts_text, import_reply, is_not_of_firm, firm_step, kind_step, Heard, Kind, OfItems, kind_of, arith, ints, nat_tests}
+use Rattle.trust_desk.proofs.Names.{Seen, ◌≡◌, ◌⊎◌, ℕ, Bool, true, false, List, [], ◌∷◌, Option, Some, None, Ok, Err, refl, sym, ap, ◌∙◌, subst, append-nil, cond-false, nat_lt, is_none, unwrap_or, false≢true, Refusal, is_fault, Caller, first, Firm, Item, items, LacksHeader, ImportEnd, ImportStop, Json, is_store, counted_refusal, refused, after_items, counts_after, none_counted, AreFirst, AreFront, Imports, IsAfterFirst, IsStop, IsMade, IsOfItems, KindIsMade, KindStopped, MayLeave, IsAnswered, KeepsBook, is_stopped, IsAfterFront, import_refusal, items_unless, imported, counts_text, import_reply, is_not_of_firm, firm_step, kind_step, Heard, Kind, OfItems, kind_of, arith, ints, nat_tests}
 use Rattle.std.specs.Prelude.{length}
 use Rattle.trust_base.specs.declared.refusal.Field.TheVariants as field
 use Rattle.trust_base.specs.declared.refusal.Rule.TheVariants as rule
@@ -48,10 +48,10 @@ module _ (day : ℕ) (h : Heard) (caller : Caller) (bytes : List ℕ) (kind : ki
   leaves_it : (f : Firm) → after_items day f (imported caller bytes) ≡ (firm_step day f h).firm
   leaves_it f = sym (ap (λ (k : Kind). (kind_step day f k).firm) kind)
 
-  module _ {B : Type 0} {firm : B → Firm} {clean sure stands lasts : B → Type 0} {leaves : B → Firm → Type 0} {refusals : B → ℕ} where
+  module _ where
     -- it is refused before anything is applied
-    pub import-unfit : (b : B) (r : Refusal) → (r ≡ refusal.Memory) ⊎ (import_refusal caller bytes ≡ Some r)
-        → IsAnswered firm clean sure stands lasts leaves refusals day h (Err r) b b
+    pub import-unfit : (b : Seen) (r : Refusal) → (r ≡ refusal.Memory) ⊎ (import_refusal caller bytes ≡ Some r)
+        → IsAnswered day h (Err r) b b
     import-unfit b r checked =
         grind (arith, ints, nat_tests, refused-steps, kept-as, cond-false, kept-still, leave-as, leave-still, refused, none_counted, says_it, after_items, leaves_it, store-faults, refusal-plain)
 
@@ -65,45 +65,45 @@ module _ (day : ℕ) (h : Heard) (caller : Caller) (bytes : List ℕ) (kind : ki
     of_items : IsOfItems (kind_of h)
     of_items = subst IsOfItems (sym kind) tt
 
-    module _ {B : Type 0} {firm : B → Firm} {clean sure stands lasts : B → Type 0} {leaves : B → Firm → Type 0} {refusals : B → ℕ} {old new : B} (e : ImportEnd)
-        (front : clean new → stands old → Imports day (firm old) (Some (items bytes)) e (firm new))
-        (crash : sure new → clean old → stands old → MayLeave clean leaves (is_stopped e.end ≡ false) (IsAfterFirst day (firm old) (Some (items bytes))) (firm old) (firm new) old new) where
+    module _ {old new : Seen} (e : ImportEnd)
+        (front : new.clean → old.stands → Imports day old.firm (Some (items bytes)) e new.firm)
+        (crash : new.sure → old.clean → old.stands → MayLeave (is_stopped e.end ≡ false) (IsAfterFirst day old.firm (Some (items bytes))) old.firm new.firm old new) where
       -- it was stopped after some first items, or there is no memory to tell of all
-      pub import-stopped : (r : Refusal) → is_fault r ≡ true → KeepsBook clean sure stands lasts refusals (counted_refusal r) old new
-          → IsAnswered firm clean sure stands lasts leaves refusals day h (Err r) old new
+      pub import-stopped : (r : Refusal) → is_fault r ≡ true → KeepsBook (counted_refusal r) old new
+          → IsAnswered day h (Err r) old new
       import-stopped r fault kept = record {
         step = λ served stood.
             let is = front served stood in
-            steps-fault day (firm old) (firm new) h r fault (subst (λ (k : Kind). KindStopped day (firm old) k (firm new)) (sym kind)
-            (front_of (firm old) (firm new) (record { front = is.front; first = first-front (items bytes) is.front e.end is.first; leaves = is.leaves })));
+            steps-fault day old.firm new.firm h r fault (subst (λ (k : Kind). KindStopped day old.firm k new.firm) (sym kind)
+            (front_of old.firm new.firm (record { front = is.front; first = first-front (items bytes) is.front e.end is.first; leaves = is.leaves })));
         plain = tt;
         kept = kept;
-        crash = λ is stood before. leave-failed (λ fine. false≢true (sym fine ∙ fault)) (makes_it (firm old)) (crash is (before of_items) stood);
+        crash = λ is stood before. leave-failed (λ fine. false≢true (sym fine ∙ fault)) (makes_it old.firm) (crash is (before of_items) stood);
       }
 
       -- all items were applied, and it is told
-      pub import-told : (text : List ℕ) → e.end ≡ stop.Done → text ≡ counts_text e.reply → KeepsBook clean sure stands lasts refusals (λ n. n) old new
-          → IsAnswered firm clean sure stands lasts leaves refusals day h (Ok (record { status = 200; body = Json text })) old new
+      pub import-told : (text : List ℕ) → e.end ≡ stop.Done → text ≡ counts_text e.reply → KeepsBook (λ n. n) old new
+          → IsAnswered day h (Ok (record { status = 200; body = Json text })) old new
       import-told text done says kept = record {
         step = λ served stood.
             let is = front served stood in
-            steps-plain day (firm old) (firm new) h (record { status = 200; body = Json text }) refl
-            ((λ i. record { status = 200; body = Json ((says ∙ ap counts_text (is.counts ∙ ap (λ its. counts_after day (firm old) its none_counted) (all is))) i) })
-            ∙ (ap (λ o. import_reply o (counts_after day (firm old) (imported caller bytes) none_counted)) (sym fit) ∙ says_it (firm old)))
+            steps-plain day old.firm new.firm h (record { status = 200; body = Json text }) refl
+            ((λ i. record { status = 200; body = Json ((says ∙ ap counts_text (is.counts ∙ ap (λ its. counts_after day old.firm its none_counted) (all is))) i) })
+            ∙ (ap (λ o. import_reply o (counts_after day old.firm (imported caller bytes) none_counted)) (sym fit) ∙ says_it old.firm))
             (left is);
         plain = refl;
         kept = kept;
         crash = λ is stood before.
             let made = crash is (before of_items) stood in
-            leave-as (λ fine. ap is_stopped done) (makes_it (firm old))
+            leave-as (λ fine. ap is_stopped done) (makes_it old.firm)
             (λ fine. sym (left (front (made.serves (before of_items) (ap is_stopped done)) stood))) made;
       }
         where
-          all : (is : Imports day (firm old) (Some (items bytes)) e (firm new)) → is.front ≡ imported caller bytes
+          all : (is : Imports day old.firm (Some (items bytes)) e new.firm) → is.front ≡ imported caller bytes
           all is = first-all (items bytes) is.front e.end done is.first ∙ sym (ap (λ o. items_unless o bytes) fit)
 
-          left : (is : Imports day (firm old) (Some (items bytes)) e (firm new)) → firm new ≡ (firm_step day (firm old) h).firm
-          left is = is.leaves ∙ (ap (after_items day (firm old)) (all is) ∙ leaves_it (firm old))
+          left : (is : Imports day old.firm (Some (items bytes)) e new.firm) → new.firm ≡ (firm_step day old.firm h).firm
+          left is = is.leaves ∙ (ap (after_items day old.firm) (all is) ∙ leaves_it old.firm)
 
 -- what ends it is a fault, where the header is good
 pub stopped-by : (caller : Caller) (bytes : List ℕ) (end : ImportStop) (r : Refusal) → import_refusal caller bytes ≡ None → end ≡ stop.Refused r → IsStop end → (end ≡ stop.Refused (refusal.BadField field.Header) → LacksHeader (Some (items bytes))) → is_fault r ≡ true

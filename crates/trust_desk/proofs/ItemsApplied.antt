@@ -1,5 +1,5 @@
 -- How an item is applied, by what is decided of it and by the calls of the book.
-use Rattle.trust_desk.proofs.Names.{◌≡◌, ◌≤◌, ℕ, true, None, Some, Ok, Err, Result, Sound, Part, IsPart, holds_for_line, line-held, Line, StoreFault, BankLine, Rows, LineDecides, BalanceKind, Verdict, Firm, FirmChange, of, after, by_balance, by_line, Item, counted, counted_fault, IsRead, IsWrite, Counted, IsItemApplied, after_item, after_told, balance_item, balance_on, counted_as, counted_by, counted_of, counted_verdict, arith, ints, nat_tests, IsPartFor}
+use Rattle.trust_desk.proofs.Names.{Seen, ◌≡◌, ◌≤◌, ℕ, true, None, Some, Ok, Err, Result, Sound, Part, IsPart, holds_for_line, line-held, Line, StoreFault, BankLine, Rows, LineDecides, BalanceKind, Verdict, Firm, FirmChange, of, after, by_balance, by_line, Item, counted, counted_fault, IsRead, IsWrite, Counted, IsItemApplied, after_item, after_told, balance_item, balance_on, counted_as, counted_by, counted_of, counted_verdict, arith, ints, nat_tests, IsPartFor}
 use Rattle.trust_base.specs.declared.refusal.StoreFault.TheVariants as faults
 use Rattle.trust_matter.specs.declared.line_verdict.LineVerdict.{LineVerdict}
 use Rattle.trust_matter.specs.declared.line_verdict.LineVerdict.TheVariants as verdict
@@ -35,22 +35,22 @@ balance-tells k day firm line v is = grind (arith, ints, nat_tests, counted_by, 
 
 -- The calls of the book.
 
-module _ {B : Type 0} {firm : B → Firm} {clean sure stands lasts : B → Type 0} {leaves : B → Firm → Type 0} {refusals : B → ℕ} {old new : B} (day : ℕ) (it : Item) where
+module _ {old new : Seen} (day : ℕ) (it : Item) where
   -- what was read tells how the item is counted, and what is written for it
-  pub item-written : {T U : Type 0} {read : T} {done : U} {change : FirmChange} {now : B} (k : Counted)
-      → IsRead firm clean sure stands lasts leaves refusals (Ok read) old now → IsWrite firm clean sure stands lasts leaves refusals change (Ok done) now new
-      → (clean now → stands old → (k ≡ counted_of day (firm old) it) × (after change (firm old) ≡ after_item day (firm old) it)) → IsItemApplied firm clean sure stands lasts leaves refusals day it (Ok k) old new
+  pub item-written : {T U : Type 0} {read : T} {done : U} {change : FirmChange} {now : Seen} (k : Counted)
+      → IsRead (Ok read) old now → IsWrite change (Ok done) now new
+      → (now.clean → old.stands → (k ≡ counted_of day old.firm it) × (after change old.firm ≡ after_item day old.firm it)) → IsItemApplied day it (Ok k) old new
   item-written {change} k read write tells =
       grind (arith, ints, nat_tests, after, kept-then, read-kept, write-kept, written-leaves)
 
-  pub item-unwritten : {T U : Type 0} {read : T} {change : FirmChange} {now : B} (k : Counted) (fault : StoreFault)
-      → IsRead firm clean sure stands lasts leaves refusals (Ok read) old now → IsWrite {T = U} firm clean sure stands lasts leaves refusals change (Err fault) now new
-      → (clean now → stands old → (k ≡ counted_of day (firm old) it) × (after change (firm old) ≡ after_item day (firm old) it)) → IsItemApplied firm clean sure stands lasts leaves refusals day it (Err fault) old new
+  pub item-unwritten : {T U : Type 0} {read : T} {change : FirmChange} {now : Seen} (k : Counted) (fault : StoreFault)
+      → IsRead (Ok read) old now → IsWrite {T = U} change (Err fault) now new
+      → (now.clean → old.stands → (k ≡ counted_of day old.firm it) × (after change old.firm ≡ after_item day old.firm it)) → IsItemApplied day it (Err fault) old new
   item-unwritten {change} k fault read write tells =
       grind (arith, ints, nat_tests, kept-then, read-kept, write-kept, written-leaves)
 
   -- nothing was decided on what was read, for a fault that the book does not count
-  pub item-undecided : {T : Type 0} {read : T} (fault : StoreFault) → IsRead firm clean sure stands lasts leaves refusals (Ok read) old new
-      → (sure new → (clean old → stands old) → counted {T = Counted} (Err fault) (refusals old) ≡ refusals old)
-      → IsItemApplied firm clean sure stands lasts leaves refusals day it (Err fault) old new
+  pub item-undecided : {T : Type 0} {read : T} (fault : StoreFault) → IsRead (Ok read) old new
+      → (new.sure → (old.clean → old.stands) → counted {T = Counted} (Err fault) old.refusals ≡ old.refusals)
+      → IsItemApplied day it (Err fault) old new
   item-undecided fault read none = grind (arith, ints, nat_tests, kept-as, read-kept, leave-failed, read-leaves)

@@ -1,5 +1,5 @@
 -- A statement that is read and applied item by item.
-use Rattle.trust_desk.proofs.Names.{◌≡◌, ◌∙◌, ◌+◌, ◌≤◌, ◌++◌, ◌∷◌, [], ℕ, false, List, Option, Some, None, Ok, Err, inl, inr, refl, sym, ap, append_assoc, arith, list_any, ⊤, false≢true, refused_by, StoreFault, Firm, FirmLine, of, FirmSound, Gives, LacksHeader, Item, ImportReply, Counted, ImportEnd, ImportStop, AreBelow, AreFirst, AreFront, AreRead, Imports, IsAfterFirst, IsAppliedBeside, IsStop, IsUnnamed, KeepsAllUnnamed, KeepsBeside, MayLeave, StandsBeside, Told, after_item, after_items, count_item, counted_of, counts_after, is_stopped, names_item, none_counted, ints, nat_tests, IsImported, counted_stop, stop_at}
+use Rattle.trust_desk.proofs.Names.{Seen, beside, ◌≡◌, ◌∙◌, ◌+◌, ◌≤◌, ◌++◌, ◌∷◌, [], ℕ, false, List, Option, Some, None, Ok, Err, inl, inr, refl, sym, ap, append_assoc, arith, list_any, ⊤, false≢true, refused_by, StoreFault, Firm, FirmLine, of, FirmSound, Gives, LacksHeader, Item, ImportReply, Counted, ImportEnd, ImportStop, AreBelow, AreFirst, AreFront, AreRead, Imports, IsAfterFirst, IsAppliedBeside, IsStop, IsUnnamed, KeepsAllUnnamed, KeepsBeside, MayLeave, StandsBeside, Told, after_item, after_items, count_item, counted_of, counts_after, is_stopped, names_item, none_counted, ints, nat_tests, IsImported, counted_stop, stop_at}
 use Rattle.trust_base.specs.declared.refusal.Field.TheVariants as field
 use Rattle.trust_base.specs.declared.refusal.Refusal.TheVariants as refusal
 use Rattle.statement_csv.specs.Limits.{IsTooLong, IsWithin}
@@ -58,46 +58,44 @@ imports-others day firm new told result is m none = ap (of m) is.leaves ∙ unna
 -- The course of an import.
 
 -- the items so far were read, applied and counted, and none was stopped
-pub record IsSoFar {B : Type 0} (firm : B → Firm) (clean sure stands lasts : B → Type 0) (leaves : B → Firm → Type 0)
-    (refusals : B → ℕ) (day : ℕ) (told : Told) (old : B) (turn : ℕ) (left : Told) (counts : ImportReply)
-    (now : B) (own : Option (List FirmLine)) : Type 0 where
+pub record IsSoFar (day : ℕ) (told : Told) (old : Seen) (turn : ℕ) (left : Told) (counts : ImportReply)
+    (now : Seen) (own : Option (List FirmLine)) : Type 0 where
   pub front : List Item
   pub read : AreRead told front left
-  pub step : clean now → stands old
-      → (counts ≡ counts_after day (firm old) front none_counted) × (firm now ≡ after_items day (firm old) front)
+  pub step : now.clean → old.stands
+      → (counts ≡ counts_after day old.firm front none_counted) × (now.firm ≡ after_items day old.firm front)
   pub room : AreBelow (turn + 1) counts
-  pub kept : KeepsBeside firm clean sure stands lasts refusals (λ n. n) old None now own
-  pub crash : sure now → clean old → stands old
-      → MayLeave clean leaves ⊤ (IsAfterFirst day (firm old) told) (firm old) (firm now) old now
+  pub kept : KeepsBeside (λ n. n) old None now own
+  pub crash : now.sure → old.clean → old.stands
+      → MayLeave ⊤ (IsAfterFirst day old.firm told) old.firm now.firm old now
 
 not-header : (f : StoreFault) → stop.Refused (refused_by f) ≡ stop.Refused (refusal.BadField field.Header) → ⊥
 not-header f is = grind (arith, ints, nat_tests)
 
-module _ {B : Type 0} {firm : B → Firm} {clean sure stands lasts : B → Type 0} {leaves : B → Firm → Type 0}
-    {refusals : B → ℕ} {day : ℕ} {told : Told} {old : B} where
+module _ {day : ℕ} {told : Told} {old : Seen} where
   pub none-so_far : (left : Told) → left ≡ told
-      → IsSoFar firm clean sure stands lasts leaves refusals day told old 0 left none_counted old None
+      → IsSoFar day told old 0 left none_counted old None
   none-so_far left whole = grind (arith, ints, nat_tests, read-none, kept-still, leave-still)
 
-  module _ {turn : ℕ} {left : Told} {counts : ImportReply} {now : B} {own : Option (List FirmLine)}
-      (so : IsSoFar firm clean sure stands lasts leaves refusals day told old turn left counts now own) where
+  module _ {turn : ℕ} {left : Told} {counts : ImportReply} {now : Seen} {own : Option (List FirmLine)}
+      (so : IsSoFar day told old turn left counts now own) where
     -- the next item is read: what it leaves is left after a front of the statement
-    next-front : (more : Told) (it : Item) (found : Firm) → Gives left more (Some it) → clean now → stands old
-        → found ≡ after_item day (firm now) it → IsAfterFirst day (firm old) told found
+    next-front : (more : Told) (it : Item) (found : Firm) → Gives left more (Some it) → now.clean → old.stands
+        → found ≡ after_item day now.firm it → IsAfterFirst day old.firm told found
     next-front more it found gives served stood made = record {
       front = so.front ++ it ∷ [];
       first = read-front told more (so.front ++ it ∷ []) (read-more told left more so.front it so.read gives);
       leaves = made
           ∙ (ap (λ (f : Firm). after_item day f it) (so.step served stood).1
-          ∙ sym (after_items-push day (firm old) so.front it));
+          ∙ sym (after_items-push day old.firm so.front it));
     }
 
     -- and applied, and counted
-    pub more-so_far : {more : Told} {next : ImportReply} {new : B} {known : Option (List FirmLine)} (it : Item) (k : Counted)
+    pub more-so_far : {more : Told} {next : ImportReply} {new : Seen} {known : Option (List FirmLine)} (it : Item) (k : Counted)
         → Gives left more (Some it)
-        → IsAppliedBeside firm clean sure stands lasts leaves refusals day it (Ok k) now own new known
+        → IsAppliedBeside day it (Ok k) now own new known
         → next ≡ count_item it k counts
-        → IsSoFar firm clean sure stands lasts leaves refusals day told old (turn + 1) more next new known
+        → IsSoFar day told old (turn + 1) more next new known
     more-so_far {more} {next} {new} {known} it k gives a counted = record {
       front = so.front ++ it ∷ [];
       read = read-more told left more so.front it so.read gives;
@@ -107,10 +105,10 @@ module _ {B : Type 0} {firm : B → Firm} {clean sure stands lasts : B → Type 
           let step = a.step served (so.kept.still_stands was (stood, tt)) in (
             counted
                 ∙ ((λ i. count_item it (step.0 i) (before.0 i))
-                ∙ (ap (λ (f : Firm). count_item it (counted_of day f it) (counts_after day (firm old) so.front none_counted)) before.1
-                ∙ sym (counts_after-push day (firm old) so.front it none_counted))),
+                ∙ (ap (λ (f : Firm). count_item it (counted_of day f it) (counts_after day old.firm so.front none_counted)) before.1
+                ∙ sym (counts_after-push day old.firm so.front it none_counted))),
             step.1
-                ∙ (ap (λ (f : Firm). after_item day f it) before.1 ∙ sym (after_items-push day (firm old) so.front it)),
+                ∙ (ap (λ (f : Firm). after_item day f it) before.1 ∙ sym (after_items-push day old.firm so.front it)),
           );
       room = below-more (turn + 1) (turn + 1 + 1) it k counts next so.room counted (omega arith);
       kept = kept-then so.kept a.kept;
@@ -124,34 +122,34 @@ module _ {B : Type 0} {firm : B → Firm} {clean sure stands lasts : B → Type 
     }
 
     -- the import ends, and nothing more is applied
-    pub ended-so_far : {bytes : Option (List ℕ)} {new : B} {known : Option (List FirmLine)} (more : Told) (e : ImportEnd)
-        → e.reply ≡ counts → (stands old → FirmSound (firm old)) → IsStop e.end → (e.end ≡ stop.Done → Gives left more None)
+    pub ended-so_far : {bytes : Option (List ℕ)} {new : Seen} (known : Option (List FirmLine)) (more : Told) (e : ImportEnd)
+        → e.reply ≡ counts → (old.stands → FirmSound old.firm) → IsStop e.end → (e.end ≡ stop.Done → Gives left more None)
         → (e.end ≡ stop.Refused (refusal.BadField field.Header) → LacksHeader left)
         → (e.end ≡ stop.Limit → IsTooLong bytes) → (e.end ≡ stop.Done → IsWithin bytes)
-        → KeepsBeside firm clean sure stands lasts refusals (counted_stop e.end) now own new known
-        → (clean new → StandsBeside firm stands now own → firm new ≡ firm now)
-        → (sure new → clean now → stands old → StandsBeside firm stands now own
-        → MayLeave clean leaves (is_stopped e.end ≡ false) (IsAfterFirst day (firm old) told) (firm now) (firm new) now new)
-        → IsImported firm clean sure stands lasts leaves refusals day told bytes e old new
-    ended-so_far {bytes} {new} {known} more e reply sound stops done lacks limit within kept same crash = record {
+        → KeepsBeside (counted_stop e.end) now own new known
+        → (new.clean → StandsBeside now own → new.firm ≡ now.firm)
+        → (new.sure → now.clean → old.stands → StandsBeside now own
+        → MayLeave (is_stopped e.end ≡ false) (IsAfterFirst day old.firm told) now.firm new.firm now new)
+        → IsImported day told bytes e old new
+    ended-so_far {bytes} {new} known more e reply sound stops done lacks limit within kept same crash = record {
       front = λ served stood.
           let was = kept.was_clean served in
-          imports was stood (firm new) (same served (so.kept.still_stands was (stood, tt)));
+          imports was stood new.firm (same served (so.kept.still_stands was (stood, tt)));
       stops = stops;
       header = λ is. read-lacks told left so.front so.read (lacks is);
       limit = limit;
       within = within;
-      kept = kept-alone firm clean sure stands lasts refusals (kept-then so.kept kept);
+      kept = kept-alone known (kept-then so.kept kept);
       crash = λ is served stood.
           let before = so.crash (kept.was_sure is) served stood in
           let still = before.serves served tt in
           leave-then (λ found was. was) (λ found was. was) tt before
           (crash is still stood (so.kept.still_stands still (stood, tt)));
       shut = λ is served stood.
-          (firm now, imports ((so.crash (kept.was_sure is) served stood).serves served tt) stood (firm now) refl);
+          (now.firm, imports ((so.crash (kept.was_sure is) served stood).serves served tt) stood now.firm refl);
     }
       where
-        imports : clean now → stands old → (f : Firm) → f ≡ firm now → Imports day (firm old) told e f
+        imports : now.clean → old.stands → (f : Firm) → f ≡ now.firm → Imports day old.firm told e f
         imports served stood f is =
             let step = so.step served stood in
             record {
@@ -159,26 +157,26 @@ module _ {B : Type 0} {firm : B → Firm} {clean sure stands lasts : B → Type 
               first = read-first told left more so.front e.end so.read done;
               leaves = is ∙ step.1;
               counts = reply ∙ step.0;
-              own = λ m. ap (of m) (is ∙ step.1) ∙ of-after_items m day (firm old) so.front;
-              sound = always-sound day (firm old) so.front (sound stood);
+              own = λ m. ap (of m) (is ∙ step.1) ∙ of-after_items m day old.firm so.front;
+              sound = always-sound day old.firm so.front (sound stood);
             }
 
     -- before another item is read
     pub ended-here : {bytes : Option (List ℕ)} (more : Told) (e : ImportEnd) → e.reply ≡ counts
-        → (stands old → FirmSound (firm old)) → ((n : ℕ) → n ≡ counted_stop e.end n) → IsStop e.end
+        → (old.stands → FirmSound old.firm) → ((n : ℕ) → n ≡ counted_stop e.end n) → IsStop e.end
         → (e.end ≡ stop.Done → Gives left more None)
         → (e.end ≡ stop.Refused (refusal.BadField field.Header) → LacksHeader left)
         → (e.end ≡ stop.Limit → IsTooLong bytes) → (e.end ≡ stop.Done → IsWithin bytes)
-        → IsImported firm clean sure stands lasts leaves refusals day told bytes e old now
+        → IsImported day told bytes e old now
     ended-here more e reply sound none stops done lacks limit within =
-        ended-so_far more e reply sound stops done lacks limit within
-        (kept-as (λ is stood. none (refusals now)) (kept-still (now, own))) (λ served stood. refl)
-        (λ is served stood beside. leave-still (firm now) now)
+        ended-so_far own more e reply sound stops done lacks limit within
+        (kept-as (λ is stood. none now.refusals) (kept-still (beside now own))) (λ served stood. refl)
+        (λ is served stood beside. leave-still now.firm now)
 
     -- by a fault of the reading, or for want of memory
-    pub unread-so_far : {bytes : Option (List ℕ)} (f : ReadFault) → (stands old → FirmSound (firm old))
+    pub unread-so_far : {bytes : Option (List ℕ)} (f : ReadFault) → (old.stands → FirmSound old.firm)
         → (f ≡ reading.BadHeader → LacksHeader left) → (f ≡ reading.Limit → IsTooLong bytes)
-        → IsImported firm clean sure stands lasts leaves refusals day told bytes (record { reply = counts; end = stop_at f }) old now
+        → IsImported day told bytes (record { reply = counts; end = stop_at f }) old now
     unread-so_far reading.BadHeader sound lacks limit =
         ended-here left (record { reply = counts; end = stop.Refused (refusal.BadField field.Header) }) refl sound (λ n. refl) (inl refl)
         (λ is. absurd (cc)) (λ is. lacks refl) (λ is. absurd (cc)) (λ is. absurd (cc))
@@ -193,15 +191,15 @@ module _ {B : Type 0} {firm : B → Firm} {clean sure stands lasts : B → Type 
         (λ is. absurd (cc)) (λ is. absurd (cc)) (λ is. absurd (cc)) (λ is. absurd (cc))
 
     -- by a fault of the book, at the next item
-    pub unapplied-so_far : {bytes : Option (List ℕ)} {new : B} {known : Option (List FirmLine)} (more : Told) (it : Item)
-        (f : StoreFault) → (stands old → FirmSound (firm old)) → Gives left more (Some it)
-        → IsAppliedBeside firm clean sure stands lasts leaves refusals day it (Err f) now own new known
-        → IsImported firm clean sure stands lasts leaves refusals day told bytes
+    pub unapplied-so_far : {bytes : Option (List ℕ)} {new : Seen} {known : Option (List FirmLine)} (more : Told) (it : Item)
+        (f : StoreFault) → (old.stands → FirmSound old.firm) → Gives left more (Some it)
+        → IsAppliedBeside day it (Err f) now own new known
+        → IsImported day told bytes
         (record { reply = counts; end = stop.Refused (refused_by f) }) old new
     unapplied-so_far more it f sound gives a =
-        ended-so_far more (record { reply = counts; end = stop.Refused (refused_by f) }) refl sound (inr (fault-told f))
+        ended-so_far _ more (record { reply = counts; end = stop.Refused (refused_by f) }) refl sound (inr (fault-told f))
         (λ is. absurd (cc)) (λ is. absurd (not-header f is)) (λ is. absurd (cc)) (λ is. absurd (cc))
-        (kept-as (λ is stood. fault-counted f (refusals now)) a.kept) a.err
+        (kept-as (λ is stood. fault-counted f now.refusals) a.kept) a.err
         (λ is served stood beside.
         leave-failed (λ fine. false≢true (sym fine ∙ fault-told f))
         (λ found made. next-front more it found gives served stood made) (a.crash is beside))

@@ -80,7 +80,7 @@ pub use Rattle.trust_store.specs.Books.{counted, counted_fault}
 pub use Rattle.trust_store.specs.Calls.{AreHanded, IsRead, IsWrite, IsWriteIf}
 pub use Rattle.trust_desk.specs.Answered.{IsAnswered}
 pub use Rattle.trust_desk.specs.Applied.{IsItemApplied, IsImported}
-pub use Rattle.trust_desk.specs.Beside.{AgreesWith, IsAppliedBeside, KeepsBeside, StandsBeside, lines_after}
+pub use Rattle.trust_desk.specs.Beside.{AgreesWith, IsAppliedBeside, KeepsBeside, StandsBeside, beside, lines_after}
 pub use Rattle.trust_desk.specs.Calls.{KeepsBook}
 pub use Rattle.trust_desk.specs.Counts.{counted_body, counted_end, counted_refusal, counted_replies, counted_reply, is_store}
 pub use Rattle.trust_desk.specs.Crashes.{AreFront, AreNoFaults, AreNoFaultsButLast, IsAfterFirst, IsMade, IsMadeInRun, IsOfItems, KindIsMade, MayLeave, MayLeaveChange, before_fault, is_fault_end, is_stopped}
@@ -110,3 +110,4 @@ pub use Rattle.trust_store.specs.Named.{IsPartFor}
 pub use Rattle.firm_rows.specs.Countable.{AreCountable, IsBalanceInRange, IsFirmLineInRange, IsLineInRange, IsMovementInRange, IsRowInRange}
 pub use Rattle.trust_desk.specs.Kept.{IsKeptOf}
 pub use Rattle.trust_base.specs.declared.refusal.Refusal.TheVariants.{Memory}
+pub use Rattle.trust_store.specs.Seen.{Seen}

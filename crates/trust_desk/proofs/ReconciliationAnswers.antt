@@ -1,5 +1,5 @@
 -- What is told by what was kept of a firm's rows is the firm's reconciliation.
-use Rattle.trust_desk.proofs.Names.{◌≡◌, ℕ, Bool, false, List, [], ◌∷◌, Ok, Option, Result, AreHanded, IsRead, fold, StoreFault, Refusal, Caller, first, ap, sym, ◌∙◌, subst, is_none, Firm, FirmSound, ReconciliationKept, kept_told, reconciled, reconciliation_on, has_no_statement, reconciliation_report, text_of, is_not_of_firm, arith, ints, nat_tests, IsBalanceInRange, IsFirmLineInRange, IsLineInRange, IsMovementInRange, IsRowInRange, IsKeptOf}
+use Rattle.trust_desk.proofs.Names.{Seen, ◌≡◌, ℕ, Bool, false, List, [], ◌∷◌, Ok, Option, Result, AreHanded, IsRead, fold, StoreFault, Refusal, Caller, first, ap, sym, ◌∙◌, subst, is_none, Firm, FirmSound, ReconciliationKept, kept_told, reconciled, reconciliation_on, has_no_statement, reconciliation_report, text_of, is_not_of_firm, arith, ints, nat_tests, IsBalanceInRange, IsFirmLineInRange, IsLineInRange, IsMovementInRange, IsRowInRange, IsKeptOf}
 use Rattle.std.specs.Option.{option_map}
 use Rattle.trust_base.specs.declared.refusal.Refusal.TheVariants as refusals
 use Rattle.trust_reports.specs.Figures.{closing_on, figures, figures_on}
@@ -39,13 +39,13 @@ kept-answers day today caller firm kept allowed sound is =
 
 -- The rows are handed over one kind after the other.
 
-pub rows-kept : {B T : Type 0} {firm : B → Firm} {clean sure stands lasts : B → Type 0} {leaves : B → Firm → Type 0} {refusals : B → ℕ} {a b c d e f : B} {x y z v w : T}
+pub rows-kept : {T : Type 0} {a b c d e f : Seen} {x y z v w : T}
     {s1 s2 s3 s4 s5 : ReconciliationKept} (day : ℕ) (s0 : ReconciliationKept) → s0 ≡ nothing_kept day
-    → IsRead firm clean sure stands lasts leaves refusals (Ok x) a b → (clean b → stands a → AreHanded {E = StoreFault} with_row_kept IsRowInRange (firm a).rows (Ok x) s0 s1)
-    → IsRead firm clean sure stands lasts leaves refusals (Ok y) b c → (clean c → stands b → AreHanded {E = StoreFault} with_movement_kept IsMovementInRange (firm b).movements (Ok y) s1 s2)
-    → IsRead firm clean sure stands lasts leaves refusals (Ok z) c d → (clean d → stands c → AreHanded {E = StoreFault} with_own_kept IsFirmLineInRange (firm c).firm_lines (Ok z) s2 s3)
-    → IsRead firm clean sure stands lasts leaves refusals (Ok v) d e → (clean e → stands d → AreHanded {E = StoreFault} with_exception_kept IsLineInRange (firm d).exceptions (Ok v) s3 s4)
-    → IsRead firm clean sure stands lasts leaves refusals (Ok w) e f → (clean f → stands e → AreHanded {E = StoreFault} with_balance_noted IsBalanceInRange (firm e).balances (Ok w) s4 s5)
-    → clean f → stands a → IsKeptOf day (firm a) s5
-rows-kept {firm} {a} day s0 none r1 h1 r2 h2 r3 h3 r4 h4 r5 h5 c5 st0 =
+    → IsRead (Ok x) a b → (b.clean → a.stands → AreHanded {E = StoreFault} with_row_kept IsRowInRange a.firm.rows (Ok x) s0 s1)
+    → IsRead (Ok y) b c → (c.clean → b.stands → AreHanded {E = StoreFault} with_movement_kept IsMovementInRange b.firm.movements (Ok y) s1 s2)
+    → IsRead (Ok z) c d → (d.clean → c.stands → AreHanded {E = StoreFault} with_own_kept IsFirmLineInRange c.firm.firm_lines (Ok z) s2 s3)
+    → IsRead (Ok v) d e → (e.clean → d.stands → AreHanded {E = StoreFault} with_exception_kept IsLineInRange d.firm.exceptions (Ok v) s3 s4)
+    → IsRead (Ok w) e f → (f.clean → e.stands → AreHanded {E = StoreFault} with_balance_noted IsBalanceInRange e.firm.balances (Ok w) s4 s5)
+    → f.clean → a.stands → IsKeptOf day a.firm s5
+rows-kept {a} day s0 none r1 h1 r2 h2 r3 h3 r4 h4 r5 h5 c5 st0 =
     grind (arith, ints, nat_tests, handed-before, fold)

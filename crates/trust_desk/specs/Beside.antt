@@ -9,6 +9,7 @@ use Rattle.firm_rows.specs.Firm.{Firm}
 use Rattle.firm_rows.specs.FirmLines.{as_firm_line}
 use Rattle.statement_csv.specs.declared.item.Item.{Item}
 use Rattle.trust_store.specs.Books.{counted}
+use Rattle.trust_store.specs.Seen.{Seen}
 use Rattle.trust_desk.specs.declared.importing.Counted.{Counted}
 use Rattle.trust_desk.specs.Calls.{KeepsBook}
 use Rattle.trust_desk.specs.Crashes.{MayLeaveChange}
@@ -25,23 +26,32 @@ abbrev pub AgreesWith : Option (List FirmLine) → Firm → Type 0
 AgreesWith known firm = IfSome known (λ lines. lines ≡ firm.firm_lines)
 
 -- a book stands, and what is known of its firm's own ledger is right
-abbrev pub StandsBeside : {B : Type 0} → (B → Firm) → (B → Type 0) → B → Option (List FirmLine) → Type 0
-StandsBeside firm stands b known = stands b × AgreesWith known (firm b)
+abbrev pub StandsBeside : Seen → Option (List FirmLine) → Type 0
+StandsBeside b known = b.stands × AgreesWith known b.firm
+
+-- a book beside what is known: it stands only if that is right
+abbrev pub beside : Seen → Option (List FirmLine) → Seen
+beside b known = record {
+  firm = b.firm;
+  clean = b.clean;
+  sure = b.sure;
+  stands = StandsBeside b known;
+  readable = b.readable;
+  lasts = b.lasts;
+  leaves = b.leaves;
+  refusals = b.refusals;
+}
 
 -- what a call leaves of the book, and of what is known
-abbrev pub KeepsBeside : {B : Type 0} → (B → Firm) → (B → Type 0) → (B → Type 0) → (B → Type 0) → (B → Type 0) → (B → ℕ)
-    → (ℕ → ℕ) → B → Option (List FirmLine) → B → Option (List FirmLine) → Type 0
-KeepsBeside {B} firm clean sure stands lasts refusals counted old known new left =
-    KeepsBook {B = B × Option (List FirmLine)} (λ b. clean b.0) (λ b. sure b.0)
-    (λ b. StandsBeside firm stands b.0 b.1) (λ b. lasts b.0) (λ b. refusals b.0) counted (old, known) (new, left)
+abbrev pub KeepsBeside : (ℕ → ℕ) → Seen → Option (List FirmLine) → Seen → Option (List FirmLine) → Type 0
+KeepsBeside counted old known new left = KeepsBook counted (beside old known) (beside new left)
 
 -- an item is applied to a book beside what is known
-pub record IsAppliedBeside {B : Type 0} (firm : B → Firm) (clean sure stands lasts : B → Type 0)
-    (leaves : B → Firm → Type 0) (refusals : B → ℕ) (day : ℕ) (it : Item) (result : Result Counted StoreFault)
-    (old : B) (known : Option (List FirmLine)) (new : B) (left : Option (List FirmLine)) : Type 0 where
-  pub step : clean new → StandsBeside firm stands old known
-      → IfOk result (λ c. (c ≡ counted_of day (firm old) it) × (firm new ≡ after_item day (firm old) it))
-  pub err : clean new → StandsBeside firm stands old known → OnErr result (firm new ≡ firm old)
-  pub kept : KeepsBeside firm clean sure stands lasts refusals (counted result) old known new left
-  pub crash : sure new → StandsBeside firm stands old known
-      → MayLeaveChange clean leaves (IsOk result) (firm old) (after_item day (firm old) it) old new
+pub record IsAppliedBeside (day : ℕ) (it : Item) (result : Result Counted StoreFault)
+    (old : Seen) (known : Option (List FirmLine)) (new : Seen) (left : Option (List FirmLine)) : Type 0 where
+  pub step : new.clean → StandsBeside old known
+      → IfOk result (λ c. (c ≡ counted_of day old.firm it) × (new.firm ≡ after_item day old.firm it))
+  pub err : new.clean → StandsBeside old known → OnErr result (new.firm ≡ old.firm)
+  pub kept : KeepsBeside (counted result) old known new left
+  pub crash : new.sure → StandsBeside old known
+      → MayLeaveChange (IsOk result) old.firm (after_item day old.firm it) old new

@@ -5,6 +5,7 @@ use Rattle.trust_base.specs.declared.refusal.Refusal.{Refusal}
 use Rattle.firm_rows.specs.Firm.{Firm}
 use Rattle.trust_store.specs.Crashes.{LeavesAlone}
 use Rattle.statement_csv.specs.declared.item.Item.{Item}
+use Rattle.trust_store.specs.Seen.{Seen}
 use Rattle.trust_desk.specs.declared.importing.ImportStop.{ImportStop}
 use Rattle.trust_desk.specs.declared.importing.ImportStop.TheVariants as stop
 use Rattle.trust_desk.specs.declared.requests.Reply.{Reply}
@@ -18,19 +19,19 @@ use Rattle.trust_desk.specs.Dismissing.{after_dismissing}
 use Rattle.trust_desk.specs.FirmStep.{after_ask, firm_step}
 
 -- what a crash may leave after a call, given the rows before and after it
-pub record MayLeave {B : Type 0} (clean : B → Type 0) (leaves : B → Firm → Type 0) (done : Type 0)
-    (Makes : Firm → Type 0) (before after : Firm) (old new : B) : Type 0 where
+pub record MayLeave (done : Type 0)
+    (Makes : Firm → Type 0) (before after : Firm) (old new : Seen) : Type 0 where
   -- a crash may leave what it might have left before the call, or rows that the call makes on the way
-  pub crash : (found : Firm) → leaves new found → leaves old found ⊎ Makes found
+  pub crash : (found : Firm) → new.leaves found → old.leaves found ⊎ Makes found
   -- if the call was done, and a crash could have left only the rows before, it can now leave only the rows after
-  pub settled : done → LeavesAlone before (leaves old) → LeavesAlone after (leaves new)
+  pub settled : done → LeavesAlone before old.leaves → LeavesAlone after new.leaves
   -- if the call was done, a store that was clean is still clean
-  pub serves : clean old → done → clean new
+  pub serves : old.clean → done → new.clean
 
 -- the same for a call that makes one change, completely or not at all
-abbrev pub MayLeaveChange : {B : Type 0} → (B → Type 0) → (B → Firm → Type 0) → Type 0 → Firm → Firm → B → B → Type 0
-MayLeaveChange clean leaves done before after old new =
-    MayLeave clean leaves done (λ found. found ≡ after) before after old new
+abbrev pub MayLeaveChange : Type 0 → Firm → Firm → Seen → Seen → Type 0
+MayLeaveChange done before after old new =
+    MayLeave done (λ found. found ≡ after) before after old new
 
 -- An import.
 

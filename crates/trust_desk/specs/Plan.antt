@@ -12,6 +12,7 @@ use Rattle.trust_matter.specs.Facts.{number_named}
 use Rattle.trust_matter.specs.KeptFacts.{holds_for}
 use Rattle.firm_rows.specs.Firm.{Firm, of}
 use Rattle.trust_store.specs.Calls.{IsRead}
+use Rattle.trust_store.specs.Seen.{Seen}
 use Rattle.trust_desk.specs.Replies.{body_of}
 
 -- for a ledger card the part has all entries loaded
@@ -33,10 +34,9 @@ pub record IsReadFor (rows : Rows) (ask : Ask) (part : Part) : Type 0 where
   pub whole : IsWholeForCard ask part rows
 
 -- how a read for an ask ends: the book was read, and if that is answered Ok, with what the ask needs
-pub record IsReadOf {B : Type 0} (firm : B → Firm) (clean sure stands lasts : B → Type 0) (leaves : B → Firm → Type 0)
-    (refusals : B → ℕ) (m : ℕ) (ask : Ask) (result : Result Part StoreFault) (old new : B) : Type 0 where
-  pub found : clean new → stands old → IfOk result (λ part. IsReadFor (of m (firm old)) ask part)
-  pub read : IsRead firm clean sure stands lasts leaves refusals result old new
+pub record IsReadOf (m : ℕ) (ask : Ask) (result : Result Part StoreFault) (old new : Seen) : Type 0 where
+  pub found : new.clean → old.stands → IfOk result (λ part. IsReadFor (of m old.firm) ask part)
+  pub read : IsRead result old new
 
 -- the status of the reply to an ask with this edit: 201 if something is made
 abbrev pub status_of_edit : Edit → ℕ

@@ -69,11 +69,11 @@ impl<B: Book> Desk<B> {
     /// Returns `Store` if the book's store failed, if a row is invalid, or if a matter is not the whole of sound rows;
     /// `find_unread` then returns which. Returns `Memory` if memory ran out.
     pub fn check(&mut self, alloc: Global) -> Result<Checked, StoreFault>
-        ensures sound { B.clean self.new → B.readable self.old
-            → IfOk result (λ c. c.flaw ≡ None → FirmSound (B.firm self.old)) }
-        ensures counts { B.clean self.new → B.readable self.old
-            → IfOk result (λ c. AreCountsOf (B.firm self.old) c.counts) }
-        ensures read { IsRead B.firm B.clean B.sure B.stands B.lasts B.leaves B.refusals result self.old self.new }
+        ensures sound { (B.seen self.new).clean → (B.seen self.old).readable
+            → IfOk result (λ c. c.flaw ≡ None → FirmSound (B.seen self.old).firm) }
+        ensures counts { (B.seen self.new).clean → (B.seen self.old).readable
+            → IfOk result (λ c. AreCountsOf (B.seen self.old).firm c.counts) }
+        ensures read { IsRead result (B.seen self.old) (B.seen self.new) }
     {
         let rows = self.book.all_rows(alloc)?;
         let Ok(flaw) = audit(alloc, &rows) else {

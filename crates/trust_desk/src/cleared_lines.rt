@@ -148,7 +148,7 @@ fn month_before(day: Day) -> u32 {
 
 // Reads the bank lines of a book, and the last day of any matter.
 fn collect<B: Book>(book: &mut B, found: &mut ClearedLines) -> Result<(), StoreFault>
-    ensures { IsRead B.firm B.clean B.sure B.stands B.lasts B.leaves B.refusals result book.old book.new }
+    ensures { IsRead result (B.seen book.old) (B.seen book.new) }
 {
     book.each_row(found)?;
     book.each_firm_line(found)?;
@@ -193,7 +193,7 @@ impl<B: Book> Desk<B> {
         day: Day,
         watch: &V,
     ) -> Result<(), StoreFault>
-        ensures { IsRead B.firm B.clean B.sure B.stands B.lasts B.leaves B.refusals result self.old self.new }
+        ensures { IsRead result (B.seen self.old) (B.seen self.new) }
     {
         let mut found = ClearedLines::between(alloc, month_before(day), day.get());
         collect(&mut self.book, &mut found)?;
@@ -211,7 +211,7 @@ impl<B: Book> Desk<B> {
     ///
     /// Returns `Store` if the book's store failed, and `Memory` if memory ran out.
     pub fn earlier_lines(&mut self, alloc: Global) -> Result<EarlierLines, StoreFault>
-        ensures read { IsRead B.firm B.clean B.sure B.stands B.lasts B.leaves B.refusals result self.old self.new }
+        ensures read { IsRead result (B.seen self.old) (B.seen self.new) }
     {
         let mut found = ClearedLines::between(alloc, 0, u32::MAX);
         collect(&mut self.book, &mut found)?;

@@ -83,7 +83,7 @@ fn answer_ask<B: Book>(
     day: Day,
 ) -> Result<Reply, Refusal>
     ensures { (h : Heard) → kind_of h ≡ OfMatter no caller.now ask.now
-        → IsAnswered B.firm B.clean B.sure B.stands B.lasts B.leaves B.refusals day h result book.old book.new }
+        → IsAnswered day h result (B.seen book.old) (B.seen book.new) }
 {
     // A ledger card is made of the whole matter, and any other reply of the entries that the ask names.
     let read = if ask.is_accounting() {
@@ -120,9 +120,9 @@ fn find_report<B: Book>(
     report: Report,
     today: Day,
 ) -> Result<Vec<u8>, StoreFault>
-    ensures told { B.clean book.new → B.stands book.old
-        → IfOk result (λ text. text.items ≡ report_text report today (B.firm book.old)) }
-    ensures read { IsRead B.firm B.clean B.sure B.stands B.lasts B.leaves B.refusals result book.old book.new }
+    ensures told { (B.seen book.new).clean → (B.seen book.old).stands
+        → IfOk result (λ text. text.items ≡ report_text report today (B.seen book.old).firm) }
+    ensures read { IsRead result (B.seen book.old) (B.seen book.new) }
 {
     let mut text = Vec::new(alloc);
     match report {
@@ -195,23 +195,24 @@ impl<B: Book> Desk<B> {
     /// Answers one request on a business day. If the reply is `Store` or `Memory`, nothing has changed, except that the
     /// first items of an import may have been applied.
     pub fn answer(&mut self, alloc: Global, request: &Request, day: Day) -> Reply
-        ensures step { B.clean self.new → B.stands self.old
-            → Steps day (B.firm self.old) (Asks request.now) result (B.firm self.new) }
-        ensures others { B.clean self.new → B.stands self.old
-            → KeepsOthers (B.firm self.old) (Asks request.now) (B.firm self.new) }
-        ensures own { B.clean self.new → B.stands self.old → is_fault_reply result ≡ false
-            → (m : ℕ) → IsOwn m day (B.firm self.old) (Asks request.now ∷ []) (result ∷ []) (B.firm self.new) }
+        ensures step { (B.seen self.new).clean → (B.seen self.old).stands
+            → Steps day (B.seen self.old).firm (Asks request.now) result (B.seen self.new).firm }
+        ensures others { (B.seen self.new).clean → (B.seen self.old).stands
+            → KeepsOthers (B.seen self.old).firm (Asks request.now) (B.seen self.new).firm }
+        ensures own { (B.seen self.new).clean → (B.seen self.old).stands → is_fault_reply result ≡ false → (m : ℕ)
+            → IsOwn m day (B.seen self.old).firm (Asks request.now ∷ []) (result ∷ []) (B.seen self.new).firm }
 
         // The reply is `Store` only if a call of the book returned `Store`.
-        ensures kept { KeepsBook B.clean B.sure B.stands B.lasts B.refusals (counted_reply result) self.old self.new }
+        ensures kept { KeepsBook (counted_reply result) (B.seen self.old) (B.seen self.new) }
 
         // A crash may leave what it might have left before, or the rows with the request's change. For an import it may
         // be the rows after some first items, provided the store was clean when the import began; the store of a book
         // that has met no fault is clean. After any reply except `Store` and `Memory`, a settled book is still settled.
-        ensures crash { B.sure self.new → B.stands self.old → (IsImport request.now → B.clean self.old)
-            → MayLeave B.clean B.leaves (is_fault_reply result ≡ false)
-            (IsMade day (B.firm self.old) (Asks request.now)) (B.firm self.old)
-            (firm_step day (B.firm self.old) (Asks request.now)).firm self.old self.new }
+        ensures crash { (B.seen self.new).sure → (B.seen self.old).stands
+            → (IsImport request.now → (B.seen self.old).clean)
+            → MayLeave (is_fault_reply result ≡ false) (IsMade day (B.seen self.old).firm (Asks request.now))
+            (B.seen self.old).firm (firm_step day (B.seen self.old).firm (Asks request.now)).firm (B.seen self.old)
+            (B.seen self.new) }
     {
         let answered = match request {
             Request::Matter { no, caller, ask } => {
@@ -241,7 +242,7 @@ impl<B: Book> Desk<B> {
         day: Day,
     ) -> Result<Reply, Refusal>
         ensures { (h : Heard) → kind_of h ≡ OnlyTold (report_for caller.now report)
-            → IsAnswered B.firm B.clean B.sure B.stands B.lasts B.leaves B.refusals day h result self.old self.new }
+            → IsAnswered day h result (B.seen self.old) (B.seen self.new) }
     {
         if is_not_of_firm(caller) {
             return Err(Refusal::NotAllowed(Rule::Firm));
@@ -261,7 +262,7 @@ impl<B: Book> Desk<B> {
         as_of: Day,
     ) -> Result<Reply, Refusal>
         ensures { (day : ℕ) (h : Heard) → kind_of h ≡ OnlyTold (reconciliation_for caller.now as_of)
-            → IsAnswered B.firm B.clean B.sure B.stands B.lasts B.leaves B.refusals day h result self.old self.new }
+            → IsAnswered day h result (B.seen self.old) (B.seen self.new) }
     {
         if is_not_of_firm(caller) {
             return Err(Refusal::NotAllowed(Rule::Firm));
@@ -295,7 +296,7 @@ impl<B: Book> Desk<B> {
         line: &Line,
     ) -> Result<Reply, Refusal>
         ensures { (day : ℕ) (h : Heard) → kind_of h ≡ Dismisses caller.now line.now
-            → IsAnswered B.firm B.clean B.sure B.stands B.lasts B.leaves B.refusals day h result self.old self.new }
+            → IsAnswered day h result (B.seen self.old) (B.seen self.new) }
     {
         dismiss(alloc, &mut self.book, caller, line)
     }
@@ -308,8 +309,9 @@ impl<B: Book> Desk<B> {
         caller: &Caller,
         bytes: &[u8],
     ) -> Result<Reply, Refusal>
-        ensures { (h : Heard) → kind_of h ≡ OfItems (import_refusal caller.now bytes.now) (imported caller.now bytes.now)
-            → IsAnswered B.firm B.clean B.sure B.stands B.lasts B.leaves B.refusals day h result self.old self.new }
+        ensures { (h : Heard)
+            → kind_of h ≡ OfItems (import_refusal caller.now bytes.now) (imported caller.now bytes.now)
+            → IsAnswered day h result (B.seen self.old) (B.seen self.new) }
     {
         check_import(alloc, caller, bytes)?;
         let ImportEnd { reply, end } = self.import(alloc, bytes, day, &NoWatch);
@@ -332,32 +334,32 @@ impl<B: Book> Desk<B> {
     pub fn run(&mut self, alloc: Global, requests: &[Request], day: Day) -> RunEnd
 
         // The replies are those to the first requests, and the firm is sound after each of them.
-        ensures run { B.clean self.new → B.stands self.old
-            → RunsSoundly day (B.firm self.old)
-            (heard (take (length result.replies.items) requests.now)) result.replies.items (B.firm self.new) }
+        ensures run { (B.seen self.new).clean → (B.seen self.old).stands
+            → RunsSoundly day (B.seen self.old).firm
+            (heard (take (length result.replies.items) requests.now)) result.replies.items (B.seen self.new).firm }
         ensures done { result.end ≡ End.Done → length result.replies.items ≡ length requests.now }
         ensures memory { result.end ≡ End.Memory → length result.replies.items < length requests.now }
-        ensures own { B.clean self.new → B.stands self.old → (m : ℕ)
+        ensures own { (B.seen self.new).clean → (B.seen self.old).stands → (m : ℕ)
             → IsUnstopped m (heard (take (length result.replies.items) requests.now)) result.replies.items
-            → IsOwn m day (B.firm self.old)
-            (heard (take (length result.replies.items) requests.now)) result.replies.items (B.firm self.new) }
+            → IsOwn m day (B.seen self.old).firm
+            (heard (take (length result.replies.items) requests.now)) result.replies.items (B.seen self.new).firm }
 
         // Replies are `Store` only if calls of the book returned `Store`.
-        ensures kept { KeepsBook B.clean B.sure B.stands B.lasts B.refusals (counted_replies result.replies.items)
-            self.old self.new }
+        ensures kept { KeepsBook (counted_replies result.replies.items)
+            (B.seen self.old) (B.seen self.new) }
 
         // If the store was clean when the run began, and no reply except the last is `Store` or `Memory`, a crash may
         // leave what it might have left before, or the rows after some first requests, with a part of the next one. If
         // no reply at all is either, a settled book is still settled.
-        ensures crash { B.sure self.new → B.clean self.old → B.stands self.old
-            → AreNoFaultsButLast result.replies.items → MayLeave B.clean B.leaves (AreNoFaults result.replies.items)
-            (IsMadeInRun day (B.firm self.old) (heard (take (length result.replies.items) requests.now)))
-            (B.firm self.old) (B.firm self.new) self.old self.new }
+        ensures crash { (B.seen self.new).sure → (B.seen self.old).clean → (B.seen self.old).stands
+            → AreNoFaultsButLast result.replies.items → MayLeave (AreNoFaults result.replies.items)
+            (IsMadeInRun day (B.seen self.old).firm (heard (take (length result.replies.items) requests.now)))
+            (B.seen self.old).firm (B.seen self.new).firm (B.seen self.old) (B.seen self.new) }
 
         // The replies before the first `Store` or `Memory` are those of a run, even if a fault has shut the store
         // since.
-        ensures shut { B.sure self.new → B.clean self.old → B.stands self.old → (mid : Firm)
-            × RunsSoundly day (B.firm self.old)
+        ensures shut { (B.seen self.new).sure → (B.seen self.old).clean → (B.seen self.old).stands → (mid : Firm)
+            × RunsSoundly day (B.seen self.old).firm
             (heard (take (length (before_fault result.replies.items)) requests.now))
             (before_fault result.replies.items) mid }
     {

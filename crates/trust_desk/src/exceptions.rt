@@ -79,9 +79,9 @@ impl ExceptionSink for LineSearch<'_> {
 
 // Whether a line is one of a book's exceptions.
 fn is_exception<B: Book>(book: &mut B, line: &Line) -> Result<bool, StoreFault>
-    ensures found { B.clean book.new → B.stands book.old
-        → IfOk result (λ is. is ≡ is_exception line.now (B.firm book.old).exceptions) }
-    ensures read { IsRead B.firm B.clean B.sure B.stands B.lasts B.leaves B.refusals result book.old book.new }
+    ensures found { (B.seen book.new).clean → (B.seen book.old).stands
+        → IfOk result (λ is. is ≡ is_exception line.now (B.seen book.old).firm.exceptions) }
+    ensures read { IsRead result (B.seen book.old) (B.seen book.new) }
 {
     let mut search = LineSearch {
         line,
@@ -101,13 +101,13 @@ pub(crate) fn dismiss<B: Book>(
     caller: &Caller,
     line: &Line,
 ) -> Result<Reply, Refusal>
-    ensures end { B.clean book.new → B.stands book.old
-        → EndsDismiss caller.now line.now (B.firm book.old) (B.firm book.new) result }
+    ensures end { (B.seen book.new).clean → (B.seen book.old).stands
+        → EndsDismiss caller.now line.now (B.seen book.old).firm (B.seen book.new).firm result }
     ensures ok { IfOk result (λ reply. is_fault_reply reply ≡ false) }
-    ensures kept { KeepsBook B.clean B.sure B.stands B.lasts B.refusals (counted_end result) book.old book.new }
-    ensures crash { B.sure book.new → B.stands book.old → MayLeaveChange B.clean B.leaves
-        (is_fault_end result ≡ false) (B.firm book.old)
-        (after_dismissing caller.now line.now (B.firm book.old)) book.old book.new }
+    ensures kept { KeepsBook (counted_end result) (B.seen book.old) (B.seen book.new) }
+    ensures crash { (B.seen book.new).sure → (B.seen book.old).stands → MayLeaveChange
+        (is_fault_end result ≡ false) (B.seen book.old).firm
+        (after_dismissing caller.now line.now (B.seen book.old).firm) (B.seen book.old) (B.seen book.new) }
 {
     if is_not_of_firm(caller) {
         return Err(Refusal::NotAllowed(Rule::Firm));

@@ -58,7 +58,7 @@ fn explain_balance<B: Book, V: ItemWatch>(
     day: Day,
     at: &At<'_, V>,
 ) -> Result<(), StoreFault>
-    ensures { IsRead B.firm B.clean B.sure B.stands B.lasts B.leaves B.refusals result book.old book.new }
+    ensures { IsRead result (B.seen book.old) (B.seen book.new) }
 {
     let kept = book.balance(kind, line.date)?;
     let verdict = decide_balance(kept, line, day);
@@ -76,8 +76,8 @@ fn explain_item<B: Book, V: ItemWatch>(
     day: Day,
     at: &At<'_, V>,
 ) -> Result<(), StoreFault>
-    ensures { (B.sure book.old → B.clean book.old)
-        → IsRead B.firm B.clean B.sure B.stands B.lasts B.leaves B.refusals result book.old book.new }
+    ensures { ((B.seen book.old).sure → (B.seen book.old).clean)
+        → IsRead result (B.seen book.old) (B.seen book.new) }
 {
     match item {
         Item::Opening(line) => explain_balance(book, BalanceKind::Opening, line, day, at),
@@ -134,8 +134,8 @@ fn explain_each<B: Book, V: ItemWatch>(
     day: Day,
     watch: &V,
 ) -> Result<(), StoreFault>
-    ensures { (B.sure book.old → B.clean book.old)
-        → IsRead B.firm B.clean B.sure B.stands B.lasts B.leaves B.refusals result book.old book.new }
+    ensures { ((B.seen book.old).sure → (B.seen book.old).clean)
+        → IsRead result (B.seen book.old) (B.seen book.new) }
 {
     let mut number = 0u64;
     for line in lines {
@@ -160,7 +160,7 @@ impl<B: Book> Desk<B> {
         day: Day,
         watch: &V,
     ) -> Result<(), StoreFault>
-        ensures read { IsRead B.firm B.clean B.sure B.stands B.lasts B.leaves B.refusals result self.old self.new }
+        ensures read { IsRead result (B.seen self.old) (B.seen self.new) }
     {
         let mut list = ExceptionList {
             lines: Vec::new(alloc),

@@ -163,8 +163,8 @@ fn apply_item<B: Book, V: ItemWatch>(
     day: Day,
     at: &At<'_, V>,
 ) -> Result<Counted, StoreFault>
-    ensures { IsAppliedBeside B.firm B.clean B.sure B.stands B.lasts B.leaves B.refusals day item.now result
-        book.old own.old book.new own.new }
+    ensures { IsAppliedBeside day item.now result
+        (B.seen book.old) own.old (B.seen book.new) own.new }
 {
     match item {
         Item::OfMatter(line) => {
@@ -199,8 +199,8 @@ fn apply_firm_line<B: Book, V: ItemWatch>(
     day: Day,
     at: &At<'_, V>,
 ) -> Result<Counted, StoreFault>
-    ensures { IsAppliedBeside B.firm B.clean B.sure B.stands B.lasts B.leaves B.refusals day (Item.OfFirm line.now)
-        result book.old own.old book.new own.new }
+    ensures { IsAppliedBeside day (Item.OfFirm line.now)
+        result (B.seen book.old) own.old (B.seen book.new) own.new }
 {
     match own.take() {
         Some(ledger) => add_firm_line(alloc, book, own, ledger, line, day, at),
@@ -222,8 +222,8 @@ fn add_firm_line<B: Book, V: ItemWatch>(
     at: &At<'_, V>,
 ) -> Result<Counted, StoreFault>
     requires { own.old ≡ None }
-    ensures { IsAppliedBeside B.firm B.clean B.sure B.stands B.lasts B.leaves B.refusals day (Item.OfFirm line.now)
-        result book.old (Some ledger) book.new own.new }
+    ensures { IsAppliedBeside day (Item.OfFirm line.now)
+        result (B.seen book.old) (Some ledger) (B.seen book.new) own.new }
 {
     let verdict = decide_firm_line(&ledger, line, day);
     book.write_firm(alloc, line, verdict)?;
@@ -241,8 +241,8 @@ fn apply_balance<B: Book, V: ItemWatch>(
     day: Day,
     at: &At<'_, V>,
 ) -> Result<Counted, StoreFault>
-    ensures { IsItemApplied B.firm B.clean B.sure B.stands B.lasts B.leaves B.refusals day
-        (balance_item kind line.now) result book.old book.new }
+    ensures { IsItemApplied day
+        (balance_item kind line.now) result (B.seen book.old) (B.seen book.new) }
 {
     let kept = book.balance(kind, line.date)?;
     let verdict = decide_balance(kept, line, day);
@@ -295,8 +295,8 @@ fn import_whole<B: Book, R: Read + Drop, V: ItemWatch, K: Whole>(
     watch: &V,
 ) -> ImportEnd
     requires whole { Keeps K.bytes (R.remaining reader) }
-    ensures { IsImported B.firm B.clean B.sure B.stands B.lasts B.leaves B.refusals day
-        (option_map items (R.remaining reader)) K.bytes result book.old book.new }
+    ensures { IsImported day
+        (option_map items (R.remaining reader)) K.bytes result (B.seen book.old) (B.seen book.new) }
 {
     let mut lines = Lines::<R, K>::of_whole(alloc, reader);
     let mut reply = ImportReply {
@@ -354,30 +354,30 @@ impl<B: Book> Desk<B> {
 
         // Some first items are applied and counted. The firm is sound after each, and each matter is affected only by
         // those that name it.
-        ensures front { B.clean self.new → B.stands self.old
-            → Imports day (B.firm self.old) (option_map items (R.remaining reader)) result (B.firm self.new) }
+        ensures front { (B.seen self.new).clean → (B.seen self.old).stands
+            → Imports day (B.seen self.old).firm (option_map items (R.remaining reader)) result (B.seen self.new).firm }
         ensures stops { IsStop result.end }
         ensures header { result.end ≡ ImportStop.Refused (refusal.BadField field.Header)
             → LacksHeader (option_map items (R.remaining reader)) }
         ensures limit { result.end ≡ ImportStop.Limit → IsTooLong (R.remaining reader) }
         ensures within { result.end ≡ ImportStop.Done → IsWithin (R.remaining reader) }
-        ensures others { B.clean self.new → B.stands self.old
-            → KeepsAllUnnamed (option_map items (R.remaining reader)) (B.firm self.old) (B.firm self.new) }
+        ensures others { (B.seen self.new).clean → (B.seen self.old).stands
+            → KeepsAllUnnamed (option_map items (R.remaining reader)) (B.seen self.old).firm (B.seen self.new).firm }
 
         // The import ends with `Store` only if a call of the book returned `Store`.
-        ensures kept { KeepsBook B.clean B.sure B.stands B.lasts B.refusals (counted_stop result.end)
-            self.old self.new }
+        ensures kept { KeepsBook (counted_stop result.end)
+            (B.seen self.old) (B.seen self.new) }
 
         // If the store was clean when the import began, a crash may leave what it might have left before, or the rows
         // after some first items. A settled book is still settled, unless the store or memory ended the import.
-        ensures crash { B.sure self.new → B.clean self.old → B.stands self.old → MayLeave B.clean B.leaves
-            (is_stopped result.end ≡ false)
-            (IsAfterFirst day (B.firm self.old) (option_map items (R.remaining reader)))
-            (B.firm self.old) (B.firm self.new) self.old self.new }
+        ensures crash { (B.seen self.new).sure → (B.seen self.old).clean → (B.seen self.old).stands
+            → MayLeave (is_stopped result.end ≡ false)
+            (IsAfterFirst day (B.seen self.old).firm (option_map items (R.remaining reader))) (B.seen self.old).firm
+            (B.seen self.new).firm (B.seen self.old) (B.seen self.new) }
 
         // The counted items are the first of the statement, even if a fault has shut the store since.
-        ensures shut { B.sure self.new → B.clean self.old → B.stands self.old → (mid : Firm)
-            × Imports day (B.firm self.old) (option_map items (R.remaining reader)) result mid }
+        ensures shut { (B.seen self.new).sure → (B.seen self.old).clean → (B.seen self.old).stands → (mid : Firm)
+            × Imports day (B.seen self.old).firm (option_map items (R.remaining reader)) result mid }
     {
         let ended = import_whole::<B, R, V, Brand>(alloc, &mut self.book, reader, day, watch);
         let counts = &ended.reply;

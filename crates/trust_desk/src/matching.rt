@@ -44,16 +44,18 @@ impl<B: Book> Desk<B> {
         statement: &[u8],
         day: Day,
     ) -> Result<Matched, Refusal>
-        ensures matched { B.clean self.new → B.stands self.old
-            → IsMatched day (B.firm self.old) caller.now statement.now result }
-        ensures same { B.clean self.new → B.stands self.old → B.firm self.new ≡ B.firm self.old }
+        ensures matched { (B.seen self.new).clean → (B.seen self.old).stands
+            → IsMatched day (B.seen self.old).firm caller.now statement.now result }
+        ensures same { (B.seen self.new).clean → (B.seen self.old).stands
+            → (B.seen self.new).firm ≡ (B.seen self.old).firm }
 
         // The result is `Store` only if a call of the book returned `Store`.
-        ensures kept { KeepsBook B.clean B.sure B.stands B.lasts B.refusals (counted_end result) self.old self.new }
+        ensures kept { KeepsBook (counted_end result) (B.seen self.old) (B.seen self.new) }
 
         // A crash may leave what it might have left before, or the rows as they are.
-        ensures crash { B.sure self.new → B.stands self.old → MayLeaveChange B.clean B.leaves
-            (is_fault_end result ≡ false) (B.firm self.old) (B.firm self.old) self.old self.new }
+        ensures crash { (B.seen self.new).sure → (B.seen self.old).stands
+            → MayLeaveChange (is_fault_end result ≡ false) (B.seen self.old).firm (B.seen self.old).firm
+            (B.seen self.old) (B.seen self.new) }
     {
         check_import(alloc, caller, statement)?;
         let matched = match_statement(alloc, day, &mut self.book, statement)?;
@@ -70,7 +72,7 @@ impl<B: Book> Desk<B> {
         day: Day,
     ) -> Result<Reply, Refusal>
         ensures { (h : Heard) → kind_of h ≡ OnlyTold (match_text text caller.now statement.now)
-            → IsAnswered B.firm B.clean B.sure B.stands B.lasts B.leaves B.refusals day h result self.old self.new }
+            → IsAnswered day h result (B.seen self.old) (B.seen self.new) }
     {
         let matched = self.match_statement(alloc, caller, statement.as_slice(), day)?;
         Ok(Reply {

@@ -158,7 +158,7 @@ fn is_answered<T: Drop>(read: Result<T, StoreFault>) -> Result<bool, StoreFault>
 
 // Whether the rows of a matter are the whole of sound ones.
 fn is_whole<B: Book>(alloc: Global, book: &mut B, matter: MatterNo) -> Result<bool, StoreFault>
-    ensures { AreReads B.firm B.clean B.sure B.stands B.lasts B.leaves book.old book.new }
+    ensures { AreReads (B.seen book.old) (B.seen book.new) }
 {
     let read = book.matter(alloc, matter);
     is_answered(read)
@@ -166,7 +166,7 @@ fn is_whole<B: Book>(alloc: Global, book: &mut B, matter: MatterNo) -> Result<bo
 
 // Whether the head and the seats of a matter can be read.
 fn has_front<B: Book>(alloc: Global, book: &mut B, matter: MatterNo) -> Result<bool, StoreFault>
-    ensures { AreReads B.firm B.clean B.sure B.stands B.lasts B.leaves book.old book.new }
+    ensures { AreReads (B.seen book.old) (B.seen book.new) }
 {
     let read = book.matter_for(alloc, matter, None, None);
     is_answered(read)
@@ -179,7 +179,7 @@ fn row_after<B: Book>(
     matter: MatterNo,
     after: Option<EntryNo>,
 ) -> Result<Unread, StoreFault>
-    ensures { AreReads B.firm B.clean B.sure B.stands B.lasts B.leaves book.old book.new }
+    ensures { AreReads (B.seen book.old) (B.seen book.new) }
 {
     if is_whole(alloc, book, matter)? {
         return Ok(Unread::Head(Some(matter)));
@@ -196,7 +196,7 @@ fn unread_row<B: Book>(
     book: &mut B,
     seen: &mut MattersSeen,
 ) -> Result<Option<Unread>, StoreFault>
-    ensures { AreReads B.firm B.clean B.sure B.stands B.lasts B.leaves book.old book.new }
+    ensures { AreReads (B.seen book.old) (B.seen book.new) }
 {
     let read = book.each_row(seen);
     if is_answered(read)? {
@@ -214,7 +214,7 @@ fn unread_matter<B: Book>(
     book: &mut B,
     matters: &[MatterNo],
 ) -> Result<Option<Unread>, StoreFault>
-    ensures { AreReads B.firm B.clean B.sure B.stands B.lasts B.leaves book.old book.new }
+    ensures { AreReads (B.seen book.old) (B.seen book.new) }
 {
     for matter in matters {
         if !is_whole(alloc, book, *matter)? {
@@ -226,7 +226,7 @@ fn unread_matter<B: Book>(
 
 // Returns which part of the matters can't be read, if any.
 fn unread_of_matters<B: Book>(alloc: Global, book: &mut B) -> Result<Option<Unread>, StoreFault>
-    ensures { AreReads B.firm B.clean B.sure B.stands B.lasts B.leaves book.old book.new }
+    ensures { AreReads (B.seen book.old) (B.seen book.new) }
 {
     let mut seen = MattersSeen::new(alloc);
     if let Some(unread) = unread_row(alloc, book, &mut seen)? {
@@ -237,7 +237,7 @@ fn unread_of_matters<B: Book>(alloc: Global, book: &mut B) -> Result<Option<Unre
 
 // Returns which row of the journal, of the firm's own lines, of the exceptions or of the balances can't be read.
 fn unread_of_firm<B: Book>(book: &mut B) -> Result<Unread, StoreFault>
-    ensures { AreReads B.firm B.clean B.sure B.stands B.lasts B.leaves book.old book.new }
+    ensures { AreReads (B.seen book.old) (B.seen book.new) }
 {
     let mut seen = RowsSeen::new();
     if !is_answered(book.each_movement(&mut seen))? {
@@ -260,7 +260,7 @@ fn unread_of_firm<B: Book>(book: &mut B) -> Result<Unread, StoreFault>
 
 // Returns which part of a book can't be read.
 fn unread_in<B: Book>(alloc: Global, book: &mut B) -> Result<Unread, StoreFault>
-    ensures { AreReads B.firm B.clean B.sure B.stands B.lasts B.leaves book.old book.new }
+    ensures { AreReads (B.seen book.old) (B.seen book.new) }
 {
     match unread_of_matters(alloc, book)? {
         Some(unread) => Ok(unread),
@@ -281,7 +281,7 @@ fn ask_again<B: Book>(
     is_balance_unread: bool,
     day: Day,
 ) -> Result<(), StoreFault>
-    ensures { IsRead B.firm B.clean B.sure B.stands B.lasts B.leaves B.refusals result book.old book.new }
+    ensures { IsRead result (B.seen book.old) (B.seen book.new) }
 {
     if is_balance_unread {
         book.firm(alloc)?;
@@ -293,8 +293,8 @@ fn ask_again<B: Book>(
 
 // Returns which part of a book can't be read, if its store still works.
 fn find_unread<B: Book>(alloc: Global, book: &mut B, day: Day) -> Result<Unread, StoreFault>
-    ensures reads { AreReads B.firm B.clean B.sure B.stands B.lasts B.leaves book.old book.new }
-    ensures serves { B.sure book.new → OnOk result (B.clean book.new) }
+    ensures reads { AreReads (B.seen book.old) (B.seen book.new) }
+    ensures serves { (B.seen book.new).sure → OnOk result (B.seen book.new).clean }
 {
     let unread = unread_in(alloc, book)?;
     ask_again(alloc, book, is_balance(&unread), day)?;
@@ -307,8 +307,8 @@ impl<B: Book> Desk<B> {
     ///
     /// Returns `Store` if the book's store does not work, which one more read shows, and `Memory` if memory ran out.
     pub fn find_unread(&mut self, alloc: Global, day: Day) -> Result<Unread, StoreFault>
-        ensures reads { AreReads B.firm B.clean B.sure B.stands B.lasts B.leaves self.old self.new }
-        ensures serves { B.sure self.new → OnOk result (B.clean self.new) }
+        ensures reads { AreReads (B.seen self.old) (B.seen self.new) }
+        ensures serves { (B.seen self.new).sure → OnOk result (B.seen self.new).clean }
     {
         find_unread(alloc, &mut self.book, day)
     }

@@ -50,7 +50,7 @@ pub use deciding::decide;
 pub use line_verdict::{LineVerdict, Reason, decide_line};
 pub use matter_parts::{
     Balances, Change, Edit, Figures, Kept, Left, Matter, Numbered, Opening, TotalsAfter, balances,
-    claim_left, fee_left, whole_holds_all,
+    claim_left, fee_left,
 };
 pub use matter_rows::{
     Against, Claim, ClaimState, ClearedPayment, Clearing, Deposit, DepositState, Entry,

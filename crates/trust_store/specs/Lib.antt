@@ -3,3 +3,4 @@ pub mod Calls
 pub mod Crashes
 pub mod Kept
 pub mod Named
+pub mod Seen

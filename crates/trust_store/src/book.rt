@@ -34,45 +34,23 @@ use trust_matter::{BankLine, Change, LineVerdict, Matter};
 ///     book.each_exception(&mut list)?;    // and the list is handed it
 ///     book.dismiss(alloc, &line)?;        // now it is none
 pub trait Book {
-    ghost use Rattle.std.specs.Prelude.{ℕ};
-    ghost use Rattle.firm_rows.specs.Firm.{Firm};
     ghost use Rattle.firm_rows.specs.FirmSound.{FirmSound};
+    ghost use Rattle.trust_store.specs.Seen.{Seen};
 
-    /// The firm that it stores.
-    ghost firm: { Self → Firm };
-
-    /// The store works, and whatever it read is what was written.
-    ghost clean: { Self → Type 0 };
-
-    /// Whatever the store read is what was written, even if a fault has since shut it.
-    ghost sure: { Self → Type 0 };
-
-    /// What is stored stands for the rows of a sound firm.
-    ghost stands: { Self → Type 0 };
-
-    /// What is stored can be read as rows, sound or not.
-    ghost readable: { Self → Type 0 };
-
-    /// Whatever a crash leaves now can be opened as a book again, and stands for the rows of a sound firm.
-    ghost lasts: { Self → Type 0 };
-
-    /// The rows that may be found after a crash now.
-    ghost leaves: { Self → Firm → Type 0 };
+    /// What is seen of it: its firm, whether its store works, and what a crash may leave.
+    ghost seen: { Self → Seen };
 
     /// If a store stands for a firm, that firm is sound.
-    ghost sound: { (b : Self) → stands b → FirmSound (firm b) };
+    ghost sound: { (b : Self) → (seen b).stands → FirmSound (seen b).firm };
 
     /// A clean store is sure of what it read.
-    ghost clean_is_sure: { (b : Self) → clean b → sure b };
-
-    /// How many calls have returned `Store`, up to `u64::MAX`.
-    ghost refusals: { Self → ℕ };
+    ghost clean_is_sure: { (b : Self) → (seen b).clean → (seen b).sure };
 
     /// Returns a matter with all its entries in order. If it was never opened, it has no rows.
     fn matter(&mut self, alloc: Global, matter: MatterNo) -> Result<Matter, StoreFault>
-        ensures whole { clean self.new → stands self.old
-            → IfOk result (λ part. IsWhole part (of matter (firm self.old))) }
-        ensures read { IsRead firm clean sure stands lasts leaves refusals result self.old self.new };
+        ensures whole { (seen self.new).clean → (seen self.old).stands
+            → IfOk result (λ part. IsWhole part (of matter (seen self.old).firm)) }
+        ensures read { IsRead result (seen self.old) (seen self.new) };
 
     /// Returns a matter with its head, seats and totals, and only the named entries and those that they draw on.
     fn matter_for(
@@ -82,59 +60,61 @@ pub trait Book {
         entry: Option<EntryNo>,
         other: Option<EntryNo>,
     ) -> Result<Matter, StoreFault>
-        ensures found { clean self.new → stands self.old
-            → IfOk result (λ part. IsPartFor (of matter (firm self.old)) entry other part) }
-        ensures read { IsRead firm clean sure stands lasts leaves refusals result self.old self.new };
+        ensures found { (seen self.new).clean → (seen self.old).stands
+            → IfOk result (λ part. IsPartFor (of matter (seen self.old).firm) entry other part) }
+        ensures read { IsRead result (seen self.old) (seen self.new) };
 
     /// Returns the firm's own ledger: its lines in the order of acceptance.
     fn firm(&mut self, alloc: Global) -> Result<FirmLedger, StoreFault>
-        ensures found { clean self.new → stands self.old → IfOk result (λ ledger. ledger ≡ (firm self.old).firm_lines) }
-        ensures read { IsRead firm clean sure stands lasts leaves refusals result self.old self.new };
+        ensures found { (seen self.new).clean → (seen self.old).stands
+            → IfOk result (λ ledger. ledger ≡ (seen self.old).firm.firm_lines) }
+        ensures read { IsRead result (seen self.old) (seen self.new) };
 
     /// Returns the opening or closing balance of a day, in cents. None if there is no such balance.
     fn balance(&mut self, kind: BalanceKind, day: Day) -> Result<Option<i64>, StoreFault>
-        ensures found { clean self.new → stands self.old
-            → IfOk result (λ kept. kept ≡ kept_balance kind day (firm self.old).balances) }
-        ensures read { IsRead firm clean sure stands lasts leaves refusals result self.old self.new };
+        ensures found { (seen self.new).clean → (seen self.old).stands
+            → IfOk result (λ kept. kept ≡ kept_balance kind day (seen self.old).firm.balances) }
+        ensures read { IsRead result (seen self.old) (seen self.new) };
 
     /// Returns all rows, each matter with all its entries. They need not be those of a sound firm, but a matter that is
     /// not complete and sound makes the call return `Store`.
     fn all_rows(&mut self, alloc: Global) -> Result<AllRows, StoreFault>
-        ensures found { clean self.new → readable self.old → IfOk result (λ rows. firm_of_all rows ≡ firm self.old) }
-        ensures read { IsRead firm clean sure stands lasts leaves refusals result self.old self.new };
+        ensures found { (seen self.new).clean → (seen self.old).readable
+            → IfOk result (λ rows. firm_of_all rows ≡ (seen self.old).firm) }
+        ensures read { IsRead result (seen self.old) (seen self.new) };
 
     /// Passes each row to the sink, sorted by matter, and within a matter the head, then the seats by person, then the
     /// entries by number. Stops if the sink runs out of memory.
     fn each_row<S: RowSink>(&mut self, sink: &mut S) -> Result<(), StoreFault>
-        ensures handed { clean self.new → stands self.old
-            → AreHanded S.stepped IsRowInRange (firm self.old).rows result sink.old sink.new }
-        ensures read { IsRead firm clean sure stands lasts leaves refusals result self.old self.new };
+        ensures handed { (seen self.new).clean → (seen self.old).stands
+            → AreHanded S.stepped IsRowInRange (seen self.old).firm.rows result sink.old sink.new }
+        ensures read { IsRead result (seen self.old) (seen self.new) };
 
     /// Passes each movement to the sink, in the order of acceptance. Stops if the sink runs out of memory.
     fn each_movement<S: MovementSink>(&mut self, sink: &mut S) -> Result<(), StoreFault>
-        ensures handed { clean self.new → stands self.old
-            → AreHanded S.moved IsMovementInRange (firm self.old).movements result sink.old sink.new }
-        ensures read { IsRead firm clean sure stands lasts leaves refusals result self.old self.new };
+        ensures handed { (seen self.new).clean → (seen self.old).stands
+            → AreHanded S.moved IsMovementInRange (seen self.old).firm.movements result sink.old sink.new }
+        ensures read { IsRead result (seen self.old) (seen self.new) };
 
     /// Passes each line of the firm's own to the sink, in the order of acceptance. Stops if the sink runs out of
     /// memory.
     fn each_firm_line<S: FirmLineSink>(&mut self, sink: &mut S) -> Result<(), StoreFault>
-        ensures handed { clean self.new → stands self.old
-            → AreHanded S.lined IsFirmLineInRange (firm self.old).firm_lines result sink.old sink.new }
-        ensures read { IsRead firm clean sure stands lasts leaves refusals result self.old self.new };
+        ensures handed { (seen self.new).clean → (seen self.old).stands
+            → AreHanded S.lined IsFirmLineInRange (seen self.old).firm.firm_lines result sink.old sink.new }
+        ensures read { IsRead result (seen self.old) (seen self.new) };
 
     /// Passes each exception to the sink, sorted by day, reference, bank's reference, amount as a number, then text.
     /// Stops if the sink runs out of memory.
     fn each_exception<S: ExceptionSink>(&mut self, sink: &mut S) -> Result<(), StoreFault>
-        ensures handed { clean self.new → stands self.old
-            → AreHanded S.noted IsLineInRange (firm self.old).exceptions result sink.old sink.new }
-        ensures read { IsRead firm clean sure stands lasts leaves refusals result self.old self.new };
+        ensures handed { (seen self.new).clean → (seen self.old).stands
+            → AreHanded S.noted IsLineInRange (seen self.old).firm.exceptions result sink.old sink.new }
+        ensures read { IsRead result (seen self.old) (seen self.new) };
 
     /// Passes each balance to the sink, openings before closings, each by day. Stops if the sink runs out of memory.
     fn each_balance<S: BalanceSink>(&mut self, sink: &mut S) -> Result<(), StoreFault>
-        ensures handed { clean self.new → stands self.old
-            → AreHanded S.balanced IsBalanceInRange (firm self.old).balances result sink.old sink.new }
-        ensures read { IsRead firm clean sure stands lasts leaves refusals result self.old self.new };
+        ensures handed { (seen self.new).clean → (seen self.old).stands
+            → AreHanded S.balanced IsBalanceInRange (seen self.old).firm.balances result sink.old sink.new }
+        ensures read { IsRead result (seen self.old) (seen self.new) };
 
     /// Makes one change of a matter, or none if it is refused. It must be a change of the matter's rows as they are
     /// now. A change of nothing is never refused.
@@ -144,9 +124,9 @@ pub trait Book {
         matter: MatterNo,
         change: &Change,
     ) -> Result<(), StoreFault>
-        requires { clean self.old → stands self.old → FitsFirm (firm self.old) (OfMatter matter None change.now) }
-        ensures written { IsWrite firm clean sure stands lasts leaves refusals
-            (OfMatter matter None change.now) result self.old self.new }
+        requires { (seen self.old).clean → (seen self.old).stands
+            → FitsFirm (seen self.old).firm (OfMatter matter None change.now) }
+        ensures written { IsWrite (OfMatter matter None change.now) result (seen self.old) (seen self.new) }
         ensures nothing { change.now.edit ≡ Nothing → IsOk result };
 
     /// Writes the verdict on a bank line that names an entry. An applied line changes the entry's matter. An applied or
@@ -158,17 +138,16 @@ pub trait Book {
         line: &BankLine,
         verdict: &LineVerdict,
     ) -> Result<(), StoreFault>
-        requires { clean self.old → stands self.old → IsVerdictOn (firm self.old) line.now verdict.now }
-        ensures written { IsWrite firm clean sure stands lasts leaves refusals
-            (by_line line.now verdict.now) result self.old self.new };
+        requires { (seen self.old).clean → (seen self.old).stands
+            → IsVerdictOn (seen self.old).firm line.now verdict.now }
+        ensures written { IsWrite (by_line line.now verdict.now) result (seen self.old) (seen self.new) };
 
     /// Writes the verdict on a line of the firm's own. An applied line is added to the firm's ledger, with what it
     /// moves. An applied or repeated line is no exception from then on; any other becomes an exception. This is one
     /// write. Its promises hold if the verdict is that on this line, from the ledger as it is now.
     fn write_firm(&mut self, alloc: Global, line: &Line, verdict: Verdict) -> Result<(), StoreFault>
-        ensures written { IsWriteIf firm clean sure stands lasts leaves refusals
-            (clean self.old → IsFirmVerdict (firm self.old) line.now verdict)
-            (by_firm_line line.now verdict) result self.old self.new };
+        ensures written { IsWriteIf ((seen self.old).clean → IsFirmVerdict (seen self.old).firm line.now verdict)
+            (by_firm_line line.now verdict) result (seen self.old) (seen self.new) };
 
     /// Writes the verdict on an opening or closing balance. An applied balance is stored. An applied or repeated one is
     /// no exception from then on; any other becomes an exception. The verdict must be that on this line, from the
@@ -180,18 +159,16 @@ pub trait Book {
         line: &Line,
         verdict: Verdict,
     ) -> Result<(), StoreFault>
-        requires { clean self.old → stands self.old → IsBalanceVerdict (firm self.old) kind line.now verdict }
-        ensures written { IsWrite firm clean sure stands lasts leaves refusals
-            (by_balance kind line.now verdict) result self.old self.new };
+        requires { (seen self.old).clean → (seen self.old).stands
+            → IsBalanceVerdict (seen self.old).firm kind line.now verdict }
+        ensures written { IsWrite (by_balance kind line.now verdict) result (seen self.old) (seen self.new) };
 
     /// Adds a whole line to the exceptions. If the same line is already there, nothing changes.
     fn write_stray(&mut self, alloc: Global, line: &Line) -> Result<(), StoreFault>
-        ensures written { IsWrite firm clean sure stands lasts leaves refusals
-            (Unmatched line.now) result self.old self.new };
+        ensures written { IsWrite (Unmatched line.now) result (seen self.old) (seen self.new) };
 
     /// Removes a whole line from the exceptions, and changes nothing else. If it is not there, nothing changes. This is
     /// one write.
     fn dismiss(&mut self, alloc: Global, line: &Line) -> Result<(), StoreFault>
-        ensures written { IsWrite firm clean sure stands lasts leaves refusals
-            (Repeated line.now) result self.old self.new };
+        ensures written { IsWrite (Repeated line.now) result (seen self.old) (seen self.new) };
 }

@@ -65,7 +65,7 @@ impl PlainBook {
     pub fn new(alloc: Global) -> PlainBook
         ensures empty { result ≡ empty_firm }
         ensures sound { FirmSound result }
-        ensures clean { ⟦<PlainBook as Book>⟧.clean result }
+        ensures clean { (⟦<PlainBook as Book>⟧.seen result).clean }
     {
         firm_stays_sound();
         PlainBook {
@@ -147,25 +147,20 @@ impl PlainBook {
 }
 
 impl Book for PlainBook {
-    ghost firm = { λ b. b };
-
-    ghost clean = { λ _. Unit {0} };
-
-    ghost sure = { λ _. Unit {0} };
-
-    ghost stands = { FirmSound };
-
-    ghost readable = { λ _. Unit {0} };
-
-    ghost lasts = { λ _. Unit {0} };
-
-    ghost leaves = { λ _ _. ⊥ };
+    ghost seen = { λ b. record {
+        firm = b;
+        clean = Unit {0};
+        sure = Unit {0};
+        stands = FirmSound b;
+        readable = Unit {0};
+        lasts = Unit {0};
+        leaves = λ _. ⊥;
+        refusals = 0;
+    } };
 
     ghost sound = { λ _ sound. sound };
 
     ghost clean_is_sure = { λ _ clean. clean };
-
-    ghost refusals = { λ _. 0 };
 
     fn matter(&mut self, alloc: Global, matter: MatterNo) -> Result<Matter, StoreFault> {
         Ok(matter_of(alloc, &self.matters, matter)?)

@@ -42,8 +42,8 @@ pub trait Stores {
     /// `Store` means that what is there is not a book of this version, or could not be opened, read or written.
     /// `Memory` means out of memory. The rows of an existing book are not looked at.
     fn at(&self, alloc: Global, path: &str) -> Result<Self::AtPath, StoreFault>
-        ensures found { IfOk result (λ book. Self.AtPath.sure book → finds self.now path.now book) }
-        ensures serves { IfOk result (λ book. Self.AtPath.sure book → Self.AtPath.clean book) };
+        ensures found { IfOk result (λ book. (Self.AtPath.seen book).sure → finds self.now path.now book) }
+        ensures serves { IfOk result (λ book. (Self.AtPath.seen book).sure → (Self.AtPath.seen book).clean) };
 
     /// Puts a book back at its path, so that its rows are found there, and in no other file beside it.
     ///

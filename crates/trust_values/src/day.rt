@@ -131,16 +131,6 @@ impl Day {
         self.number
     }
 
-    /// The day as a calendar date.
-    pub fn date(self) -> Date
-        ensures { IsYmd (pos (year_of self)) (pos (month_of self)) (pos (month_day_of self)) result }
-    {
-        let Some(date) = date_of(self.number) else {
-            unreachable!()
-        };
-        date
-    }
-
     /// Appends the day's text. If memory runs out, `out` is unchanged.
     #[tactic(auto, using(crate::proofs::DayFacts::day_facts))]
     pub fn write_to(self, out: &mut Vec<u8>) -> Result<(), AllocError>

@@ -35,25 +35,20 @@ impl<B: Book> RefusingBook<B> {
 }
 
 impl<B: Book> Book for RefusingBook<B> {
-    ghost firm = { λ b. B.firm b.inner };
-
-    ghost clean = { λ b. B.clean b.inner };
-
-    ghost sure = { λ b. B.sure b.inner };
-
-    ghost stands = { λ b. B.stands b.inner };
-
-    ghost readable = { λ b. B.readable b.inner };
-
-    ghost lasts = { λ b. B.lasts b.inner };
-
-    ghost leaves = { λ b. B.leaves b.inner };
+    ghost seen = { λ b. record {
+        firm = (B.seen b.inner).firm;
+        clean = (B.seen b.inner).clean;
+        sure = (B.seen b.inner).sure;
+        stands = (B.seen b.inner).stands;
+        readable = (B.seen b.inner).readable;
+        lasts = (B.seen b.inner).lasts;
+        leaves = (B.seen b.inner).leaves;
+        refusals = b.refusals;
+    } };
 
     ghost sound = { λ b. B.sound b.inner };
 
     ghost clean_is_sure = { λ b. B.clean_is_sure b.inner };
-
-    ghost refusals = { λ b. b.refusals };
 
     fn matter(&mut self, alloc: Global, matter: MatterNo) -> Result<Matter, StoreFault> {
         match self.inner.matter(alloc, matter) {

@@ -8,5 +8,5 @@ invariant-loop g l =
     let B = g.B.Book in
     record {
       turns : l.counter ≤ l.fn.count;
-      serving : ServingAll B.clean B.sure B.stands B.lasts B.leaves B.firm B.refusals g.L.Writer.Write.contents l.fn.day (g.L.ClientListener.comes l.initial.listener) (g.W.Write.contents l.initial.writer) l.initial.desk l.counter (g.L.ClientListener.comes l.listener) (g.W.Write.contents l.writer) l.desk;
+      serving : ServingAll B.seen g.L.Writer.Write.contents l.fn.day (g.L.ClientListener.comes l.initial.listener) (g.W.Write.contents l.initial.writer) l.initial.desk l.counter (g.L.ClientListener.comes l.listener) (g.W.Write.contents l.writer) l.desk;
     }

@@ -7,6 +7,6 @@ invariant-loop g l =
     let B = g.B.Book in
     record {
       turns : l.counter ≤ 1000;
-      serving : Serving B.clean B.sure B.stands B.lasts B.leaves B.firm B.refusals l.fn.day (g.R.Read.remaining l.fn.reader) (g.W.Write.contents l.fn.writer) l.fn.desk l.counter l.input.unread (g.W.Write.contents l.writer) l.desk;
+      serving : Serving l.fn.day (g.R.Read.remaining l.fn.reader) (g.W.Write.contents l.fn.writer) (B.seen l.fn.desk) l.counter l.input.unread (g.W.Write.contents l.writer) (B.seen l.desk);
       fresh : l.input.last ≡ None;
     }

@@ -6,10 +6,10 @@ use Rattle.trust_desk.proofs.desk.answer_ask.Goals as goal
 use Rattle.trust_desk.proofs.desk.answer_ask.Goals.{Joined-is_accounting, else-is_accounting, else-is_accounting-2, in-Open, in-Open-2, in_default, then-is_accounting, then-is_accounting-2}
 
 -- what was read
-loaded : (g : _) (c : Joined-is_accounting g) → IsReadOf g.B.Book.firm g.B.Book.clean g.B.Book.sure g.B.Book.stands g.B.Book.lasts g.B.Book.leaves g.B.Book.refusals c.args.no c.args.ask.now c.if-is_accounting.read c.args.book.now c.if-is_accounting.book
+loaded : (g : _) (c : Joined-is_accounting g) → IsReadOf c.args.no c.args.ask.now c.if-is_accounting.read (g.B.Book.seen c.args.book.now) (g.B.Book.seen c.if-is_accounting.book)
 loaded g c =
     let B = g.B.Book in
-    let rows = of c.args.no (B.firm c.args.book.now) in
+    let rows = of c.args.no (B.seen c.args.book.now).firm in
     let ask = c.args.ask.now in
     elim c.if-is_accounting.branch [
       | then-is_accounting w ↦ rw (w.read-is, w.book-is) (record {
@@ -37,7 +37,7 @@ returns-in_err-change g c =
     λ h kind.
     let B = g.B.Book in
     let old = c.args.book.now in
-    let rows = of c.args.no (B.firm old) in
+    let rows = of c.args.no (B.seen old).firm in
     let r = c.in_err-change.field-0.0 in
     let found = rw c.in_ok-matter.was at (loaded g (goal.at.returns-in_err-change g c).Joined-is_accounting) in
     let p = err_from_is_err_and c.from_residual-in_err-change.result c.from_residual-in_err-change.ensures.1 in
@@ -67,7 +67,7 @@ write_change-requires g c =
     let old = c.args.book.now in
     let found = rw c.in_ok-matter.was at (loaded g (goal.at.write_change-requires g c).Joined-is_accounting) in
     let stood = found.read.stood clean stands in
-    let decided = c.in_ok-change.ensures.decided (found.found clean stood).held (of c.args.no (B.firm old)) ((B.sound old stood).matters c.args.no) (found.found clean stood).is_part in
+    let decided = c.in_ok-change.ensures.decided (found.found clean stood).held (of c.args.no (B.seen old).firm) ((B.sound old stood).matters c.args.no) (found.found clean stood).is_part in
     subst (λ (f : Firm). IsChange (of c.args.no f) c.in_ok-change.change) (sym (found.read.same clean stood)) decided.change
 
 pub returns-in_err-write_change : goal.returns-in_err-write_change
@@ -79,8 +79,8 @@ returns-in_err-write_change g c =
     let p = err_from_is_err_and c.from_residual-in_err-write_change.result c.from_residual-in_err-write_change.ensures.1 in
     rw (p.1, p.2)
     (ask-unwritten c.args.day h c.args.no c.args.caller.now c.args.ask.now kind c.in_err-write_change.field-0.0 found.read c.in_err-write_change.ensures.written
-    (λ served stood. change-makes (B.firm old) c.args.no (asked_on c.args.day c.args.caller.now c.args.ask.now) c.in_ok-change.change
-    (c.in_ok-change.ensures.decided (found.found served stood).held (of c.args.no (B.firm old)) ((B.sound old stood).matters c.args.no) (found.found served stood).is_part)))
+    (λ served stood. change-makes (B.seen old).firm c.args.no (asked_on c.args.day c.args.caller.now c.args.ask.now) c.in_ok-change.change
+    (c.in_ok-change.ensures.decided (found.found served stood).held (of c.args.no (B.seen old).firm) ((B.sound old stood).matters c.args.no) (found.found served stood).is_part)))
 
 pub returns : goal.returns
 returns g c =
@@ -90,7 +90,7 @@ returns g c =
     let no = c.args.no in
     let ask = c.args.ask.now in
     let a = asked_on c.args.day c.args.caller.now ask in
-    let rows = of no (B.firm old) in
+    let rows = of no (B.seen old).firm in
     let change = c.in_ok-change.change in
     let found = rw c.in_ok-matter.was at (loaded g (goal.at.returns g c).Joined-is_accounting) in
     let text = c.in_ok-body_after.field-0.items in
@@ -115,4 +115,4 @@ returns g c =
     let made = c.in_ok-apply.ensures in
     let texts = c.in_ok-body_after.ensures (changed change rows) d.change.sound (made.ok rows sound is.is_part d.change)
     (held-on c.in_ok-matter.matter c.apply.new.self ask (made.held rows sound is.is_part d.change) is.held) (λ card. made.whole rows sound (is.whole card) d.change) in
-    (replied-so no rows a change text c.if-is_accounting-2.reply c.match-edit.reply d texts body (status ∙ ap status_of_edit c.edit.ensures), change-makes (B.firm old) no a change d))
+    (replied-so no rows a change text c.if-is_accounting-2.reply c.match-edit.reply d texts body (status ∙ ap status_of_edit c.edit.ensures), change-makes (B.seen old).firm no a change d))

@@ -10,7 +10,7 @@ pub returns-in_ok-trial_text-in-Trial-clause-told : goal.returns-in_ok-trial_tex
 returns-in_ok-trial_text-in-Trial-clause-told g c =
     λ clean stands.
     let B = g.B.Book in
-    let firm : Firm = B.firm c.args.book.now in
+    let firm : Firm = (B.seen c.args.book.now).firm in
     let first = c.in_ok-each_row-in-Trial.ensures in
     let second = c.in_ok-each_firm_line-in-Trial.ensures in
     let served = second.read.was_clean clean in

@@ -9,5 +9,5 @@ invariant-loop-line g l =
     record {
       next : (goal.iterator-loop-line g).can_next l.line-iterator;
       finite : (goal.iterator-loop-line g).is_finite l.line-iterator;
-      read : (B.sure l.fn.book → B.clean l.fn.book) → IsRead B.firm B.clean B.sure B.stands B.lasts B.leaves B.refusals done l.fn.book l.book;
+      read : ((B.seen l.fn.book).sure → (B.seen l.fn.book).clean) → IsRead done (B.seen l.fn.book) (B.seen l.book);
     }

@@ -5,4 +5,4 @@ use Rattle.trust_desk.proofs.importing.import_whole.Given as goal
 abbrev pub invariant-loop-turn : goal.invariant-loop-turn
 invariant-loop-turn g l =
     let B = g.B.Book in
-    IsSoFar B.firm B.clean B.sure B.stands B.lasts B.leaves B.refusals l.day (option_map items (g.R.Read.remaining l.fn.reader)) l.fn.book l.turn l.lines.left l.reply l.book l.own
+    IsSoFar l.day (option_map items (g.R.Read.remaining l.fn.reader)) (B.seen l.fn.book) l.turn l.lines.left l.reply (B.seen l.book) l.own

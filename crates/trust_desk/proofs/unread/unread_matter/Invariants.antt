@@ -5,4 +5,4 @@ use Rattle.trust_desk.proofs.unread.unread_matter.Given as goal
 abbrev pub invariant-loop-matter : goal.invariant-loop-matter
 invariant-loop-matter g l =
     let B = g.B.Book in
-    AreReads B.firm B.clean B.sure B.stands B.lasts B.leaves l.fn.book l.book
+    AreReads (B.seen l.fn.book) (B.seen l.book)

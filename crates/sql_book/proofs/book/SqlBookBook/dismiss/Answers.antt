@@ -5,7 +5,7 @@ use Rattle.sql_book.proofs.book.SqlBookBook.dismiss.Goals as goal
 
 pub returns : goal.returns
 returns g c = record {
-  written = fit_write (λ _ _. tt) (wrote g.S.Store (Repeated c.args.line.now) (statement.ExceptionGone c.exception_columns.result ∷ [])
+  written = fit_write (λ _ _. tt) (wrote g.S.Store c.write.new.conn (Repeated c.args.line.now) (statement.ExceptionGone c.exception_columns.result ∷ [])
       c.self.view_is c.written.ensures.alike c.written.ensures.count
       c.written.ensures.meant (search (rules, c.write.ensures)) (λ e. cc) tt
       (ap (λ e. ExceptionGone e ∷ []) c.exception_columns.ensures));

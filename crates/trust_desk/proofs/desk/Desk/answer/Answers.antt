@@ -12,15 +12,15 @@ kind is = ap (λ (r : Request). kind_of (Asks r)) is
 pub returns : goal.returns
 returns g c =
     let B = g.B.Book in
-    let firm = B.firm in
+    let firm = λ (b : _). (B.seen b).firm in
     let day = c.args.day in
     let h = Asks c.args.request.now in
     let old = c.args.self.now in
     let new = c.match-request.self in
     let answered = c.match-request.answered in
-    let is : IsAnswered B.firm B.clean B.sure B.stands B.lasts B.leaves B.refusals day h answered old new = elim c.match-request.branch [
+    let is : IsAnswered day h answered (B.seen old) (B.seen new) = elim c.match-request.branch [
       | in-Matter w ↦ rw (w.self-is, w.answered-is)
-          (subst (λ b. IsAnswered B.firm B.clean B.sure B.stands B.lasts B.leaves B.refusals day h w.answer_ask-answered.result b w.answer_ask-answered.new.book) w.self.view_is
+          (subst (λ b. IsAnswered day h w.answer_ask-answered.result (B.seen b) (B.seen w.answer_ask-answered.new.book)) w.self.view_is
           (w.answer_ask-answered.ensures h (kind w.in-Matter.is)))
       | in-Import w ↦ rw (w.self-is, w.answered-is)
           (w.answer_import-answered.ensures h (kind w.in-Import.is ∙ (λ i. OfItems (import_refusal w.in-Import.caller (sym w.as_slice.ensures i)) (imported w.in-Import.caller (sym w.as_slice.ensures i)))))
@@ -30,12 +30,12 @@ returns g c =
       | in-Reconcile w ↦ rw (w.self-is, w.answered-is) (w.answer_reconciliation-answered.ensures day h (kind w.in-Reconcile.is))
     ] in
     let says : c.unwrap_or_else.result ≡ reply_for answered = search rules in
-    let step = λ (clean : B.clean new) (stands : B.stands old). subst (λ (reply : Reply). Steps day (firm old) h reply (firm new)) (sym says) (is.step clean stands) in
+    let step = λ (clean : (B.seen new).clean) (stands : (B.seen old).stands). subst (λ (reply : Reply). Steps day (firm old) h reply (firm new)) (sym says) (is.step clean stands) in
     record {
       step = step;
       others = λ clean stands. keeps-others day (firm old) (firm new) h c.unwrap_or_else.result (step clean stands);
       own = λ clean stands fine m. own-once m day (firm old) (firm new) h c.unwrap_or_else.result fine (step clean stands);
-      kept = kept-as (λ sure stands. end-counted answered is.plain (B.refusals old) ∙ ap (λ reply. counted_reply reply (B.refusals old)) (sym says)) is.kept;
+      kept = kept-as (λ sure stands. end-counted answered is.plain (B.seen old).refusals ∙ ap (λ reply. counted_reply reply (B.seen old).refusals) (sym says)) is.kept;
       crash = λ sure stands before.
           leave-as (λ fine. end-fault answered (ap is_fault_reply (sym says) ∙ fine)) (λ found made. made) (λ fine. refl) (is.crash sure stands before);
     }

@@ -12,22 +12,22 @@ use Rattle.trust_desk.proofs.desk.Desk.answer_reconciliation.Goals as goal
 use Rattle.trust_desk.proofs.desk.Desk.answer_reconciliation.Goals.{In_ok-reconciliation}
 
 -- all rows were handed over
-all-kept : (g : _) (c : In_ok-reconciliation g) → g.B.Book.clean c.each_balance.new.self → g.B.Book.stands c.args.self.now → IsKeptOf c.args.as_of (g.B.Book.firm c.args.self.now) c.each_balance.new.sink
+all-kept : (g : _) (c : In_ok-reconciliation g) → (g.B.Book.seen c.each_balance.new.self).clean → (g.B.Book.seen c.args.self.now).stands → IsKeptOf c.args.as_of (g.B.Book.seen c.args.self.now).firm c.each_balance.new.sink
 all-kept g c = grind (arith, ints, nat_tests, rows-kept)
 
 -- and nothing else was done
-all-read : (g : _) (c : In_ok-reconciliation g) → IsRead g.B.Book.firm g.B.Book.clean g.B.Book.sure g.B.Book.stands g.B.Book.lasts g.B.Book.leaves g.B.Book.refusals (Ok c.in_ok-each_balance.field-0) c.args.self.now c.each_balance.new.self
+all-read : (g : _) (c : In_ok-reconciliation g) → IsRead (Ok c.in_ok-each_balance.field-0) (g.B.Book.seen c.args.self.now) (g.B.Book.seen c.each_balance.new.self)
 all-read g c = grind (arith, ints, nat_tests, read-then)
 
 -- what is told by what was found answers
 answered : (g : _) (c : In_ok-reconciliation g) (result : Result Reply Refusal) → IfOk result (λ reply. is_fault_reply reply ≡ false) → is_fault_end result ≡ false
     → reply_for result ≡ text_reply (found_told c.args.as_of (option_map told c.in_ok-reconciliation.field-0) c.is_period_purged-is_purged.result)
     → (day : ℕ) (h : Heard) → kind_of h ≡ OnlyTold (reconciliation_for c.args.caller.now c.args.as_of)
-    → IsAnswered g.B.Book.firm g.B.Book.clean g.B.Book.sure g.B.Book.stands g.B.Book.lasts g.B.Book.leaves g.B.Book.refusals day h result c.args.self.now c.each_balance.new.self
+    → IsAnswered day h result (g.B.Book.seen c.args.self.now) (g.B.Book.seen c.each_balance.new.self)
 answered g c result plain fine says day h kind =
     told-answered day h (reconciliation_for c.args.caller.now c.args.as_of) result kind plain fine (all-read g c)
     (λ clean stands.
-    let firm = g.B.Book.firm c.args.self.now in
+    let firm = (g.B.Book.seen c.args.self.now).firm in
     let sound = g.B.Book.sound c.args.self.now stands in
     let sink = c.each_balance.new.sink in
     let kept = all-kept g c clean stands in

@@ -9,7 +9,7 @@ use Rattle.trust_desk.proofs.desk.Desk.run.Goals as goal
 pub loop-request-preserved : goal.loop-request-preserved
 loop-request-preserved g c =
     let B = g.B.Book in
-    let firm = g.B.Book.firm in
+    let firm = λ (b : _). (g.B.Book.seen b).firm in
     let i = c.loop-request.invariant in
     let step = c.answer-reply.ensures in
     let pushed = rw c.unwrap.ensures at c.push.ensures.items in
@@ -24,7 +24,7 @@ loop-request-preserved g c =
           let now = i.kept.still_stands was stands in
           run-more c.args.day (firm c.args.self.now) (firm c.loop-request.self) (firm c.answer-reply.new.self) c.args.requests.now c.loop-request.request-index c.request-item.result c.loop-request.replies.items c.push.new.self.items c.answer-reply.result (omega arith) c.request-item.is (i.run was stands) (step.step clean now) (B.sound c.answer-reply.new.self (step.kept.still_stands clean now)) added;
       long = long;
-      kept = kept-as (λ sure stands. told (B.refusals c.args.self.now)) (kept-then i.kept step.kept);
+      kept = kept-as (λ sure stands. told (B.seen c.args.self.now).refusals) (kept-then i.kept step.kept);
       crash = λ sure clean stands but_last.
           let plain = none-before rs r (subst AreNoFaultsButLast added but_last) in
           let so_far = i.crash (step.kept.was_sure sure) clean stands (none-at_all rs plain) in
@@ -35,7 +35,7 @@ loop-request-preserved g c =
           let hs = heard (take c.loop-request.request-index c.args.requests.now) in
           let last = λ (fine : AreNoFaults c.push.new.self.items). none-last rs r (subst AreNoFaults added fine) in
           let made = leave-as last (λ found is. is) (λ fine. plain-step c.args.day (firm c.loop-request.self) (firm c.answer-reply.new.self) (Asks q) r (last fine) (step.step (one.serves served (last fine)) stood)) one in
-          subst (λ (l : List Heard). MayLeave (B.clean) (B.leaves) (AreNoFaults c.push.new.self.items) (IsMadeInRun c.args.day (firm c.args.self.now) l) (firm c.args.self.now) (firm c.answer-reply.new.self) c.args.self.now c.answer-reply.new.self)
+          subst (λ (l : List Heard). MayLeave (AreNoFaults c.push.new.self.items) (IsMadeInRun c.args.day (firm c.args.self.now) l) (firm c.args.self.now) (firm c.answer-reply.new.self) (B.seen c.args.self.now) (B.seen c.answer-reply.new.self))
           (sym (heard-more c.args.requests.now c.loop-request.request-index q (omega arith) c.request-item.is))
           (leave-then (λ found is. made-before c.args.day (firm c.args.self.now) found hs (Asks q) is) (λ found is. made-last c.args.day (firm c.args.self.now) (firm c.loop-request.self) found hs (Asks q) rs (i.run served stands) plain is) plain so_far made);
       shut = λ sure clean stands.
@@ -53,44 +53,44 @@ loop-request-preserved g c =
 
 pub returns-then-is_err-clause-own : goal.returns-then-is_err-clause-own
 returns-then-is_err-clause-own g c =
-    let firm = g.B.Book.firm in
+    let firm = λ (b : _). (g.B.Book.seen b).firm in
     let i = c.loop-request.invariant in
     λ clean stands m fine. own-run m c.args.day (firm c.args.self.now) (firm c.loop-request.self) c.args.requests.now c.loop-request.request-index c.loop-request.replies.items c.reserve.new.self.items c.reserve.ensures.items i.long (sound-runs-are-runs c.args.day (firm c.args.self.now) (firm c.loop-request.self) (heard (take c.loop-request.request-index c.args.requests.now)) c.loop-request.replies.items (i.run clean stands)) fine
 
 pub returns-clause-own : goal.returns-clause-own
 returns-clause-own g c =
-    let firm = g.B.Book.firm in
+    let firm = λ (b : _). (g.B.Book.seen b).firm in
     let i = c.loop-request.invariant in
     λ clean stands m fine. own-run m c.args.day (firm c.args.self.now) (firm c.loop-request.self) c.args.requests.now c.loop-request.request-index c.loop-request.replies.items c.loop-request.replies.items refl i.long (sound-runs-are-runs c.args.day (firm c.args.self.now) (firm c.loop-request.self) (heard (take c.loop-request.request-index c.args.requests.now)) c.loop-request.replies.items (i.run clean stands)) fine
 
 pub returns-then-is_err-clause-crash : goal.returns-then-is_err-clause-crash
 returns-then-is_err-clause-crash g c =
     let B = g.B.Book in
-    let firm = g.B.Book.firm in
+    let firm = λ (b : _). (g.B.Book.seen b).firm in
     let i = c.loop-request.invariant in
     grind (arith, ints, nat_tests, heard, take, length)
 
 pub returns-then-is_err-clause-shut : goal.returns-then-is_err-clause-shut
 returns-then-is_err-clause-shut g c =
-    λ sure clean stands. subst (λ (rs : List Reply). AreRun c.args.day (g.B.Book.firm c.args.self.now) c.args.requests.now (before_fault rs)) (sym c.reserve.ensures.items) (c.loop-request.invariant.shut sure clean stands)
+    λ sure clean stands. subst (λ (rs : List Reply). AreRun c.args.day (g.B.Book.seen c.args.self.now).firm c.args.requests.now (before_fault rs)) (sym c.reserve.ensures.items) (c.loop-request.invariant.shut sure clean stands)
 
 pub returns-clause-crash : goal.returns-clause-crash
 returns-clause-crash g c =
     let B = g.B.Book in
-    let firm = g.B.Book.firm in
+    let firm = λ (b : _). (g.B.Book.seen b).firm in
     let i = c.loop-request.invariant in
-    λ sure clean stands but_last. subst (λ n. MayLeave (B.clean) (B.leaves) (AreNoFaults c.loop-request.replies.items) (IsMadeInRun c.args.day (firm c.args.self.now) (heard (take n c.args.requests.now))) (firm c.args.self.now) (firm c.loop-request.self) c.args.self.now c.loop-request.self) (sym i.long) (i.crash sure clean stands but_last)
+    λ sure clean stands but_last. subst (λ n. MayLeave (AreNoFaults c.loop-request.replies.items) (IsMadeInRun c.args.day (firm c.args.self.now) (heard (take n c.args.requests.now))) (firm c.args.self.now) (firm c.loop-request.self) (B.seen c.args.self.now) (B.seen c.loop-request.self)) (sym i.long) (i.crash sure clean stands but_last)
 
 pub loop-request-init : goal.loop-request-init
 loop-request-init g c =
     let B = g.B.Book in
-    let firm = g.B.Book.firm in
+    let firm = λ (b : _). (g.B.Book.seen b).firm in
     let none = sym c.new-replies.ensures.items in
     let run : RunsSoundly c.args.day (firm c.args.self.now) [] [] (firm c.args.self.now) = refl in
     record {
       run = λ clean stands. subst (λ (rs : List Reply). RunsSoundly c.args.day (firm c.args.self.now) [] rs (firm c.args.self.now)) none run;
       long = subst (λ (rs : List Reply). length rs ≡ 0) none refl;
-      kept = subst (λ (rs : List Reply). KeepsBook B.clean B.sure B.stands B.lasts B.refusals (counted_replies rs) c.args.self.now c.args.self.now) none (kept-still c.args.self.now);
-      crash = λ sure clean stands but_last. leave-still (firm c.args.self.now) c.args.self.now;
+      kept = subst (λ (rs : List Reply). KeepsBook (counted_replies rs) (B.seen c.args.self.now) (B.seen c.args.self.now)) none (kept-still (B.seen c.args.self.now));
+      crash = λ sure clean stands but_last. leave-still (firm c.args.self.now) (B.seen c.args.self.now);
       shut = λ sure clean stands. subst (λ (rs : List Reply). AreRun c.args.day (firm c.args.self.now) c.args.requests.now (before_fault rs)) none (firm c.args.self.now, run);
     }
