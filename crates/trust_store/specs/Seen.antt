@@ -1,6 +1,7 @@
 -- What is seen of a book at a moment.
 use Rattle.std.specs.Prelude.{ℕ}
 use Rattle.firm_rows.specs.Firm.{Firm}
+use Rattle.firm_rows.specs.FirmSound.{FirmSound}
 
 pub record Seen : Type 1 where
   -- the firm that it stores
@@ -19,3 +20,7 @@ pub record Seen : Type 1 where
   pub leaves : Firm → Type 0
   -- how many calls have returned `Store`, up to the greatest 64-bit number
   pub refusals : ℕ
+  -- a firm that it stands for is sound
+  pub sound : stands → FirmSound firm
+  -- a clean store is sure of what it read
+  pub clean_is_sure : clean → sure

@@ -34,17 +34,10 @@ use trust_matter::{BankLine, Change, LineVerdict, Matter};
 ///     book.each_exception(&mut list)?;    // and the list is handed it
 ///     book.dismiss(alloc, &line)?;        // now it is none
 pub trait Book {
-    ghost use Rattle.firm_rows.specs.FirmSound.{FirmSound};
     ghost use Rattle.trust_store.specs.Seen.{Seen};
 
     /// What is seen of it: its firm, whether its store works, and what a crash may leave.
     ghost seen: { Self → Seen };
-
-    /// If a store stands for a firm, that firm is sound.
-    ghost sound: { (b : Self) → (seen b).stands → FirmSound (seen b).firm };
-
-    /// A clean store is sure of what it read.
-    ghost clean_is_sure: { (b : Self) → (seen b).clean → (seen b).sure };
 
     /// Returns a matter with all its entries in order. If it was never opened, it has no rows.
     fn matter(&mut self, alloc: Global, matter: MatterNo) -> Result<Matter, StoreFault>

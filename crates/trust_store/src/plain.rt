@@ -156,11 +156,9 @@ impl Book for PlainBook {
         lasts = Unit {0};
         leaves = λ _. ⊥;
         refusals = 0;
+        sound = λ sound. sound;
+        clean_is_sure = λ clean. clean;
     } };
-
-    ghost sound = { λ _ sound. sound };
-
-    ghost clean_is_sure = { λ _ clean. clean };
 
     fn matter(&mut self, alloc: Global, matter: MatterNo) -> Result<Matter, StoreFault> {
         Ok(matter_of(alloc, &self.matters, matter)?)

@@ -44,11 +44,9 @@ impl<B: Book> Book for RefusingBook<B> {
         lasts = (B.seen b.inner).lasts;
         leaves = (B.seen b.inner).leaves;
         refusals = b.refusals;
+        sound = (B.seen b.inner).sound;
+        clean_is_sure = (B.seen b.inner).clean_is_sure;
     } };
-
-    ghost sound = { λ b. B.sound b.inner };
-
-    ghost clean_is_sure = { λ b. B.clean_is_sure b.inner };
 
     fn matter(&mut self, alloc: Global, matter: MatterNo) -> Result<Matter, StoreFault> {
         match self.inner.matter(alloc, matter) {

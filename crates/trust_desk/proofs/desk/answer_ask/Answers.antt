@@ -44,7 +44,7 @@ returns-in_err-change g c =
     rw (p.1, p.2)
     (ask-refused c.args.day h c.args.no c.args.caller.now c.args.ask.now kind r found.read
     (λ served stood. refused-by (refusal rows (asked_on c.args.day c.args.caller.now c.args.ask.now)) r
-    (c.in_err-change.ensures.decided (found.found served stood).held rows ((B.sound old stood).matters c.args.no) (found.found served stood).is_part)))
+    (c.in_err-change.ensures.decided (found.found served stood).held rows (((B.seen old).sound stood).matters c.args.no) (found.found served stood).is_part)))
 
 pub returns-in_err-apply : goal.returns-in_err-apply
 returns-in_err-apply g c =
@@ -67,7 +67,7 @@ write_change-requires g c =
     let old = c.args.book.now in
     let found = rw c.in_ok-matter.was at (loaded g (goal.at.write_change-requires g c).Joined-is_accounting) in
     let stood = found.read.stood clean stands in
-    let decided = c.in_ok-change.ensures.decided (found.found clean stood).held (of c.args.no (B.seen old).firm) ((B.sound old stood).matters c.args.no) (found.found clean stood).is_part in
+    let decided = c.in_ok-change.ensures.decided (found.found clean stood).held (of c.args.no (B.seen old).firm) (((B.seen old).sound stood).matters c.args.no) (found.found clean stood).is_part in
     subst (λ (f : Firm). IsChange (of c.args.no f) c.in_ok-change.change) (sym (found.read.same clean stood)) decided.change
 
 pub returns-in_err-write_change : goal.returns-in_err-write_change
@@ -80,7 +80,7 @@ returns-in_err-write_change g c =
     rw (p.1, p.2)
     (ask-unwritten c.args.day h c.args.no c.args.caller.now c.args.ask.now kind c.in_err-write_change.field-0.0 found.read c.in_err-write_change.ensures.written
     (λ served stood. change-makes (B.seen old).firm c.args.no (asked_on c.args.day c.args.caller.now c.args.ask.now) c.in_ok-change.change
-    (c.in_ok-change.ensures.decided (found.found served stood).held (of c.args.no (B.seen old).firm) ((B.sound old stood).matters c.args.no) (found.found served stood).is_part)))
+    (c.in_ok-change.ensures.decided (found.found served stood).held (of c.args.no (B.seen old).firm) (((B.seen old).sound stood).matters c.args.no) (found.found served stood).is_part)))
 
 pub returns : goal.returns
 returns g c =
@@ -110,7 +110,7 @@ returns g c =
     ask-written c.args.day h no c.args.caller.now ask kind (record { status = c.match-edit.reply; body = c.if-is_accounting-2.reply }) plain found.read c.in_ok-write_change.ensures.written
     (λ served stood.
     let is = found.found served stood in
-    let sound = (B.sound old stood).matters no in
+    let sound = ((B.seen old).sound stood).matters no in
     let d = c.in_ok-change.ensures.decided is.held rows sound is.is_part in
     let made = c.in_ok-apply.ensures in
     let texts = c.in_ok-body_after.ensures (changed change rows) d.change.sound (made.ok rows sound is.is_part d.change)

@@ -23,7 +23,7 @@ returns-in_ok-trial_text-in-Trial-clause-told g c =
     let told =
     written
     ∙ ((λ i. trial_text c.args.today (balance.lines i) (balance.own i) (balance.total i))
-    ∙ trial-told c.args.today firm c.each_firm_line.new.sink (B.sound c.args.book.now stands) rows.countable lines.countable kept) in
+    ∙ trial-told c.args.today firm c.each_firm_line.new.sink ((B.seen c.args.book.now).sound stands) rows.countable lines.countable kept) in
     rw c.in-Trial.is told
 
 pub returns-in_ok-journal_text-in-Journal-clause-told : goal.returns-in_ok-journal_text-in-Journal-clause-told

@@ -15,21 +15,21 @@ pub returns-in-Ok-None : goal.returns-in-Ok-None
 returns-in-Ok-None g c =
     let next = rw c.in-Ok-None.field-0-is at c.in-Ok-None.ensures.next in
     ended-here c.loop-turn.invariant c.next.new.self.left (record { reply = c.loop-turn.reply; end = stop.Done }) refl
-    (λ stood. g.B.Book.sound c.args.book.now stood) (λ n. refl) tt (λ done. next) (λ is. absurd (cc)) (λ is. absurd (cc))
+    (λ stood. (g.B.Book.seen c.args.book.now).sound stood) (λ n. refl) tt (λ done. next) (λ is. absurd (cc)) (λ is. absurd (cc))
     (λ done. c.next.ensures.within (search rules))
 
 pub returns-in-Err : goal.returns-in-Err
 returns-in-Err g c =
     rw c.stop_at-end.ensures
-    (unread-so_far c.loop-turn.invariant c.in-Err.fault (λ stood. g.B.Book.sound c.args.book.now stood)
+    (unread-so_far c.loop-turn.invariant c.in-Err.fault (λ stood. (g.B.Book.seen c.args.book.now).sound stood)
     (λ is. c.next.ensures.header (search rules)) (λ is. c.next.ensures.limit (search rules)))
 
 pub returns-in-Err-apply_item : goal.returns-in-Err-apply_item
 returns-in-Err-apply_item g c =
     rw c.into.ensures
     (unapplied-so_far c.loop-turn.invariant c.next.new.self.left c.in-Ok-Some.item c.in-Err-apply_item.fault
-    (λ stood. g.B.Book.sound c.args.book.now stood) (rw c.in-Ok-Some.field-0-is at c.in-Ok-Some.ensures.next) c.in-Err-apply_item.ensures)
+    (λ stood. (g.B.Book.seen c.args.book.now).sound stood) (rw c.in-Ok-Some.field-0-is at c.in-Ok-Some.ensures.next) c.in-Err-apply_item.ensures)
 
 pub returns : goal.returns
 returns g c =
-    unread-so_far c.loop-turn.invariant fault.Memory (λ stood. g.B.Book.sound c.args.book.now stood) (λ is. absurd (cc)) (λ is. absurd (cc))
+    unread-so_far c.loop-turn.invariant fault.Memory (λ stood. (g.B.Book.seen c.args.book.now).sound stood) (λ is. absurd (cc)) (λ is. absurd (cc))

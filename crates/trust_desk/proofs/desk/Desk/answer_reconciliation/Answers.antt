@@ -28,7 +28,7 @@ answered g c result plain fine says day h kind =
     told-answered day h (reconciliation_for c.args.caller.now c.args.as_of) result kind plain fine (all-read g c)
     (λ clean stands.
     let firm = (g.B.Book.seen c.args.self.now).firm in
-    let sound = g.B.Book.sound c.args.self.now stands in
+    let sound = (g.B.Book.seen c.args.self.now).sound stands in
     let sink = c.each_balance.new.sink in
     let kept = all-kept g c clean stands in
     let found = c.in_ok-reconciliation.ensures (closings-kept c.args.as_of firm sink sound kept) in

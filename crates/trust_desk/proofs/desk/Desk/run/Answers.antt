@@ -22,7 +22,7 @@ loop-request-preserved g c =
       run = λ clean stands.
           let was = step.kept.was_clean clean in
           let now = i.kept.still_stands was stands in
-          run-more c.args.day (firm c.args.self.now) (firm c.loop-request.self) (firm c.answer-reply.new.self) c.args.requests.now c.loop-request.request-index c.request-item.result c.loop-request.replies.items c.push.new.self.items c.answer-reply.result (omega arith) c.request-item.is (i.run was stands) (step.step clean now) (B.sound c.answer-reply.new.self (step.kept.still_stands clean now)) added;
+          run-more c.args.day (firm c.args.self.now) (firm c.loop-request.self) (firm c.answer-reply.new.self) c.args.requests.now c.loop-request.request-index c.request-item.result c.loop-request.replies.items c.push.new.self.items c.answer-reply.result (omega arith) c.request-item.is (i.run was stands) (step.step clean now) ((B.seen c.answer-reply.new.self).sound (step.kept.still_stands clean now)) added;
       long = long;
       kept = kept-as (λ sure stands. told (B.seen c.args.self.now).refusals) (kept-then i.kept step.kept);
       crash = λ sure clean stands but_last.
@@ -45,7 +45,7 @@ loop-request-preserved g c =
           let next = λ (plain : AreNoFaults rs) (fine : is_fault_reply r ≡ false).
           let stood = i.kept.still_stands (served plain) stands in
           let clean_next = (step.crash sure stood (λ asked. served plain)).serves (served plain) fine in
-          run-more c.args.day (firm c.args.self.now) (firm c.loop-request.self) (firm c.answer-reply.new.self) c.args.requests.now c.loop-request.request-index c.request-item.result rs c.push.new.self.items r (omega arith) c.request-item.is (now plain) (step.step clean_next stood) (B.sound c.answer-reply.new.self (step.kept.still_stands clean_next stood)) added in
+          run-more c.args.day (firm c.args.self.now) (firm c.loop-request.self) (firm c.answer-reply.new.self) c.args.requests.now c.loop-request.request-index c.request-item.result rs c.push.new.self.items r (omega arith) c.request-item.is (now plain) (step.step clean_next stood) ((B.seen c.answer-reply.new.self).sound (step.kept.still_stands clean_next stood)) added in
           run-before c.args.day (firm c.args.self.now) c.args.requests.now rs c.push.new.self.items r added (i.shut was clean stands)
           (λ plain. (firm c.loop-request.self, subst (λ n. RunsSoundly c.args.day (firm c.args.self.now) (heard (take n c.args.requests.now)) rs (firm c.loop-request.self)) (sym i.long) (now plain)))
           (λ plain fine. (firm c.answer-reply.new.self, subst (λ n. RunsSoundly c.args.day (firm c.args.self.now) (heard (take n c.args.requests.now)) c.push.new.self.items (firm c.answer-reply.new.self)) (sym long) (next plain fine)));
