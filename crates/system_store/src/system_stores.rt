@@ -5,6 +5,7 @@ ghost use Rattle.sqlite.specs.Closing.{IsCopied};
 ghost use Rattle.sqlite.specs.Effect.{IsDatabase};
 ghost use Rattle.sqlite.specs.Files.{IsBlankAs, IsOpened, file_state, over_files};
 ghost use Rattle.sqlite.specs.Start.{FindsIn};
+ghost use Rattle.sqlite.specs.declared.error.ErrorCode.TheVariants.{OutOfMemory};
 ghost use Rattle.sqlite.specs.State.{HasCleanDisk};
 ghost use Rattle.sqlite_store.specs.FileStore.{view};
 ghost use Rattle.sqlite_wal.specs.Files.{image_at};
@@ -16,9 +17,14 @@ use sql_book::{OpenFault, SqlBook};
 use sql_reads::fault_of;
 use sqlite::{Connection, Error, ErrorCode, FileFrom, FileStore, Files, Start, Unknown};
 use sqlite_disk::Disk;
-use std::alloc::Global;
+use std::alloc::{AllocError, Global};
+use std::fs;
+use std::io::ErrorKind;
 use trust_base::StoreFault;
 use trust_store::{NoBook, Stores};
+
+// The bytes of a log's head and of the head of its first page.
+const LOG_HEADS: u64 = 56;
 
 /// A database file of the system with its log, which lies at the same path plus `-wal`. `T` stands for what the two
 /// hold when they are opened.
@@ -30,7 +36,8 @@ pub type SystemFile = FileWith<Unknown>;
 /// The books of the system, each in the database file at its path. Its calls are `book_at` and `copied`, which
 /// promise what `Stores` requires, whatever the files hold; here the contents are not known.
 ///
-/// A missing or empty file gets a book without rows; a file that holds a book gives that book. While a book is in use
+/// A missing or empty file gets a book without rows, unless the log beside it has changes: then the book is gone, and
+/// neither is touched. A file that holds a book gives that book. While a book is in use
 /// its file is locked, and another run over it gets a fault of the store. A book that was put back is in its file
 /// alone. One that was not, because the run was broken off, is in the file and the log together, and the next run
 /// finds it there (`laws`).
@@ -47,7 +54,7 @@ fn connection_at<T: Start>(
     rt: &HostRuntime,
     path: &str,
     start: T,
-) -> Result<Connection<FileWith<T>>, StoreFault>
+) -> Result<Connection<FileWith<T>>, NoBook>
     ensures mode { IfOk result (λ conn. conn.in_transaction ≡ false) }
     ensures opened { IfOk result (λ conn. HasCleanDisk (file_state conn) → IsOpened conn) }
     ensures found { IfOk result (λ conn. HasCleanDisk (file_state conn)
@@ -57,29 +64,44 @@ fn connection_at<T: Start>(
 {
     match Connection::open_from(rt, path, true, start) {
         Ok(conn) => Ok(conn),
-        Err((error, _)) => Err(fault_of(error)),
+        Err((error, _)) => Err(why_unopened(error)),
     }
 }
 
-// A database that holds something else is a fault of the store, just like one that failed.
-fn fault_of_book(fault: OpenFault) -> StoreFault
-    ensures { result ≡ StoreFault.Memory ↔ fault ≡ OpenFault.Memory }
+// Why a database file could not be opened.
+fn why_unopened(error: Error) -> NoBook
+    ensures { result ≡ NoBook.Memory ↔ error ≡ Error.SqliteFailure OutOfMemory }
+{
+    match error {
+        Error::SqliteFailure(ErrorCode::DatabaseBusy) => NoBook::InUse,
+        Error::SqliteFailure(ErrorCode::CannotOpen) => NoBook::Unopened,
+        Error::SqliteFailure(ErrorCode::NotADatabase | ErrorCode::DatabaseCorrupt) => {
+            NoBook::NoDatabase
+        }
+        Error::SqliteFailure(ErrorCode::OutOfMemory) => NoBook::Memory,
+        _ => NoBook::Failed,
+    }
+}
+
+// Why no book could be taken from an opened database, or made in it.
+fn why_untaken(fault: OpenFault) -> NoBook
+    ensures { result ≡ NoBook.Memory ↔ fault ≡ OpenFault.Memory }
 {
     match fault {
-        OpenFault::Memory => StoreFault::Memory,
-        OpenFault::Store | OpenFault::NotABook => StoreFault::Store,
+        OpenFault::NotABook => NoBook::OtherTables,
+        OpenFault::Store => NoBook::Failed,
+        OpenFault::Memory => NoBook::Memory,
     }
 }
 
 /// Opens the book at a path whose files hold what `start` stands for: the book that they hold, or a new one without
-/// rows if they hold no table. Returns `Store` if they hold anything but a book of this version, or could not be
-/// opened, read or written, and `Memory` if memory runs out.
+/// rows if they hold no table. The error says why there is no usable book.
 pub fn book_at<T: Start>(
     alloc: Global,
     rt: &HostRuntime,
     path: &str,
     start: T,
-) -> Result<SqlBook<FileWith<T>>, StoreFault>
+) -> Result<SqlBook<FileWith<T>>, NoBook>
     ensures found { IfOk result (λ book. IsSure over_files book → IsFoundIn (image_at T.Start) book) }
     ensures serves { IfOk result (λ book. IsSure over_files book → IsServing over_files book) }
 {
@@ -88,9 +110,9 @@ pub fn book_at<T: Start>(
         Ok(book) => Ok(book),
         Err((OpenFault::NotABook, conn)) => match SqlBook::make(alloc, conn) {
             Ok(book) => Ok(book),
-            Err((fault, _)) => Err(fault_of_book(fault)),
+            Err((fault, _)) => Err(why_untaken(fault)),
         },
-        Err((fault, _)) => Err(fault_of_book(fault)),
+        Err((fault, _)) => Err(why_untaken(fault)),
     }
 }
 
@@ -111,26 +133,20 @@ pub fn copied<D: Disk + Drop>(conn: Connection<FileStore<D>>) -> Result<Files<D>
     }
 }
 
-// Returns why a database file could not be opened.
-fn why_unopened(error: Error) -> NoBook {
-    match error {
-        Error::SqliteFailure(ErrorCode::DatabaseBusy) => NoBook::InUse,
-        Error::SqliteFailure(ErrorCode::CannotOpen) => NoBook::Unopened,
-        Error::SqliteFailure(ErrorCode::NotADatabase | ErrorCode::DatabaseCorrupt) => {
-            NoBook::NoDatabase
-        }
-        Error::SqliteFailure(ErrorCode::OutOfMemory) => NoBook::Unknown,
-        _ => NoBook::Failed,
+// Whether a path has no file, or an empty one, while the log beside it has changes. A log without changes is shorter
+// than the heads of a log and of its first page.
+fn is_log_alone(alloc: Global, rt: &HostRuntime, path: &str) -> Result<bool, AllocError> {
+    let is_missing = match fs::metadata(rt, path) {
+        Ok(file) => file.is_file() && file.len() == 0,
+        Err(error) => error.kind() == ErrorKind::NotFound,
+    };
+    if !is_missing {
+        return Ok(false);
     }
-}
-
-// Returns why no book can be taken from an opened database. One without tables is a book that could not be made.
-fn why_untaken(fault: OpenFault, conn: &Connection<SystemFile>) -> NoBook {
-    match fault {
-        OpenFault::NotABook if conn.schema().tables.is_empty() => NoBook::Failed,
-        OpenFault::NotABook => NoBook::OtherTables,
-        OpenFault::Store => NoBook::Failed,
-        OpenFault::Memory => NoBook::Unknown,
+    let log = format!(in alloc; "{path}-wal")?;
+    match fs::metadata(rt, &log) {
+        Ok(file) => Ok(file.is_file() && file.len() > LOG_HEADS),
+        Err(_) => Ok(false),
     }
 }
 
@@ -141,24 +157,18 @@ impl Stores for SystemStores<'_> {
 
     ghost puts = { λ _ book answer. OnOk answer (IsPutBack book) };
 
-    fn at(&self, alloc: Global, path: &str) -> Result<SqlBook<SystemFile>, StoreFault> {
-        book_at(alloc, self.rt, path, Unknown)
+    fn at(&self, alloc: Global, path: &str) -> Result<SqlBook<SystemFile>, NoBook> {
+        match is_log_alone(alloc, self.rt, path) {
+            Ok(true) => Err(NoBook::LogAlone),
+            Ok(false) => book_at(alloc, self.rt, path, Unknown),
+            Err(_) => Err(NoBook::Memory),
+        }
     }
 
     fn put_back(&self, book: SqlBook<SystemFile>) -> Result<(), StoreFault> {
         match copied(book.release()) {
             Ok(_files) => Ok(()),
             Err(error) => Err(fault_of(error)),
-        }
-    }
-
-    fn why_none(&self, alloc: Global, path: &str) -> NoBook {
-        match Connection::open_from(self.rt, path, true, Unknown) {
-            Ok(conn) => match SqlBook::adopt(alloc, conn) {
-                Ok(_book) => NoBook::Unknown,
-                Err((fault, conn)) => why_untaken(fault, &conn),
-            },
-            Err((error, _)) => why_unopened(error),
         }
     }
 }

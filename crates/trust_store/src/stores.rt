@@ -1,6 +1,6 @@
 // Where the books named on a command line are found.
 
-ghost use Rattle.std.specs.Prelude.{IfOk};
+ghost use Rattle.std.specs.Prelude.{◌≡◌, ◌↔◌, IfOk};
 
 use crate::book::Book;
 use std::alloc::Global;
@@ -17,10 +17,29 @@ pub enum NoBook {
     NoDatabase,
     /// The database there has other tables, or tables of another version.
     OtherTables,
+    /// Nothing is there, or an empty file, but a log beside it has changes of a book. Neither was touched.
+    LogAlone,
     /// It could not be read or written.
     Failed,
-    /// The reason is not known.
-    Unknown,
+    /// Memory ran out.
+    Memory,
+}
+
+impl NoBook {
+    /// The fault that it is of a store: `Memory` if memory ran out, otherwise `Store`.
+    pub fn fault(self) -> StoreFault
+        ensures { result ≡ StoreFault.Memory ↔ self ≡ NoBook.Memory }
+    {
+        match self {
+            NoBook::InUse
+            | NoBook::Unopened
+            | NoBook::NoDatabase
+            | NoBook::OtherTables
+            | NoBook::LogAlone
+            | NoBook::Failed => StoreFault::Store,
+            NoBook::Memory => StoreFault::Memory,
+        }
+    }
 }
 
 /// Where books that outlive a run are stored, each at a path.
@@ -37,11 +56,9 @@ pub trait Stores {
     /// What became of a book that was put back, given the result.
     ghost puts: { Self → Self.AtPath → Result Unit StoreFault → Type 0 };
 
-    /// Opens the book at a path. If there is none, creates one without rows.
-    ///
-    /// `Store` means that what is there is not a book of this version, or could not be opened, read or written.
-    /// `Memory` means out of memory. The rows of an existing book are not looked at.
-    fn at(&self, alloc: Global, path: &str) -> Result<Self::AtPath, StoreFault>
+    /// Opens the book at a path. If there is none, creates one without rows. The error says why there is no usable book;
+    /// nothing that is at the path is changed then. The rows of an existing book are not looked at.
+    fn at(&self, alloc: Global, path: &str) -> Result<Self::AtPath, NoBook>
         ensures found { IfOk result (λ book. (Self.AtPath.seen book).sure → finds self.now path.now book) }
         ensures serves { IfOk result (λ book. (Self.AtPath.seen book).sure → (Self.AtPath.seen book).clean) };
 
@@ -51,9 +68,4 @@ pub trait Stores {
     /// accepted is lost: it is beside the path, where `at` finds it.
     fn put_back(&self, book: Self::AtPath) -> Result<(), StoreFault>
         ensures put { puts self.now book result };
-
-    /// Why `at` just returned `Store`, to be reported to a person. Changes nothing.
-    fn why_none(&self, _alloc: Global, _path: &str) -> NoBook {
-        NoBook::Unknown
-    }
 }

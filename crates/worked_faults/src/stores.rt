@@ -3,7 +3,7 @@
 use std::alloc::Global;
 use std::cell::{Cell, RefCell};
 use trust_base::StoreFault;
-use trust_store::{PlainBook, Stores};
+use trust_store::{NoBook, PlainBook, Stores};
 
 /// A store with room for one book, kept in memory, and the result of putting it back.
 #[derive(Drop)]
@@ -34,15 +34,15 @@ impl Stores for TrialStores {
 
     ghost puts = { λ _ _ _. ⊤ };
 
-    fn at(&self, alloc: Global, path: &str) -> Result<PlainBook, StoreFault> {
+    fn at(&self, alloc: Global, path: &str) -> Result<PlainBook, NoBook> {
         self.asked.set(self.asked.get().wrapping_add(1));
         if path != "book.db" {
-            return Err(StoreFault::Store);
+            return Err(NoBook::Unopened);
         }
         match self.kept.try_replace(None) {
             Ok(Some(book)) => Ok(book),
             Ok(None) => Ok(PlainBook::new(alloc)),
-            Err(_) => Err(StoreFault::Store),
+            Err(_) => Err(NoBook::Failed),
         }
     }
 
