@@ -32,6 +32,7 @@ pub use Rattle.trust_desk.specs.declared.requests.Body.{Body}
 pub use Rattle.trust_desk.specs.declared.requests.Body.TheVariants.{Json, Refused}
 pub use Rattle.trust_desk.specs.declared.requests.Reply.{Reply}
 pub use Rattle.trust_store.specs.Crashes.{LeavesAlone, LeavesOr}
+pub use Rattle.trust_store.specs.Seen.{Seen}
 pub use Rattle.cashier.specs.Calls.{IsAny, IsSame, LeavesBook}
 pub use Rattle.cashier.specs.Outcome.{Ran, put_outcome, store_outcome, stream_outcome}
 pub use Rattle.cashier.specs.Sheet.{Cut, CutsLine, Ends, IsBehindLines, IsWhole, LargeEnds, Leaves, LinesAreKept, OwnRecordsAlone, RecordEnds, RunEnds, TellsLine, all_accepted, body_line, end_of, firm_from, is_accepting, lines_at, lines_from, names_matter, ran_by, ran_refused, record_step, records_run, refusal_line, reply_line, sheet_records}

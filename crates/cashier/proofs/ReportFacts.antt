@@ -1,5 +1,5 @@
 -- What the reply to a report says of the program's end, and that a report makes no rows.
-use Rattle.cashier.proofs.Names.{◌≡◌, ℕ, Option, inl, inr, Refusal, Firm, LeavesOr, IsMade, MayLeave, after_asked, Asks, asked_on, arith, ints, nat_tests}
+use Rattle.cashier.proofs.Names.{◌≡◌, ℕ, Option, inl, inr, Refusal, Firm, Seen, LeavesOr, IsMade, MayLeave, after_asked, Asks, asked_on, arith, ints, nat_tests}
 use Rattle.trust_matter.specs.declared.ask.Ask.TheVariants.{Accounting}
 use Rattle.trust_matter.specs.declared.ask.Caller.TheVariants.{Cashier}
 use Rattle.command_line.specs.declared.command.ReportCommand.{ReportCommand}
@@ -14,6 +14,6 @@ accounting-same o day m firm = grind (arith, ints, nat_tests)
 report-makes : (day : ℕ) (firm found : Firm) (command : ReportCommand) → IsMade day firm (Asks (asked_for command)) found → found ≡ firm
 report-makes day firm found command made = grind (arith, ints, nat_tests, accounting-same)
 
-pub report-leaves : {B : Type 0} {clean : B → Type 0} {leaves : B → Firm → Type 0} {done : Type 0} (day : ℕ) (firm after : Firm) (command : ReportCommand) (old new : B)
-    → MayLeave clean leaves done (IsMade day firm (Asks (asked_for command))) firm after old new → LeavesOr firm (leaves old) (leaves new)
+pub report-leaves : {done : Type 0} (day : ℕ) (firm after : Firm) (command : ReportCommand) (old new : Seen)
+    → MayLeave done (IsMade day firm (Asks (asked_for command))) firm after old new → LeavesOr firm old.leaves new.leaves
 report-leaves day firm after command old new may found left = elim (may.crash found left) [ inl was ↦ inl was | inr made ↦ inr (report-makes day firm found command made) ]

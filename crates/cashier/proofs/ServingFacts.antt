@@ -1,5 +1,5 @@
 -- What the end of serving clients says of the firm, and of the program's end.
-use Rattle.cashier.proofs.Names.{◌≡◌, ℕ, suc, List, [], ◌∷◌, Option, ap, subst, Firm, StreamEnd, Comes, AreServedInTurn, IsClientServed, arith, ints, nat_tests}
+use Rattle.cashier.proofs.Names.{◌≡◌, ℕ, suc, List, [], ◌∷◌, Option, ap, subst, Seen, StreamEnd, Comes, AreServedInTurn, IsClientServed, arith, ints, nat_tests}
 use Rattle.portal_http.specs.declared.server.ServeEnd.{ServeEnd}
 use Rattle.portal_http.specs.declared.server.ServeEnd.TheVariants as serving
 use Rattle.cashier.specs.Serving.{AreMetInTurn, IsMet, serving_outcome}
@@ -10,45 +10,45 @@ use Rattle.cashier.proofs.StreamFacts.{stream-ends}
 pub serving-no-store : (e : ServeEnd) → serving_outcome e ≡ outcome.StoreFault → ⊥
 serving-no-store e h = grind (arith, ints, nat_tests)
 
-module _ {B W : Type 0} (clean sure stands lasts : B → Type 0) (leaves : B → Firm → Type 0) (firm : B → Firm) (refusals : B → ℕ) (contents : W → Option (List ℕ)) where
+module _ {B W : Type 0} (seen : B → Seen) (contents : W → Option (List ℕ)) where
   -- a client that was served over a book whose store is clean and stood for a sound firm, said of the firm
   client-met : (day : ℕ) (comes : Comes W → Type 0) (old : B) (end : StreamEnd) (new : B)
-      → IsClientServed clean sure stands lasts leaves firm refusals contents day comes old end new → clean new → stands old → IsMet contents day comes (firm old) end (firm new)
+      → IsClientServed seen contents day comes old end new → (seen new).clean → (seen old).stands → IsMet contents day comes (seen old).firm end (seen new).firm
   client-met day comes old end new x5 c s = grind (arith, ints, nat_tests, stream-ends)
 
   -- a client leaves the book standing
   client-clean : (day : ℕ) (comes : Comes W → Type 0) (old : B) (end : StreamEnd) (new : B)
-      → IsClientServed clean sure stands lasts leaves firm refusals contents day comes old end new → clean new → clean old
+      → IsClientServed seen contents day comes old end new → (seen new).clean → (seen old).clean
   client-clean day comes old end new x5 c = grind (arith, ints, nat_tests)
 
   client-stands : (day : ℕ) (comes : Comes W → Type 0) (old : B) (end : StreamEnd) (new : B)
-      → IsClientServed clean sure stands lasts leaves firm refusals contents day comes old end new → clean new → stands old → stands new
+      → IsClientServed seen contents day comes old end new → (seen new).clean → (seen old).stands → (seen new).stands
   client-stands day comes old end new x5 c s = grind (arith, ints, nat_tests)
 
   turn-clean : (day : ℕ) (comes : ℕ → Comes W → Type 0) (old : B) (ends : List StreamEnd) (new : B)
-      → AreServedInTurn clean sure stands lasts leaves firm refusals contents day comes old ends new → clean new → clean old
-  turn-clean day comes old [] new same c = subst clean same c
+      → AreServedInTurn seen contents day comes old ends new → (seen new).clean → (seen old).clean
+  turn-clean day comes old [] new same c = subst (λ b. (seen b).clean) same c
   turn-clean day comes old (end ∷ ends) new (mid, client, rest) c =
       client-clean day (comes 0) old end mid client (turn-clean day (λ k. comes (suc k)) mid ends new rest c)
 
   -- all clients, one after the other
   pub met-in-turn : (day : ℕ) (comes : ℕ → Comes W → Type 0) (old : B) (ends : List StreamEnd) (new : B)
-      → AreServedInTurn clean sure stands lasts leaves firm refusals contents day comes old ends new → clean new → stands old → AreMetInTurn contents day comes (firm old) ends (firm new)
-  met-in-turn day comes old [] new same c s = ap firm same
+      → AreServedInTurn seen contents day comes old ends new → (seen new).clean → (seen old).stands → AreMetInTurn contents day comes (seen old).firm ends (seen new).firm
+  met-in-turn day comes old [] new same c s = ap (λ b. (seen b).firm) same
   met-in-turn day comes old (end ∷ ends) new (mid, client, rest) c s =
       let mid_clean = turn-clean day (λ k. comes (suc k)) mid ends new rest c in (
-        firm mid,
+        (seen mid).firm,
         client-met day (comes 0) old end mid client mid_clean s,
         met-in-turn day (λ k. comes (suc k)) mid ends new rest c (client-stands day (comes 0) old end mid client mid_clean s),
       )
 
   -- what comes of a listener's accepts may come of its port's
   client-as : (day : ℕ) (comes may : Comes W → Type 0) → ((c : Comes W) → comes c → may c) → (old : B) (end : StreamEnd) (new : B)
-      → IsClientServed clean sure stands lasts leaves firm refusals contents day comes old end new → IsClientServed clean sure stands lasts leaves firm refusals contents day may old end new
+      → IsClientServed seen contents day comes old end new → IsClientServed seen contents day may old end new
   client-as day comes may also old end new x7 = grind (arith, ints, nat_tests)
 
   pub served-as : (day : ℕ) (comes may : ℕ → Comes W → Type 0) → ((k : ℕ) (c : Comes W) → comes k c → may k c) → (old : B) (ends : List StreamEnd) (new : B)
-      → AreServedInTurn clean sure stands lasts leaves firm refusals contents day comes old ends new → AreServedInTurn clean sure stands lasts leaves firm refusals contents day may old ends new
+      → AreServedInTurn seen contents day comes old ends new → AreServedInTurn seen contents day may old ends new
   served-as day comes may also old [] new same = same
   served-as day comes may also old (end ∷ ends) new (mid, client, rest) = (
     mid,

@@ -1,5 +1,5 @@
 -- What a crash leaves of a sheet.
-use Rattle.cashier.proofs.Names.{◌≡◌, ◌∙◌, ◌<◌, ◌≤◌, ◌++◌, ◌∷◌, ◌⊎◌, nat_lt, ℕ, Bool, true, false, List, [], length, take, Option, Result, Err, IfSome, inl, inr, refl, ap, subst, arith, IsOk, Appends-nil, Appends-trans, nat_tests, append-nil, Appends, concat, MAX_FILE_BYTES, Refusal, TooLarge, Firm, LeavesAlone, IsMade, MayLeave, Steps, firm_step, Heard, is_fault_body, is_fault_reply, Body, Json, Refused, Reply, leave-as, heard_of, IsBehindLines, IsWhole, LargeEnds, LinesAreKept, TellsLine, body_line, firm_from, lines_from, ran_by, record_step, records_run, refusal_line, reply_line, sheet_records, SheetEnd, ints}
+use Rattle.cashier.proofs.Names.{◌≡◌, ◌∙◌, ◌<◌, ◌≤◌, ◌++◌, ◌∷◌, ◌⊎◌, nat_lt, ℕ, Bool, true, false, List, [], length, take, Option, Result, Err, IfSome, inl, inr, refl, ap, subst, arith, IsOk, Appends-nil, Appends-trans, nat_tests, append-nil, Appends, concat, MAX_FILE_BYTES, Refusal, TooLarge, Firm, Seen, LeavesAlone, IsMade, MayLeave, Steps, firm_step, Heard, is_fault_body, is_fault_reply, Body, Json, Refused, Reply, leave-as, heard_of, IsBehindLines, IsWhole, LargeEnds, LinesAreKept, TellsLine, body_line, firm_from, lines_from, ran_by, record_step, records_run, refusal_line, reply_line, sheet_records, SheetEnd, ints}
 use Rattle.trust_desk.specs.declared.requests.Body.TheVariants.{Text}
 use Rattle.trust_desk.proofs.MadeRows.{plain-step}
 use Rattle.cashier.specs.Sent.{IsSent}
@@ -13,10 +13,10 @@ pub goes-plain : (reply : Reply) (ran : Result Bool SheetEnd) → ran ≡ ran_by
 goes-plain reply ran goes ok = grind (arith, ints, nat_tests, goes-body)
 
 -- what is told of a record that lets the run go on
-pub told-as : {B : Type 0} {clean : B → Type 0} {leaves : B → Firm → Type 0} (day : ℕ) (first last : Firm) (old new : B) (h : Heard) (reply : Reply) (ran : Result Bool SheetEnd) → ran ≡ ran_by reply.body
-    → clean old → (clean new → Steps day first h reply last)
-    → MayLeave clean leaves (is_fault_reply reply ≡ false) (IsMade day first h) first (firm_step day first h).firm old new
-    → MayLeave clean leaves (IsOk ran) (IsMade day first h) first last old new
+pub told-as : (day : ℕ) (first last : Firm) (old new : Seen) (h : Heard) (reply : Reply) (ran : Result Bool SheetEnd) → ran ≡ ran_by reply.body
+    → old.clean → (new.clean → Steps day first h reply last)
+    → MayLeave (is_fault_reply reply ≡ false) (IsMade day first h) first (firm_step day first h).firm old new
+    → MayLeave (IsOk ran) (IsMade day first h) first last old new
 told-as day first last old new h reply ran goes served step may =
     grind (arith, ints, nat_tests, leave-as, goes-plain, plain-step)
 
@@ -57,8 +57,8 @@ not-whole : (reply : Reply) (old new : Option (List ℕ)) (e : SheetEnd) → IsS
 not-whole reply old new e x4 w = grind (arith, ints, nat_tests, stop-body, err-same)
 
 -- the reply to a record is that of the firm's step, or tells of a fault
-pub reply-says : {B : Type 0} {clean : B → Type 0} {leaves : B → Firm → Type 0} {Makes : Firm → Type 0} (day : ℕ) (first last : Firm) (old new : B) (h : Heard) (reply : Reply)
-    → clean old → (clean new → Steps day first h reply last) → MayLeave clean leaves (is_fault_reply reply ≡ false) Makes first (firm_step day first h).firm old new
+pub reply-says : {Makes : Firm → Type 0} (day : ℕ) (first last : Firm) (old new : Seen) (h : Heard) (reply : Reply)
+    → old.clean → (new.clean → Steps day first h reply last) → MayLeave (is_fault_reply reply ≡ false) Makes first (firm_step day first h).firm old new
     → (is_fault_reply reply ≡ true) ⊎ (reply ≡ (firm_step day first h).reply)
 reply-says day first last old new h reply served step may =
     grind (arith, ints, nat_tests, is_fault_reply, firm_step, steps-plain)
@@ -69,63 +69,62 @@ abbrev GoesOn : Result Bool SheetEnd → Type 0
 GoesOn ran = IsOk ran
 
 -- so far the store serves, and a settled book is settled
-abbrev pub IsGoing : {B : Type 0} → (B → Type 0) → (B → Firm → Type 0) → (B → Firm) → B → B → Type 0
-IsGoing clean leaves firm old new = clean new × (LeavesAlone (firm old) (leaves old) → LeavesAlone (firm new) (leaves new))
+abbrev pub IsGoing : Seen → Seen → Type 0
+IsGoing old new = new.clean × (LeavesAlone old.firm old.leaves → LeavesAlone new.firm new.leaves)
 
-module _ {B : Type 0} {clean : B → Type 0} {leaves : B → Firm → Type 0} (firm : B → Firm) where
-  pub going-more : {done : Type 0} {Makes : Firm → Type 0} (old mid new : B) → done → IsGoing clean leaves firm old mid
-      → MayLeave clean leaves done Makes (firm mid) (firm new) mid new → IsGoing clean leaves firm old new
-  going-more old mid new is going one = (one.serves going.0 is, λ alone. one.settled is (going.1 alone))
+pub going-more : {done : Type 0} {Makes : Firm → Type 0} (old mid new : Seen) → done → IsGoing old mid
+    → MayLeave done Makes mid.firm new.firm mid new → IsGoing old new
+going-more old mid new is going one = (one.serves going.0 is, λ alone. one.settled is (going.1 alone))
 
-  -- where it ends between two records
-  pub kept-here : (day : ℕ) (all past later : List (List (List ℕ))) (old new : B) (given told : Option (List ℕ)) (off : Bool) (ended : SheetEnd) → past ++ later ≡ all → (IsWhole ended → later ≡ [])
-      → SoFar day (firm old) past (firm new) given told off → IsGoing clean leaves firm old new
-      → LinesAreKept clean leaves day (firm old) all old given told ended new
-  kept-here day all past later old new given told off ended parts none x12 going =
-      grind (arith, ints, nat_tests, append-nil, concat, lines_from)
+-- where it ends between two records
+pub kept-here : (day : ℕ) (all past later : List (List (List ℕ))) (old new : Seen) (given told : Option (List ℕ)) (off : Bool) (ended : SheetEnd) → past ++ later ≡ all → (IsWhole ended → later ≡ [])
+    → SoFar day old.firm past new.firm given told off → IsGoing old new
+    → LinesAreKept day old.firm all old given told ended new
+kept-here day all past later old new given told off ended parts none x12 going =
+    grind (arith, ints, nat_tests, append-nil, concat, lines_from)
 
-  -- where a record ends it
-  pub kept-stopped : (day : ℕ) (all past left rest : List (List (List ℕ))) (r : List (List ℕ)) (old mid new : B) (given so_far told : Option (List ℕ)) (off : Bool) (ended : SheetEnd) → past ++ left ≡ all → left ≡ r ∷ rest
-      → SoFar day (firm old) past (firm mid) given so_far off → IsGoing clean leaves firm old mid
-      → MayLeave clean leaves (GoesOn (Err ended)) (IsMade day (firm mid) (heard_of r)) (firm mid) (firm new) mid new → TellsLine day (firm mid) r so_far told (Err ended)
-      → LinesAreKept clean leaves day (firm old) all old given told ended new
-  kept-stopped day all past left rest r old mid new given so_far told off ended parts first (written, is, was) going one line =
-      let here = subst (λ (f : Firm). TellsLine day f r so_far told (Err ended)) is line in
-      let (more, behind, wrote) = behind-of day (firm_from day (firm old) past) r rest so_far told ended here in
-      record {
-        past = past;
-        later = r ∷ rest;
-        parts = rw first at parts;
-        more = more;
-        behind = behind;
-        written = Appends-trans given so_far told _ more written wrote;
-        left = λ alone found may. elim (one.crash found may) [
-          | inl before ↦ inl (going.1 alone found before ∙ is)
-          | inr made ↦ inr (subst (λ (f : Firm). IsMade day f (heard_of r) found) is made)
-        ];
-        whole = λ w. absurd (not-whole line.reply so_far told ended line.sent w);
-      }
+-- where a record ends it
+pub kept-stopped : (day : ℕ) (all past left rest : List (List (List ℕ))) (r : List (List ℕ)) (old mid new : Seen) (given so_far told : Option (List ℕ)) (off : Bool) (ended : SheetEnd) → past ++ left ≡ all → left ≡ r ∷ rest
+    → SoFar day old.firm past mid.firm given so_far off → IsGoing old mid
+    → MayLeave (GoesOn (Err ended)) (IsMade day mid.firm (heard_of r)) mid.firm new.firm mid new → TellsLine day mid.firm r so_far told (Err ended)
+    → LinesAreKept day old.firm all old given told ended new
+kept-stopped day all past left rest r old mid new given so_far told off ended parts first (written, is, was) going one line =
+    let here = subst (λ (f : Firm). TellsLine day f r so_far told (Err ended)) is line in
+    let (more, behind, wrote) = behind-of day (firm_from day old.firm past) r rest so_far told ended here in
+    record {
+      past = past;
+      later = r ∷ rest;
+      parts = rw first at parts;
+      more = more;
+      behind = behind;
+      written = Appends-trans given so_far told _ more written wrote;
+      left = λ alone found may. elim (one.crash found may) [
+        | inl before ↦ inl (going.1 alone found before ∙ is)
+        | inr made ↦ inr (subst (λ (f : Firm). IsMade day f (heard_of r) found) is made)
+      ];
+      whole = λ w. absurd (not-whole line.reply so_far told ended line.sent w);
+    }
 
-  -- where none was run
-  pub kept-none : (day : ℕ) (all : List (List (List ℕ))) (old : B) (given : Option (List ℕ)) (ended : SheetEnd) → (IsWhole ended → ⊥) → LinesAreKept clean leaves day (firm old) all old given given ended old
-  kept-none day all old given ended never = record {
-    past = [];
-    later = all;
-    parts = refl;
-    more = [];
-    behind = inl refl;
-    written = Appends-nil given;
-    left = λ alone found may. inl (alone found may);
-    whole = λ w. absurd (never w);
-  }
+-- where none was run
+pub kept-none : (day : ℕ) (all : List (List (List ℕ))) (old : Seen) (given : Option (List ℕ)) (ended : SheetEnd) → (IsWhole ended → ⊥) → LinesAreKept day old.firm all old given given ended old
+kept-none day all old given ended never = record {
+  past = [];
+  later = all;
+  parts = refl;
+  more = [];
+  behind = inl refl;
+  written = Appends-nil given;
+  left = λ alone found may. inl (alone found may);
+  whole = λ w. absurd (never w);
+}
 
-  pub kept-large : (day : ℕ) (old : B) (given told : Option (List ℕ)) (ended : SheetEnd) → clean old → LargeEnds (firm old) (firm old) given told ended → LinesAreKept clean leaves day (firm old) [] old given told ended old
-  kept-large day old given told end.Done served large = absurd large
-  kept-large day old given told end.Refused served (wrote, same) = record { past = []; later = []; parts = refl; more = refusal_line TooLarge; behind = inr (inl (TooLarge, inl refl)); written = wrote; left = λ alone found may. inl (alone found may); whole = λ w. (refl, served) }
-  kept-large day old given told end.ReadFault served (wrote, same) = record { past = []; later = []; parts = refl; more = []; behind = inl refl; written = wrote; left = λ alone found may. inl (alone found may); whole = λ w. absurd w }
-  kept-large day old given told end.WriteFault served (n, less, wrote, same) = record { past = []; later = []; parts = refl; more = take n (refusal_line TooLarge); behind = inr (inl (TooLarge, inr (n, less, refl))); written = wrote; left = λ alone found may. inl (alone found may); whole = λ w. absurd w }
-  kept-large day old given told end.Store served large = absurd large
-  kept-large day old given told end.NoMemory served (wrote, same) = record { past = []; later = []; parts = refl; more = []; behind = inl refl; written = wrote; left = λ alone found may. inl (alone found may); whole = λ w. absurd w }
+pub kept-large : (day : ℕ) (old : Seen) (given told : Option (List ℕ)) (ended : SheetEnd) → old.clean → LargeEnds old.firm old.firm given told ended → LinesAreKept day old.firm [] old given told ended old
+kept-large day old given told end.Done served large = absurd large
+kept-large day old given told end.Refused served (wrote, same) = record { past = []; later = []; parts = refl; more = refusal_line TooLarge; behind = inr (inl (TooLarge, inl refl)); written = wrote; left = λ alone found may. inl (alone found may); whole = λ w. (refl, served) }
+kept-large day old given told end.ReadFault served (wrote, same) = record { past = []; later = []; parts = refl; more = []; behind = inl refl; written = wrote; left = λ alone found may. inl (alone found may); whole = λ w. absurd w }
+kept-large day old given told end.WriteFault served (n, less, wrote, same) = record { past = []; later = []; parts = refl; more = take n (refusal_line TooLarge); behind = inr (inl (TooLarge, inr (n, less, refl))); written = wrote; left = λ alone found may. inl (alone found may); whole = λ w. absurd w }
+kept-large day old given told end.Store served large = absurd large
+kept-large day old given told end.NoMemory served (wrote, same) = record { past = []; later = []; parts = refl; more = []; behind = inl refl; written = wrote; left = λ alone found may. inl (alone found may); whole = λ w. absurd w }
 
 -- A sheet, of bytes that are known or not.
 

@@ -1,5 +1,5 @@
 -- What the import of a statement says of its bytes, where less is known of them.
-use Rattle.cashier.proofs.Names.{ℕ, List, Option, option_map, Keeps, Firm, IsAfterFirst, MayLeave, arith, ints, nat_tests}
+use Rattle.cashier.proofs.Names.{ℕ, List, Option, option_map, Keeps, Firm, Seen, IsAfterFirst, MayLeave, arith, ints, nat_tests}
 use Rattle.statement_csv.specs.Items.{items}
 use Rattle.trust_desk.specs.Imports.{Imports}
 use Rattle.trust_desk.specs.declared.importing.ImportEnd.{ImportEnd}
@@ -28,6 +28,6 @@ ends-known day before after size known bytes old new e keeps h =
 first-known : (day : ℕ) (firm found : Firm) (known bytes : Option (List ℕ)) → Keeps known bytes → IsAfterFirst day firm (option_map items bytes) found → IsAfterFirst day firm (option_map items known) found
 first-known day firm found known bytes keeps h = grind (arith, ints, nat_tests)
 
-pub leaves-known : {B : Type 0} {clean : B → Type 0} {leaves : B → Firm → Type 0} {done : Type 0} (day : ℕ) (firm after : Firm) (known bytes : Option (List ℕ)) (old new : B) → Keeps known bytes
-    → MayLeave clean leaves done (IsAfterFirst day firm (option_map items bytes)) firm after old new → MayLeave clean leaves done (IsAfterFirst day firm (option_map items known)) firm after old new
+pub leaves-known : {done : Type 0} (day : ℕ) (firm after : Firm) (known bytes : Option (List ℕ)) (old new : Seen) → Keeps known bytes
+    → MayLeave done (IsAfterFirst day firm (option_map items bytes)) firm after old new → MayLeave done (IsAfterFirst day firm (option_map items known)) firm after old new
 leaves-known day firm after known bytes old new keeps may = grind (arith, ints, nat_tests, first-known)

@@ -1,5 +1,5 @@
 -- What the end of a stream says of the firm, and of the program's end.
-use Rattle.cashier.proofs.Names.{◌≡◌, ℕ, List, Option, Firm, StreamEnd, stream_outcome, arith, ints, nat_tests}
+use Rattle.cashier.proofs.Names.{◌≡◌, ℕ, List, Option, Seen, StreamEnd, stream_outcome, arith, ints, nat_tests}
 use Rattle.portal_http.specs.Served.{Served}
 use Rattle.portal_http.specs.declared.stream.StreamEnd.TheVariants as stream
 use Rattle.cashier.specs.Stream.{StreamEnds}
@@ -10,8 +10,7 @@ pub stream-no-store : (e : StreamEnd) → stream_outcome e ≡ outcome.StoreFaul
 stream-no-store e h = grind (arith, ints, nat_tests)
 
 -- what was served over a book whose store is clean and stood for a sound firm, said of the firm
-pub stream-ends : {B : Type 0} {clean sure stands lasts : B → Type 0} {leaves : B → Firm → Type 0} {firm : B → Firm} {refusals : B → ℕ} {day : ℕ} {input before after : Option (List ℕ)}
-    {old new : B} {end : StreamEnd}
-    → Served clean sure stands lasts leaves firm refusals day input before old end after new → clean new → stands old
-    → StreamEnds day (firm old) input (firm new) before after end
+pub stream-ends : {day : ℕ} {input before after : Option (List ℕ)} {old new : Seen} {end : StreamEnd}
+    → Served day input before old end after new → new.clean → old.stands
+    → StreamEnds day old.firm input new.firm before after end
 stream-ends h clean stands = grind (arith, ints, nat_tests)

@@ -2,6 +2,7 @@
 use Rattle.std.specs.Prelude.{◌≡◌, ◌⊎◌, ℕ, List, ⊤}
 use Rattle.trust_base.specs.declared.refusal.StoreFault.TheVariants as faults
 use Rattle.trust_store.specs.Books.{counted_fault}
+use Rattle.trust_store.specs.Seen.{Seen}
 use Rattle.clap.specs.Words.{Text}
 use Rattle.command_line.specs.Program.{MeansCheck}
 use Rattle.cashier.specs.declared.outcome.Outcome.{Outcome}
@@ -11,13 +12,12 @@ use Rattle.cashier.specs.declared.outcome.Outcome.TheVariants as outcome
 -- sound firm still does; if the store is sure, and stood for a sound firm if it was clean, then what a crash leaves
 -- still lasts, and its count of faults changed as the end of the run says, even if a fault shut the store before or
 -- during the run
-pub record LeavesBook {B : Type 0} (clean sure stands lasts : B → Type 0) (refusals : B → ℕ)
-    (Goes : ℕ → ℕ → Type 0) (old new : B) : Type 0 where
-  pub was_clean : clean new → clean old
-  pub was_sure : sure new → sure old
-  pub still_stands : clean new → stands old → stands new
-  pub still_lasts : sure new → (clean old → stands old) → lasts old → lasts new
-  pub cause : sure new → (clean old → stands old) → Goes (refusals old) (refusals new)
+pub record LeavesBook (Goes : ℕ → ℕ → Type 0) (old new : Seen) : Type 0 where
+  pub was_clean : new.clean → old.clean
+  pub was_sure : new.sure → old.sure
+  pub still_stands : new.clean → old.stands → new.stands
+  pub still_lasts : new.sure → (old.clean → old.stands) → old.lasts → new.lasts
+  pub cause : new.sure → (old.clean → old.stands) → Goes old.refusals new.refusals
 
 -- no fault was counted
 abbrev pub IsSame : ℕ → ℕ → Type 0

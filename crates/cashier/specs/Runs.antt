@@ -4,10 +4,12 @@ use Rattle.clap.specs.Words.{Text}
 use Rattle.firm_rows.specs.Firm.{Firm, empty_firm}
 use Rattle.firm_rows.specs.FirmSound.{FirmSound}
 use Rattle.trust_base.specs.declared.refusal.StoreFault.{StoreFault}
+use Rattle.trust_store.specs.Seen.{Seen}
 use Rattle.portal_http.specs.Clients.{Ports}
-use Rattle.command_line.specs.Program.{Means, MeansNothing, db_of}
+use Rattle.command_line.specs.Program.{Means, MeansCheck, MeansNothing, db_of}
 use Rattle.command_line.specs.declared.command.Task.{Task}
 use Rattle.cashier.specs.Calls.{CountsStoreIn, LeavesBook}
+use Rattle.cashier.specs.Check.{IsSaidSound}
 use Rattle.cashier.specs.Crashes.{LeavesRun}
 use Rattle.cashier.specs.Outcome.{HasBegun, Ran, put_outcome, store_outcome}
 use Rattle.cashier.specs.declared.outcome.Outcome.{Outcome}
@@ -24,29 +26,30 @@ pub record HadNoBook (untouched : Type 0) (told : Outcome) : Type 0 where
   pub outcome : told ≡ store_outcome fault
   pub nothing : untouched
 
--- Only these are used of a book: whether its store is clean, whether it is sure, whether it stands for a sound firm,
--- whether what a crash leaves of it lasts, what that may be, its firm, and how often it failed; and of a store of
--- books, which it may find at a path, and what it may return when one is put back.
-module _ {B W : Type 0} (clean sure stands lasts : B → Type 0) (leaves : B → Firm → Type 0) (firm : B → Firm)
-    (refusals : B → ℕ) where
+-- Of a book only what is seen of it is used; and of a store of books, which it may find at a path, and what it may
+-- return when one is put back.
+module _ {B W : Type 0} (seen : B → Seen) where
   -- a run over the book that was found at a path: the book is clean, and the run over it ended this way; then the book
   -- that the run left was put back, or could not be, with this result. The claims about the firm hold if the book's
   -- store is clean after the run, and if it stood for a sound firm when it was found; the claims about a crash hold
-  -- even if a fault has shut the store
+  -- even if a fault has shut the store. A check that ended well found the rows of a sound firm, whatever rows were
+  -- found that can be read
   pub record RanAtPath (finds : B → Type 0) (puts : B → Result Unit StoreFault → Type 0) (words : List Text)
       (input : Option (List ℕ)) (known : Text → Option (List ℕ)) (opens : Text → Option (Option ℕ) → Type 0)
       (ports : Ports W) (old new : Option (List ℕ)) (told : Outcome) : Type 0 where
     pub before : B
-    pub found : sure before → finds before
-    pub serves : sure before → clean before
+    pub found : (seen before).sure → finds before
+    pub serves : (seen before).sure → (seen before).clean
     pub after : B
     pub ended : Outcome
-    pub kept : LeavesBook clean sure stands lasts refusals (CountsStoreIn words ended) before after
-    pub sound : clean after → stands before → FirmSound (firm after)
-    pub ran : clean after → stands before
-        → Ran words input known opens ports (firm before) (firm after) old new ended
-    pub crash : sure after → stands before → LeavesRun clean sure stands lasts leaves firm refusals words input known
-        opens ports old new before after ended
+    pub kept : LeavesBook (CountsStoreIn words ended) (seen before) (seen after)
+    pub sound : (seen after).clean → (seen before).stands → FirmSound (seen after).firm
+    pub ran : (seen after).clean → (seen before).stands
+        → Ran words input known opens ports (seen before).firm (seen after).firm old new ended
+    pub crash : (seen after).sure → (seen before).stands
+        → LeavesRun seen words input known opens ports old new before after ended
+    pub checked : (seen after).clean → (seen before).readable → MeansCheck words → ended ≡ outcome.Done
+        → IsSaidSound (seen before).firm old new
     pub put : Result Unit StoreFault
     pub left : puts after put
     pub outcome : told ≡ put_outcome ended put

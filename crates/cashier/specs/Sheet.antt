@@ -14,6 +14,7 @@ use Rattle.trust_base.specs.declared.refusal.StoreFault.TheVariants as faults
 use Rattle.firm_rows.specs.Firm.{Firm, of}
 use Rattle.trust_store.specs.Books.{counted_fault}
 use Rattle.trust_store.specs.Crashes.{LeavesAlone}
+use Rattle.trust_store.specs.Seen.{Seen}
 use Rattle.trust_desk.specs.Crashes.{IsMade}
 use Rattle.trust_desk.specs.FirmStep.{Stepped, Steps, firm_step}
 use Rattle.trust_desk.specs.Heard.{is_the}
@@ -225,17 +226,17 @@ IsNextMade day firm (here ∷ later) found = IsMade day firm (heard_of here) fou
 -- a run of records ended: the lines of the first ones were written, and after them no complete line except that of a
 -- refusal. If a crash could have left only the rows before, it now leaves those after these records, or those with the
 -- next; and if all were run, the store is clean and none is left
-pub record LinesAreKept {B : Type 0} (clean : B → Type 0) (leaves : B → Firm → Type 0) (day : ℕ) (before : Firm)
-    (all : List (List (List ℕ))) (old : B) (given told : Option (List ℕ)) (ended : SheetEnd) (new : B) : Type 0 where
+pub record LinesAreKept (day : ℕ) (before : Firm) (all : List (List (List ℕ))) (old : Seen)
+    (given told : Option (List ℕ)) (ended : SheetEnd) (new : Seen) : Type 0 where
   pub past : List (List (List ℕ))
   pub later : List (List (List ℕ))
   pub parts : past ++ later ≡ all
   pub more : List ℕ
   pub behind : IsBehindLines day (firm_from day before past) later more
   pub written : Appends given told (concat (lines_from day before past) ++ more)
-  pub left : LeavesAlone before (leaves old) → (found : Firm) → leaves new found
+  pub left : LeavesAlone before old.leaves → (found : Firm) → new.leaves found
       → (found ≡ firm_from day before past) ⊎ IsNextMade day (firm_from day before past) later found
-  pub whole : IsWhole ended → (later ≡ []) × clean new
+  pub whole : IsWhole ended → (later ≡ []) × new.clean
 
 -- ---- the lines of one matter
 

@@ -145,9 +145,10 @@ fn find_flaw<B: Book>(
     desk: &mut Desk<B>,
     today: Day,
 ) -> Result<CheckFound, StoreFault>
-    ensures sound { B.clean desk.new → B.readable desk.old → IfOk result (IsTrueOf (B.firm desk.old)) }
-    ensures reads { AreReads B.firm B.clean B.sure B.stands B.lasts B.leaves desk.old desk.new }
-    ensures serves { B.sure desk.new → OnOk result (B.clean desk.new) }
+    ensures sound { (B.seen desk.new).clean → (B.seen desk.old).readable
+        → IfOk result (IsTrueOf (B.seen desk.old).firm) }
+    ensures reads { AreReads (B.seen desk.old) (B.seen desk.new) }
+    ensures serves { (B.seen desk.new).sure → OnOk result (B.seen desk.new).clean }
 {
     match desk.check(alloc) {
         Ok(checked) => Ok(found_of(checked)),
@@ -238,15 +239,16 @@ pub fn run_check<M: Remarks, W: Write, B: Book>(
     desk: &mut Desk<B>,
     today: Day,
 ) -> Outcome
-    ensures sound { B.clean desk.new → B.readable desk.old → result ≡ Outcome.Done
-        → IsSaidSound (B.firm desk.old) (W.contents writer.old) (W.contents writer.new) }
+    ensures sound { (B.seen desk.new).clean → (B.seen desk.old).readable → result ≡ Outcome.Done
+        → IsSaidSound (B.seen desk.old).firm (W.contents writer.old) (W.contents writer.new) }
     ensures began { result ≢ Outcome.CommandLine }
-    ensures ends { B.clean desk.new → B.stands desk.old
-        → CheckEnds (B.firm desk.old) (B.firm desk.new) (W.contents writer.old) (W.contents writer.new) result }
-    ensures kept { LeavesBook B.clean B.sure B.stands B.lasts B.refusals IsAny desk.old desk.new }
-    ensures serves { result ≡ Outcome.Done → B.sure desk.new → B.clean desk.new }
-    ensures crash { B.clean desk.new → B.stands desk.old
-        → LeavesOr (B.firm desk.old) (B.leaves desk.old) (B.leaves desk.new) }
+    ensures ends { (B.seen desk.new).clean → (B.seen desk.old).stands
+        → CheckEnds (B.seen desk.old).firm (B.seen desk.new).firm (W.contents writer.old) (W.contents writer.new)
+        result }
+    ensures kept { LeavesBook IsAny (B.seen desk.old) (B.seen desk.new) }
+    ensures serves { result ≡ Outcome.Done → (B.seen desk.new).sure → (B.seen desk.new).clean }
+    ensures crash { (B.seen desk.new).clean → (B.seen desk.old).stands
+        → LeavesOr (B.seen desk.old).firm (B.seen desk.old).leaves (B.seen desk.new).leaves }
 {
     let found = find_flaw(alloc, desk, today);
     tell_found(remarks, &found);

@@ -48,22 +48,20 @@
 //!   (`crash`).
 //! - `own_records_alone`: a law: the lines that a sheet prints at the records that name a matter depend on that
 //!   matter's rows and on these records alone, if none of them was stopped.
-//! - `run_words`: the sheet is run, the statement imported or matched, the stream or the clients of a port served, the
+//! - `run_called`: the sheet is run, the statement imported or matched, the stream or the clients of a port served, the
 //!   report printed, or the book checked, if the words of the command line mean it, with what `run_sheet`,
 //!   `run_import`, `run_match`, `portal_http::serve_stream`, `run_serve`, `run_report` and `run_check` promise, and
-//!   with the length that opening the file gave (`meant`, `ends`); a stream goes by its end alone, and clients by that
-//!   of serving; neither ever ends by `StoreFault`; if they mean nothing, nothing is read or written (`line`, `unread`,
-//!   `unwritten`); standard input is read only if they mean a sheet or a stream (`input`). **If they mean a check that
-//!   ends by `Done`, the rows are those of a sound firm, whatever the store kept that can be read as rows** (`sound`).
-//!   What a crash leaves of the run is what these calls say of it, with the same text on standard output (`crash`). It
-//!   runs over the desk that it is given, whatever the words say of `--db`.
-//! - `run_called`: the same for every store of books (`Stores`). If the words name no path by `--db`, the run is over a
-//!   `PlainBook` without rows, and the firm that is left is sound. If they name one, either no book could be opened
-//!   there, and nothing was read or written (`StoreFault`, or `MemoryFault`); or a book was opened that the store finds
-//!   there (`finds`) and that serves. Then what `run_words` promises holds of the run over it if it stood and its store
-//!   is clean at the end (of a crash: even if a fault has shut the store), and the firm that is left is sound. The book
-//!   that the run left was put back (`puts`); if that failed and the run had ended by no fault, the outcome is one of
-//!   these two (`ran`).
+//!   with the length that opening the file gave; a stream goes by its end alone, and clients by that of serving;
+//!   neither ever ends by `StoreFault`; what a crash leaves of the run is what these calls say of it, with the same
+//!   text on standard output (`ran`). If the words mean nothing, nothing is read or written (`unread`, `unwritten`);
+//!   standard input is read only if they mean a sheet or a stream (`input`). That is for every store of books
+//!   (`Stores`). If the words name no path by `--db`, the run is over a `PlainBook` without rows, and the firm that is
+//!   left is sound. If they name one, either no book could be opened there, and nothing was read or written
+//!   (`StoreFault`, or `MemoryFault`); or a book was opened that the store finds there (`finds`) and that serves. Then
+//!   what is said of the run holds if the book stood and its store is clean at the end (of a crash: even if a fault has
+//!   shut the store), and the firm that is left is sound. **If the words mean a check that ends by `Done`, the rows are
+//!   those of a sound firm, whatever the store kept that can be read as rows** (`checked`). The book that the run left
+//!   was put back (`puts`); if that failed and the run had ended by no fault, the outcome is one of these two (`ran`).
 //! - `exit_of`: the exit status of each outcome.
 #![tactic(auto)]
 
@@ -89,7 +87,7 @@ pub use matching::run_match;
 pub use notice::{Notice, Source, bare_notice_of, notice_of};
 pub use outcome::{Outcome, exit_of};
 pub use portal_http::{AcceptFault, ClientListener, Connection, Network};
-pub use program::{Surroundings, run_called, run_serve, run_words};
+pub use program::{Surroundings, run_called, run_serve};
 pub use report::run_report;
 pub use sheet::{SheetEnd, run_sheet};
 pub use statement::run_import;

@@ -25,13 +25,14 @@ fn found_in<R: Read + Drop, B: Book>(
     desk: &mut Desk<B>,
     today: Day,
 ) -> Option<Result<Matched, Refusal>>
-    ensures found { B.clean desk.new → B.stands desk.old
-        → IfSome result (IsFound today (B.firm desk.old) file.length (R.remaining file.reader)) }
-    ensures same { B.clean desk.new → B.stands desk.old → B.firm desk.new ≡ B.firm desk.old }
-    ensures kept { LeavesBook B.clean B.sure B.stands B.lasts B.refusals
-        (CountsStore (Some (Err refusals.Store)) result) desk.old desk.new }
-    ensures crash { B.sure desk.new → B.clean desk.old → B.stands desk.old
-        → LeavesOr (B.firm desk.old) (B.leaves desk.old) (B.leaves desk.new) }
+    ensures found { (B.seen desk.new).clean → (B.seen desk.old).stands
+        → IfSome result (IsFound today (B.seen desk.old).firm file.length (R.remaining file.reader)) }
+    ensures same { (B.seen desk.new).clean → (B.seen desk.old).stands
+        → (B.seen desk.new).firm ≡ (B.seen desk.old).firm }
+    ensures kept { LeavesBook (CountsStore (Some (Err refusals.Store)) result) (B.seen desk.old)
+        (B.seen desk.new) }
+    ensures crash { (B.seen desk.new).sure → (B.seen desk.old).clean → (B.seen desk.old).stands
+        → LeavesOr (B.seen desk.old).firm (B.seen desk.old).leaves (B.seen desk.new).leaves }
 {
     let Opened { mut reader, length } = file;
     if is_told_longer(length) {
@@ -90,13 +91,12 @@ fn match_in<R: Read + Drop, F: Folder, M: Remarks, W: Write, B: Book>(
     writer: &mut W,
 ) -> Outcome
     ensures began { result ≢ Outcome.CommandLine }
-    ensures ends { B.clean desk.new → B.stands desk.old
-        → MatchEnds today (B.firm desk.old) file.length (R.remaining file.reader) (B.firm desk.new)
+    ensures ends { (B.seen desk.new).clean → (B.seen desk.old).stands
+        → MatchEnds today (B.seen desk.old).firm file.length (R.remaining file.reader) (B.seen desk.new).firm
         (W.contents writer.old) (W.contents writer.new) result }
-    ensures kept { LeavesBook B.clean B.sure B.stands B.lasts B.refusals (CountsStore Outcome.StoreFault result)
-        desk.old desk.new }
-    ensures crash { B.sure desk.new → B.clean desk.old → B.stands desk.old
-        → LeavesOr (B.firm desk.old) (B.leaves desk.old) (B.leaves desk.new) }
+    ensures kept { LeavesBook (CountsStore Outcome.StoreFault result) (B.seen desk.old) (B.seen desk.new) }
+    ensures crash { (B.seen desk.new).sure → (B.seen desk.old).clean → (B.seen desk.old).stands
+        → LeavesOr (B.seen desk.old).firm (B.seen desk.old).leaves (B.seen desk.new).leaves }
 {
     match found_in(alloc, file, desk, today) {
         Some(found) => print_found(telling, writer, &found),
@@ -123,15 +123,14 @@ pub fn run_match<'a, F: Folder, M: Remarks, W: Write, B: Book>(
     today: Day,
 ) -> Outcome
     ensures began { result ≢ Outcome.CommandLine }
-    ensures ends { B.clean desk.new → B.stands desk.old
-        → MatchFileEnds today (B.firm desk.old) (F.known folder.now path.now) (F.opens folder.now path.now)
-        (B.firm desk.new) (W.contents writer.old) (W.contents writer.new) result }
+    ensures ends { (B.seen desk.new).clean → (B.seen desk.old).stands
+        → MatchFileEnds today (B.seen desk.old).firm (F.known folder.now path.now) (F.opens folder.now path.now)
+        (B.seen desk.new).firm (W.contents writer.old) (W.contents writer.new) result }
 
     // It ends with `StoreFault` only if a call of the book returned `Store`.
-    ensures kept { LeavesBook B.clean B.sure B.stands B.lasts B.refusals (CountsStore Outcome.StoreFault result)
-        desk.old desk.new }
-    ensures crash { B.sure desk.new → B.clean desk.old → B.stands desk.old
-        → LeavesOr (B.firm desk.old) (B.leaves desk.old) (B.leaves desk.new) }
+    ensures kept { LeavesBook (CountsStore Outcome.StoreFault result) (B.seen desk.old) (B.seen desk.new) }
+    ensures crash { (B.seen desk.new).sure → (B.seen desk.old).clean → (B.seen desk.old).stands
+        → LeavesOr (B.seen desk.old).firm (B.seen desk.old).leaves (B.seen desk.new).leaves }
 {
     let Some(file) = folder.open(path) else {
         return Outcome::FileFault;

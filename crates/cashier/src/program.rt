@@ -6,10 +6,10 @@ ghost use Rattle.clap.specs.Words.{Text};
 ghost use Rattle.cashier.specs.Calls.{CountsStore, CountsStoreIn, LeavesBook};
 ghost use Rattle.cashier.specs.Check.{IsSaidSound};
 ghost use Rattle.cashier.specs.Crashes.{LeavesClients, LeavesItems, LeavesRun};
-ghost use Rattle.cashier.specs.Outcome.{FileEnds, HasBegun, Ran, words_outcome};
+ghost use Rattle.cashier.specs.Outcome.{FileEnds, Ran, words_outcome};
 ghost use Rattle.cashier.specs.Runs.{HadNoBook, HasRun, RanAtPath, RanInMemory};
 ghost use Rattle.cashier.specs.Serving.{PortEnds};
-ghost use Rattle.command_line.specs.Program.{Means, MeansCheck, MeansNothing, MeansSheet, MeansStream, words_of};
+ghost use Rattle.command_line.specs.Program.{Means, MeansSheet, MeansStream, words_of};
 ghost use Rattle.command_line.specs.declared.command.Task.{Task};
 ghost use Rattle.portal_http.specs.Clients.{ports_of};
 
@@ -72,14 +72,13 @@ fn import_file<F: Folder, M: Remarks, W: Write, B: Book>(
     writer: &mut W,
 ) -> Outcome
     ensures began { result ≢ Outcome.CommandLine }
-    ensures ends { B.clean desk.new → B.stands desk.old
-        → FileEnds today (B.firm desk.old) (F.known folder.now path.now) (F.opens folder.now path.now) (B.firm desk.new)
-        (W.contents writer.old) (W.contents writer.new) result }
-    ensures kept { LeavesBook B.clean B.sure B.stands B.lasts B.refusals (CountsStore Outcome.StoreFault result)
-        desk.old desk.new }
-    ensures crash { B.sure desk.new → B.clean desk.old → B.stands desk.old
-        → LeavesItems B.clean B.sure B.stands B.lasts B.leaves B.firm B.refusals today
-        (F.known folder.now path.now) (F.opens folder.now path.now) desk.old result desk.new }
+    ensures ends { (B.seen desk.new).clean → (B.seen desk.old).stands
+        → FileEnds today (B.seen desk.old).firm (F.known folder.now path.now) (F.opens folder.now path.now)
+        (B.seen desk.new).firm (W.contents writer.old) (W.contents writer.new) result }
+    ensures kept { LeavesBook (CountsStore Outcome.StoreFault result) (B.seen desk.old) (B.seen desk.new) }
+    ensures crash { (B.seen desk.new).sure → (B.seen desk.old).clean → (B.seen desk.old).stands
+        → LeavesItems B.seen today (F.known folder.now path.now) (F.opens folder.now path.now) desk.old result
+        desk.new }
 {
     let Some(file) = folder.open(path) else {
         return Outcome::FileFault;
@@ -107,15 +106,14 @@ pub fn run_serve<F: Folder, C: Clock + Drop, N: Network, M: Remarks, W: Write, B
 ) -> Outcome
     ensures began { result ≢ Outcome.CommandLine }
     ensures store { result ≢ Outcome.StoreFault }
-    ensures ends { B.clean desk.new → B.stands desk.old
+    ensures ends { (B.seen desk.new).clean → (B.seen desk.old).stands
         → PortEnds today count (ports_of N.Listener.Writer.contents (N.comes around.entry.network.now)
-        (N.refuses around.entry.network.now)) port (B.firm desk.old) (B.firm desk.new)
+        (N.refuses around.entry.network.now)) port (B.seen desk.old).firm (B.seen desk.new).firm
         (W.contents writer.old) (W.contents writer.new) result }
-    ensures kept { LeavesBook B.clean B.sure B.stands B.lasts B.refusals (CountsStore Outcome.StoreFault result)
-        desk.old desk.new }
+    ensures kept { LeavesBook (CountsStore Outcome.StoreFault result) (B.seen desk.old) (B.seen desk.new) }
 
     // For each client its answers, and what a crash leaves of its messages.
-    ensures crash { LeavesClients B.clean B.sure B.stands B.lasts B.leaves B.firm B.refusals today
+    ensures crash { LeavesClients B.seen today
         (ports_of N.Listener.Writer.contents (N.comes around.entry.network.now)
         (N.refuses around.entry.network.now)) port desk.old desk.new }
 {
@@ -147,19 +145,21 @@ fn run_plan<R: Read, F: Folder, C: Clock + Drop, N: Network, M: Remarks, W: Writ
     ensures began { result ≢ Outcome.CommandLine }
     ensures input { (words : List Text) → Means words plan.now.today plan.now.task
         → MeansSheet words ⊎ (MeansStream words ⊎ (reader.new ≡ reader.old)) }
-    ensures ends { (words : List Text) → Means words plan.now.today plan.now.task → B.clean desk.new → B.stands desk.old
+    ensures ends { (words : List Text) → Means words plan.now.today plan.now.task
+        → (B.seen desk.new).clean → (B.seen desk.old).stands
         → Ran words (R.remaining reader.old) (F.known around.entry.folder.now)
         (F.opens around.entry.folder.now)
         (ports_of N.Listener.Writer.contents (N.comes around.entry.network.now)
-        (N.refuses around.entry.network.now)) (B.firm desk.old) (B.firm desk.new)
+        (N.refuses around.entry.network.now)) (B.seen desk.old).firm (B.seen desk.new).firm
         (W.contents writer.old) (W.contents writer.new) result }
-    ensures sound { B.clean desk.new → B.readable desk.old → plan.now.task ≡ Task.Check → result ≡ Outcome.Done
-        → IsSaidSound (B.firm desk.old) (W.contents writer.old) (W.contents writer.new) }
+    ensures sound { (B.seen desk.new).clean → (B.seen desk.old).readable → plan.now.task ≡ Task.Check
+        → result ≡ Outcome.Done
+        → IsSaidSound (B.seen desk.old).firm (W.contents writer.old) (W.contents writer.new) }
     ensures kept { (words : List Text) → Means words plan.now.today plan.now.task
-        → LeavesBook B.clean B.sure B.stands B.lasts B.refusals (CountsStoreIn words result) desk.old desk.new }
+        → LeavesBook (CountsStoreIn words result) (B.seen desk.old) (B.seen desk.new) }
     ensures crash { (words : List Text) → Means words plan.now.today plan.now.task
-        → B.sure desk.new → B.clean desk.old → B.stands desk.old
-        → LeavesRun B.clean B.sure B.stands B.lasts B.leaves B.firm B.refusals words (R.remaining reader.old)
+        → (B.seen desk.new).sure → (B.seen desk.old).clean → (B.seen desk.old).stands
+        → LeavesRun B.seen words (R.remaining reader.old)
         (F.known around.entry.folder.now) (F.opens around.entry.folder.now)
         (ports_of N.Listener.Writer.contents (N.comes around.entry.network.now)
         (N.refuses around.entry.network.now)) (W.contents writer.old) (W.contents writer.new)
@@ -195,70 +195,6 @@ fn run_plan<R: Read, F: Folder, C: Clock + Drop, N: Network, M: Remarks, W: Writ
         }
         Task::Check => run_check(alloc, remarks, writer, desk, today),
     }
-}
-
-/// Runs what the program's words ask for, its name first among them, over a desk, whatever book `--db` names. If the
-/// command line is invalid, or memory runs out before it is parsed, nothing is read, run or written; in the latter case
-/// the outcome is `MemoryFault`. Otherwise the outcome is that of the sheet's, the statement's or the stream's end, or
-/// that of the report. It is `FileFault` if the statement can't be opened. For serving clients it is that of serving,
-/// and `NetworkFault` if their port is not available or an accept was refused. Standard input is only read for a sheet
-/// or a stream. The outcome of a stream, or of serving clients, depends only on how it ended. It is never `StoreFault`,
-/// because a failure of the store was answered to its message.
-pub fn run_words<
-    'a,
-    R: Read,
-    F: Folder,
-    C: Clock + Drop,
-    N: Network,
-    M: Remarks,
-    W: Write,
-    B: Book,
->(
-    alloc: Global,
-    words: &'a [&'a str],
-    reader: &mut R,
-    around: Surroundings<'_, F, C, N, M>,
-    writer: &mut W,
-    desk: &mut Desk<B>,
-) -> Outcome
-    ensures line { result ≡ Outcome.CommandLine → MeansNothing (words_of words.entry.now) }
-    ensures unread { result ≡ Outcome.CommandLine → reader.new ≡ reader.old }
-    ensures unwritten { result ≡ Outcome.CommandLine → writer.new ≡ writer.old }
-    ensures unasked { result ≡ Outcome.CommandLine → desk.new ≡ desk.old }
-
-    // Anything but a sheet or a stream leaves standard input unread: an import, a report, serving a port, and the rest.
-    ensures input { MeansSheet (words_of words.entry.now)
-        ⊎ (MeansStream (words_of words.entry.now) ⊎ (reader.new ≡ reader.old)) }
-
-    ensures meant { HasBegun result → (today : ℕ) × (task : Task) × Means (words_of words.entry.now) today task }
-    ensures ends { B.clean desk.new → B.stands desk.old → result ≢ Outcome.CommandLine
-        → Ran (words_of words.entry.now) (R.remaining reader.old) (F.known around.entry.folder.now)
-        (F.opens around.entry.folder.now)
-        (ports_of N.Listener.Writer.contents (N.comes around.entry.network.now)
-        (N.refuses around.entry.network.now)) (B.firm desk.old) (B.firm desk.new)
-        (W.contents writer.old) (W.contents writer.new) result }
-
-    // Whatever the book's store holds that can be read as rows: if a check says that it is sound, it is.
-    ensures sound { B.clean desk.new → B.readable desk.old → MeansCheck (words_of words.entry.now)
-        → result ≡ Outcome.Done
-        → IsSaidSound (B.firm desk.old) (W.contents writer.old) (W.contents writer.new) }
-    ensures kept { LeavesBook B.clean B.sure B.stands B.lasts B.refusals
-        (CountsStoreIn (words_of words.entry.now) result) desk.old desk.new }
-
-    // What a crash leaves after all that: everything that was written as accepted.
-    ensures crash { B.sure desk.new → B.clean desk.old → B.stands desk.old
-        → LeavesRun B.clean B.sure B.stands B.lasts B.leaves B.firm B.refusals (words_of words.entry.now)
-        (R.remaining reader.old) (F.known around.entry.folder.now) (F.opens around.entry.folder.now)
-        (ports_of N.Listener.Writer.contents (N.comes around.entry.network.now)
-        (N.refuses around.entry.network.now)) (W.contents writer.old) (W.contents writer.new)
-        desk.old desk.new result }
-{
-    let plan = match command_of(alloc, words) {
-        Ok(plan) => plan,
-        Err(CliFault::Line) => return Outcome::CommandLine,
-        Err(CliFault::Memory) => return Outcome::MemoryFault,
-    };
-    run_plan(alloc, &plan, reader, around, None, writer, desk)
 }
 
 // Runs a plan over a new, empty book in memory, which is dropped at the end.
@@ -371,8 +307,7 @@ fn run_at_path<R: Read, F: Folder, C: Clock + Drop, N: Network, M: Remarks, S: S
     ensures input { (words : List Text) → Means words plan.now.today plan.now.task
         → MeansSheet words ⊎ (MeansStream words ⊎ (reader.new ≡ reader.old)) }
     ensures ran { (words : List Text) → Means words plan.now.today plan.now.task
-        → RanAtPath S.AtPath.clean S.AtPath.sure S.AtPath.stands S.AtPath.lasts S.AtPath.leaves S.AtPath.firm
-        S.AtPath.refusals (S.finds stores.now path.now) (S.puts stores.now) words (R.remaining reader.old)
+        → RanAtPath S.AtPath.seen (S.finds stores.now path.now) (S.puts stores.now) words (R.remaining reader.old)
         (F.known around.entry.folder.now) (F.opens around.entry.folder.now)
         (ports_of N.Listener.Writer.contents (N.comes around.entry.network.now)
         (N.refuses around.entry.network.now)) (W.contents writer.old) (W.contents writer.new) result
@@ -414,9 +349,14 @@ fn run_at_path<R: Read, F: Folder, C: Clock + Drop, N: Network, M: Remarks, S: S
 /// If the words can't be read or are invalid, or memory runs out before they are parsed, nothing is read, run or
 /// written, and no book is opened: the outcome is `MemoryFault` if memory ran out, and otherwise `CommandLine`. If the
 /// book can't be opened, nothing is read or written, and no other file and no port is opened; the outcome is
-/// `StoreFault`, or `MemoryFault` if memory ran out. Otherwise it is that of the task (`run_words`). Then the book is put
-/// back at its path. If that fails, and the task ended without a fault, the outcome is `StoreFault` or `MemoryFault`;
-/// what was accepted is kept even then.
+/// `StoreFault`, or `MemoryFault` if memory ran out.
+///
+/// Otherwise the outcome is that of the task: how the sheet, the statement or the stream ended, or the report. It is
+/// `FileFault` if the statement can't be opened. For serving clients it is that of serving, and `NetworkFault` if their
+/// port is not available or an accept was refused. Standard input is only read for a sheet or a stream. The outcome of
+/// a stream, or of serving clients, depends only on how it ended. It is never `StoreFault`, because a failure of the
+/// store was answered to its message. Then the book is put back at its path. If that fails, and the task ended without
+/// a fault, the outcome is `StoreFault` or `MemoryFault`; what was accepted is kept even then.
 ///
 /// The firm that is left in memory is sound, as it is after each record, each line of a statement and each message.
 pub fn run_called<R: Read, F: Folder, C: Clock + Drop, N: Network, M: Remarks, S: Stores, W: Write>(
@@ -428,8 +368,7 @@ pub fn run_called<R: Read, F: Folder, C: Clock + Drop, N: Network, M: Remarks, S
     writer: &mut W,
 ) -> Outcome
     ensures ran { IfOk called.now
-        (λ words. HasRun S.AtPath.clean S.AtPath.sure S.AtPath.stands S.AtPath.lasts S.AtPath.leaves S.AtPath.firm
-        S.AtPath.refusals (S.finds stores.now) (S.puts stores.now)
+        (λ words. HasRun S.AtPath.seen (S.finds stores.now) (S.puts stores.now)
         ((reader.new ≡ reader.old) × (writer.new ≡ writer.old))
         (map string_bytes words.items) (R.remaining reader.old) (F.known around.entry.folder.now)
         (F.opens around.entry.folder.now)
@@ -438,6 +377,8 @@ pub fn run_called<R: Read, F: Folder, C: Clock + Drop, N: Network, M: Remarks, S
         (W.contents writer.new) result) }
     ensures unread { result ≡ Outcome.CommandLine → reader.new ≡ reader.old }
     ensures unwritten { result ≡ Outcome.CommandLine → writer.new ≡ writer.old }
+
+    // Anything but a sheet or a stream leaves standard input unread: an import, a report, serving a port, and the rest.
     ensures input { IfOk called.now
         (λ words. MeansSheet (map string_bytes words.items)
         ⊎ (MeansStream (map string_bytes words.items) ⊎ (reader.new ≡ reader.old))) }

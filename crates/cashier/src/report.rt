@@ -40,17 +40,16 @@ fn print_report<W: Write, B: Book>(
     desk: &mut Desk<B>,
     writer: &mut W,
 ) -> Outcome
-    ensures kept { LeavesBook B.clean B.sure B.stands B.lasts B.refusals (CountsStore Outcome.StoreFault result)
-        desk.old desk.new }
+    ensures kept { LeavesBook (CountsStore Outcome.StoreFault result) (B.seen desk.old) (B.seen desk.new) }
     ensures began { result ≢ Outcome.CommandLine }
     // If the text was written, the store has met no fault.
-    ensures serves { result ≡ Outcome.Done → B.sure desk.new → B.clean desk.old → B.stands desk.old
-        → B.clean desk.new }
-    ensures ends { B.clean desk.new → B.stands desk.old
-        → PrintsReport today (B.firm desk.old) command (B.firm desk.new) (W.contents writer.old)
+    ensures serves { result ≡ Outcome.Done → (B.seen desk.new).sure → (B.seen desk.old).clean
+        → (B.seen desk.old).stands → (B.seen desk.new).clean }
+    ensures ends { (B.seen desk.new).clean → (B.seen desk.old).stands
+        → PrintsReport today (B.seen desk.old).firm command (B.seen desk.new).firm (W.contents writer.old)
         (W.contents writer.new) result }
-    ensures crash { B.sure desk.new → B.clean desk.old → B.stands desk.old
-        → LeavesOr (B.firm desk.old) (B.leaves desk.old) (B.leaves desk.new) }
+    ensures crash { (B.seen desk.new).sure → (B.seen desk.old).clean → (B.seen desk.old).stands
+        → LeavesOr (B.seen desk.old).firm (B.seen desk.old).leaves (B.seen desk.new).leaves }
 {
     let reply = desk.answer(alloc, &request_for(command), today);
     let Ok(()) = write_reply(writer, &reply) else {
@@ -67,8 +66,7 @@ fn tell_rows<M: Remarks, V: RowWatch, B: Book>(
     desk: &mut Desk<B>,
     day: Day,
 )
-    ensures { (told : Result Unit StoreFault)
-        × IsRead B.firm B.clean B.sure B.stands B.lasts B.leaves B.refusals told desk.old desk.new }
+    ensures { (told : Result Unit StoreFault) × IsRead told (B.seen desk.old) (B.seen desk.new) }
 {
     if let Err(fault) = desk.tell_rows(alloc, day, watch) {
         remarks.tell(&Remark::RowsEnd(fault));
@@ -78,8 +76,7 @@ fn tell_rows<M: Remarks, V: RowWatch, B: Book>(
 // Reports why each exception of a desk's book is one on a business day, which bank lines look like the same line, and
 // which fault ended that, if any.
 fn tell_reasons<M: Remarks, B: Book>(alloc: Global, remarks: &M, desk: &mut Desk<B>, today: Day)
-    ensures { (told : Result Unit StoreFault)
-        × IsRead B.firm B.clean B.sure B.stands B.lasts B.leaves B.refusals told desk.old desk.new }
+    ensures { (told : Result Unit StoreFault) × IsRead told (B.seen desk.old) (B.seen desk.new) }
 {
     let telling = ExceptionTelling { today, remarks };
     match desk.tell_exceptions(alloc, today, &telling) {
@@ -107,15 +104,14 @@ pub fn run_report<M: Remarks, W: Write, B: Book>(
     is_past: bool,
 ) -> Outcome
     ensures began { result ≢ Outcome.CommandLine }
-    ensures ends { B.clean desk.new → B.stands desk.old
-        → PrintsReport today (B.firm desk.old) command (B.firm desk.new) (W.contents writer.old)
+    ensures ends { (B.seen desk.new).clean → (B.seen desk.old).stands
+        → PrintsReport today (B.seen desk.old).firm command (B.seen desk.new).firm (W.contents writer.old)
         (W.contents writer.new) result }
 
     // It ends with `StoreFault` only if a call of the book returned `Store`.
-    ensures kept { LeavesBook B.clean B.sure B.stands B.lasts B.refusals (CountsStore Outcome.StoreFault result)
-        desk.old desk.new }
-    ensures crash { B.sure desk.new → B.clean desk.old → B.stands desk.old
-        → LeavesOr (B.firm desk.old) (B.leaves desk.old) (B.leaves desk.new) }
+    ensures kept { LeavesBook (CountsStore Outcome.StoreFault result) (B.seen desk.old) (B.seen desk.new) }
+    ensures crash { (B.seen desk.new).sure → (B.seen desk.old).clean → (B.seen desk.old).stands
+        → LeavesOr (B.seen desk.old).firm (B.seen desk.old).leaves (B.seen desk.new).leaves }
 {
     let outcome = print_report(alloc, command, today, desk, writer);
     let Outcome::Done = outcome else {

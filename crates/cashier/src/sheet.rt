@@ -60,16 +60,17 @@ fn run_record<W: Write, B: Book, M: Remarks>(
     desk: &mut Desk<B>,
     day: Day,
 ) -> Result<bool, SheetEnd>
-    ensures ends { B.clean desk.new → B.stands desk.old
-        → RecordEnds day (B.firm desk.old) (fields_of row.now) (B.firm desk.new) (W.contents writer.old)
+    ensures ends { (B.seen desk.new).clean → (B.seen desk.old).stands
+        → RecordEnds day (B.seen desk.old).firm (fields_of row.now) (B.seen desk.new).firm (W.contents writer.old)
         (W.contents writer.new) result }
     ensures read { IfErr result (λ end. end ≢ SheetEnd.ReadFault) }
-    ensures kept { LeavesBook B.clean B.sure B.stands B.lasts B.refusals (IsCounted result) desk.old desk.new }
-    ensures told { B.sure desk.new → B.clean desk.old → B.stands desk.old
-        → TellsLine day (B.firm desk.old) (fields_of row.now) (W.contents writer.old) (W.contents writer.new) result }
-    ensures crash { B.sure desk.new → B.clean desk.old → B.stands desk.old
-        → MayLeave B.clean B.leaves (IsOk result) (IsMade day (B.firm desk.old) (heard_of (fields_of row.now)))
-        (B.firm desk.old) (B.firm desk.new) desk.old desk.new }
+    ensures kept { LeavesBook (IsCounted result) (B.seen desk.old) (B.seen desk.new) }
+    ensures told { (B.seen desk.new).sure → (B.seen desk.old).clean → (B.seen desk.old).stands
+        → TellsLine day (B.seen desk.old).firm (fields_of row.now) (W.contents writer.old) (W.contents writer.new)
+        result }
+    ensures crash { (B.seen desk.new).sure → (B.seen desk.old).clean → (B.seen desk.old).stands
+        → MayLeave (IsOk result) (IsMade day (B.seen desk.old).firm (heard_of (fields_of row.now)))
+        (B.seen desk.old).firm (B.seen desk.new).firm (B.seen desk.old) (B.seen desk.new) }
 {
     let reply = answer_record(alloc, row, desk, day);
     let Ok(()) = write_reply(writer, &reply) else {
@@ -99,15 +100,14 @@ fn run_records<W: Write, B: Book, M: Remarks>(
     desk: &mut Desk<B>,
     day: Day,
 ) -> SheetEnd
-    ensures ends { B.clean desk.new → B.stands desk.old
-        → RunEnds day (B.firm desk.old) (sheet_records bytes.now) (B.firm desk.new)
+    ensures ends { (B.seen desk.new).clean → (B.seen desk.old).stands
+        → RunEnds day (B.seen desk.old).firm (sheet_records bytes.now) (B.seen desk.new).firm
         (W.contents writer.old) (W.contents writer.new) result }
     ensures read { result ≢ SheetEnd.ReadFault }
-    ensures kept { LeavesBook B.clean B.sure B.stands B.lasts B.refusals (CountsStore SheetEnd.Store result)
-        desk.old desk.new }
-    ensures crash { B.sure desk.new → B.clean desk.old → B.stands desk.old
-        → LinesAreKept B.clean B.leaves day (B.firm desk.old) (sheet_records bytes.now) desk.old
-        (W.contents writer.old) (W.contents writer.new) result desk.new }
+    ensures kept { LeavesBook (CountsStore SheetEnd.Store result) (B.seen desk.old) (B.seen desk.new) }
+    ensures crash { (B.seen desk.new).sure → (B.seen desk.old).clean → (B.seen desk.old).stands
+        → LinesAreKept day (B.seen desk.old).firm (sheet_records bytes.now) (B.seen desk.old)
+        (W.contents writer.old) (W.contents writer.new) result (B.seen desk.new) }
 {
     let telling = Telling {
         sheet: bytes,
@@ -161,21 +161,21 @@ pub fn run_sheet<R: Read, W: Write, B: Book, M: Remarks>(
     desk: &mut Desk<B>,
     day: Day,
 ) -> SheetEnd
-    ensures ends { B.clean desk.new → B.stands desk.old → IfSome (R.remaining reader.old)
-        (λ bytes. Ends day (B.firm desk.old) bytes (B.firm desk.new) (W.contents writer.old)
+    ensures ends { (B.seen desk.new).clean → (B.seen desk.old).stands → IfSome (R.remaining reader.old)
+        (λ bytes. Ends day (B.seen desk.old).firm bytes (B.seen desk.new).firm (W.contents writer.old)
         (W.contents writer.new) result) }
     ensures unread { result ≡ SheetEnd.ReadFault
         → Appends (W.contents writer.old) (W.contents writer.new) [] × (desk.new ≡ desk.old) }
 
     // It ends with `Store` only if a call of the book returned `Store`.
-    ensures kept { LeavesBook B.clean B.sure B.stands B.lasts B.refusals (CountsStore SheetEnd.Store result)
-        desk.old desk.new }
+    ensures kept { LeavesBook (CountsStore SheetEnd.Store result) (B.seen desk.old) (B.seen desk.new) }
 
     // Each line that was written as accepted is of a record that a crash leaves done, however the sheet ended. A line
     // is written only after its change is settled.
-    ensures crash { B.sure desk.new → B.clean desk.old → B.stands desk.old → IfSome (R.remaining reader.old)
-        (λ bytes. LinesAreKept B.clean B.leaves day (B.firm desk.old) (records_run bytes) desk.old
-        (W.contents writer.old) (W.contents writer.new) result desk.new) }
+    ensures crash { (B.seen desk.new).sure → (B.seen desk.old).clean → (B.seen desk.old).stands
+        → IfSome (R.remaining reader.old)
+        (λ bytes. LinesAreKept day (B.seen desk.old).firm (records_run bytes) (B.seen desk.old)
+        (W.contents writer.old) (W.contents writer.new) result (B.seen desk.new)) }
 {
     match read_whole(alloc, reader, MAX_FILE_BYTES) {
         Ok(Some(bytes)) => run_records(alloc, bytes.as_slice(), remarks, writer, desk, day),

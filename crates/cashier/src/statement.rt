@@ -61,20 +61,19 @@ pub fn run_import<R: Read + Drop, W: Write, B: Book, V: ItemWatch>(
     watch: &V,
 ) -> Outcome
     ensures began { result ≢ Outcome.CommandLine }
-    ensures ends { B.clean desk.new → B.stands desk.old
-        → StatementEnds today (B.firm desk.old) length (R.remaining reader) (B.firm desk.new)
+    ensures ends { (B.seen desk.new).clean → (B.seen desk.old).stands
+        → StatementEnds today (B.seen desk.old).firm length (R.remaining reader) (B.seen desk.new).firm
         (W.contents writer.old) (W.contents writer.new) result }
 
     // It ends with `StoreFault` only if a call of the book returned `Store`.
-    ensures kept { LeavesBook B.clean B.sure B.stands B.lasts B.refusals (CountsStore Outcome.StoreFault result)
-        desk.old desk.new }
+    ensures kept { LeavesBook (CountsStore Outcome.StoreFault result) (B.seen desk.old) (B.seen desk.new) }
 
     // A crash may leave what it might have left before, or the rows after some first items. A settled book is still
     // settled, unless the store or memory ended the import. The line is written after that.
-    ensures crash { B.sure desk.new → B.clean desk.old → B.stands desk.old
-        → MayLeave B.clean B.leaves (EndsByNoFault result)
-        (IsAfterFirst today (B.firm desk.old) (option_map items (R.remaining reader)))
-        (B.firm desk.old) (B.firm desk.new) desk.old desk.new }
+    ensures crash { (B.seen desk.new).sure → (B.seen desk.old).clean → (B.seen desk.old).stands
+        → MayLeave (EndsByNoFault result)
+        (IsAfterFirst today (B.seen desk.old).firm (option_map items (R.remaining reader)))
+        (B.seen desk.old).firm (B.seen desk.new).firm (B.seen desk.old) (B.seen desk.new) }
 {
     if is_told_longer(length) {
         watch.ended(0, &ImportStop::Limit);

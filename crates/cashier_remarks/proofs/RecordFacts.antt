@@ -9,6 +9,7 @@ use Rattle.trust_base.specs.declared.refusal.Field.TheVariants as field
 use Rattle.trust_base.specs.declared.refusal.Refusal.{Refusal}
 use Rattle.trust_base.specs.declared.refusal.Refusal.TheVariants.{BadField, Memory}
 use Rattle.firm_rows.specs.Firm.{Firm}
+use Rattle.trust_store.specs.Seen.{Seen}
 use Rattle.trust_desk.specs.FirmStep.{KindStopped, Steps, firm_step}
 use Rattle.trust_desk.specs.Heard.{Asks, Dismisses, Heard, Kind, NotRead, OfItems, OfMatter, OnlyTold, Unread, kind_of}
 use Rattle.trust_desk.specs.Replies.{is_fault_reply, refused}
@@ -91,15 +92,15 @@ steps-fault day firm after fields reply e steps = let stopped = rw e at steps in
 
 -- ---- what a crash leaves of a record
 
-pub record-asked : {B : Type 0} {clean : B → Type 0} {leaves : B → Firm → Type 0} (day : ℕ) (firm : Firm) (old new : B) (fields : List (List ℕ)) (request : Request) (reply : Reply) → asked_of fields ≡ Ok request
-    → MayLeave clean leaves (is_fault_reply reply ≡ false) (IsMade day firm (Asks request)) firm (firm_step day firm (Asks request)).firm old new
-    → MayLeave clean leaves (is_fault_reply reply ≡ false) (IsMade day firm (heard_of fields)) firm (firm_step day firm (heard_of fields)).firm old new
-record-asked {clean} {leaves} day firm old new fields request reply e may =
-    subst (λ (h : Heard). MayLeave clean leaves (is_fault_reply reply ≡ false) (IsMade day firm h) firm (firm_step day firm h).firm old new) (sym (heard-read fields request e)) may
+pub record-asked : (day : ℕ) (firm : Firm) (old new : Seen) (fields : List (List ℕ)) (request : Request) (reply : Reply) → asked_of fields ≡ Ok request
+    → MayLeave (is_fault_reply reply ≡ false) (IsMade day firm (Asks request)) firm (firm_step day firm (Asks request)).firm old new
+    → MayLeave (is_fault_reply reply ≡ false) (IsMade day firm (heard_of fields)) firm (firm_step day firm (heard_of fields)).firm old new
+record-asked day firm old new fields request reply e may =
+    subst (λ (h : Heard). MayLeave (is_fault_reply reply ≡ false) (IsMade day firm h) firm (firm_step day firm h).firm old new) (sym (heard-read fields request e)) may
 
 -- a record that could not be read changes nothing
-pub record-refused : {B : Type 0} {clean : B → Type 0} {leaves : B → Firm → Type 0} (day : ℕ) (firm : Firm) (b : B) (fields : List (List ℕ)) (why : Refusal) (reply : Reply) → Reads (asked_of fields) (Err why) → reply ≡ refused why
-    → MayLeave clean leaves (is_fault_reply reply ≡ false) (IsMade day firm (heard_of fields)) firm (firm_step day firm (heard_of fields)).firm b b
+pub record-refused : (day : ℕ) (firm : Firm) (b : Seen) (fields : List (List ℕ)) (why : Refusal) (reply : Reply) → Reads (asked_of fields) (Err why) → reply ≡ refused why
+    → MayLeave (is_fault_reply reply ≡ false) (IsMade day firm (heard_of fields)) firm (firm_step day firm (heard_of fields)).firm b b
 record-refused day firm b fields why reply unread is =
     let step = subst (λ (x : Reply). Steps day firm (heard_of fields) x firm) (sym is) (refused-step day firm fields why unread) in
     leave-as {done = ⊤} (λ fine. tt) (λ found made. made) (λ fine. sym (plain-step day firm firm (heard_of fields) reply fine step)) (leave-still firm b)

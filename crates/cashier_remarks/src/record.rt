@@ -333,17 +333,17 @@ pub fn answer_record<B: Book>(
     desk: &mut Desk<B>,
     day: Day,
 ) -> Reply
-    ensures step { B.clean desk.new → B.stands desk.old
-        → Steps day (B.firm desk.old) (heard_of (fields_of row.now)) result (B.firm desk.new) }
+    ensures step { (B.seen desk.new).clean → (B.seen desk.old).stands
+        → Steps day (B.seen desk.old).firm (heard_of (fields_of row.now)) result (B.seen desk.new).firm }
 
     // The reply is `Store` only if a call of the book returned `Store`.
-    ensures kept { KeepsBook B.clean B.sure B.stands B.lasts B.refusals (counted_reply result) desk.old desk.new }
+    ensures kept { KeepsBook (counted_reply result) (B.seen desk.old) (B.seen desk.new) }
 
     // A crash may leave what it might have left before, or the rows with the record's change.
-    ensures crash { B.sure desk.new → B.clean desk.old → B.stands desk.old
-        → MayLeave B.clean B.leaves (is_fault_reply result ≡ false)
-        (IsMade day (B.firm desk.old) (heard_of (fields_of row.now))) (B.firm desk.old)
-        (firm_step day (B.firm desk.old) (heard_of (fields_of row.now))).firm desk.old desk.new }
+    ensures crash { (B.seen desk.new).sure → (B.seen desk.old).clean → (B.seen desk.old).stands
+        → MayLeave (is_fault_reply result ≡ false)
+        (IsMade day (B.seen desk.old).firm (heard_of (fields_of row.now))) (B.seen desk.old).firm
+        (firm_step day (B.seen desk.old).firm (heard_of (fields_of row.now))).firm (B.seen desk.old) (B.seen desk.new) }
 {
     match read_request(alloc, row) {
         Ok(request) => desk.answer(alloc, &request, day),

@@ -1,4 +1,5 @@
 use Rattle.cashier.proofs.Names.{◌∙◌, inl, inr, refl, sym, arith, ints, nat_tests}
+use Rattle.command_line.proofs.OneTask.{check-alone}
 use Rattle.cashier.proofs.RunFacts.{put-line, store-no-line}
 use Rattle.cashier.proofs.program.run_at_path.Goals as goal
 
@@ -14,16 +15,17 @@ returns-clause-began g c = grind (arith, ints, nat_tests, put-line)
 pub returns-clause-ran : goal.returns-clause-ran
 returns-clause-ran g c = λ words means.
     let B = g.S.AtPath.Book in
-    let served : B.sure c.new-desk.result → B.clean c.new-desk.result = rw c.new-desk.ensures c.in-Ok.ensures.serves in inl (record {
+    let served : (B.seen c.new-desk.result).sure → (B.seen c.new-desk.result).clean = rw c.new-desk.ensures c.in-Ok.ensures.serves in inl (record {
       before = c.new-desk.result;
       found = rw c.new-desk.ensures c.in-Ok.ensures.found;
       serves = served;
       after = c.run_plan-ended.new.desk;
       ended = c.run_plan-ended.result;
       kept = c.run_plan-ended.ensures.kept words means;
-      sound = λ clean stands. (g.S.AtPath.Book.seen c.run_plan-ended.new.desk).sound ((c.run_plan-ended.ensures.kept words means).still_stands clean stands);
+      sound = λ clean stands. (B.seen c.run_plan-ended.new.desk).sound ((c.run_plan-ended.ensures.kept words means).still_stands clean stands);
       ran = λ clean stands. c.run_plan-ended.ensures.ends words means clean stands;
       crash = λ sure stands. c.run_plan-ended.ensures.crash words means sure (served ((c.run_plan-ended.ensures.kept words means).was_sure sure)) stands;
+      checked = λ clean readable check done. c.run_plan-ended.ensures.sound clean readable (check-alone _ _ _ check means) done;
       put = c.put_back-put.result;
       left = rw c.into_book.ensures at c.put_back-put.ensures.put;
       outcome = c.outcome_put_back-outcome.ensures;

@@ -18,7 +18,7 @@ returns-clause-ends g c =
       end = c.serve_connections.result;
       outcome = sym c.outcome_of_serving.ensures;
       ends = all.ends;
-      met = met-in-turn B.clean B.sure B.stands B.lasts B.leaves B.firm B.refusals _ _ _ _ all.ends _ (served-as B.clean B.sure B.stands B.lasts B.leaves B.firm B.refusals _ _ _ _ c.in-Some.ensures.some _ all.ends _ all.served) clean stands;
+      met = met-in-turn B.seen _ _ _ _ all.ends _ (served-as B.seen _ _ _ _ c.in-Some.ensures.some _ all.ends _ all.served) clean stands;
       lines = all.told;
       refused = λ e. c.in-Some.ensures.some _ _ (all.refused e);
     })

@@ -36,7 +36,7 @@ loop-row-init g c =
       ready = inr (inr (rw (f, e) at fr.has_headers, fr.headers));
       turns = left;
       config = rw (f, e) at fr.config ∙ c.new.ensures.config;
-      kept = book-alone _ _ _ _ _ _;
+      kept = book-alone _;
       going = λ sure clean stands. (clean, λ alone. alone);
       left = (strip_bom c.args.bytes.now, fr.source, λ _ _. ([], rw fr.state refl, Appends-nil _, refl, refl));
     })
@@ -73,7 +73,7 @@ loop-row-preserved g c =
       kept = book-then inv.kept c.in-Ok-run_record.ensures.kept;
       going = λ sure clean stands.
           let so = inv.going (c.in-Ok-run_record.ensures.kept.was_sure sure) clean stands in
-          going-more g.B.Book.firm _ _ _ refl so (c.in-Ok-run_record.ensures.crash sure so.0 (inv.kept.still_stands so.0 stands));
+          going-more _ _ _ refl so (c.in-Ok-run_record.ensures.crash sure so.0 (inv.kept.still_stands so.0 stands));
       left = (
         z,
         at_z,
@@ -103,7 +103,7 @@ returns-in_default-clause-crash g c = λ sure clean stands.
     let (y, source, so_far) = c.loop-row.invariant.left in
     let going = c.loop-row.invariant.going sure clean stands in
     let (past, parts, written, is, was) = so_far going.0 stands in
-    kept-here g.B.Book.firm _ _ past _ _ _ _ _ _ _ parts (λ w. absurd w) (written, is, was) going
+    kept-here _ _ past _ _ _ _ _ _ _ parts (λ w. absurd w) (written, is, was) going
 
 pub returns-in-Err-clause-crash : goal.returns-in-Err-clause-crash
 returns-in-Err-clause-crash g c = λ sure clean stands.
@@ -114,7 +114,7 @@ returns-in-Err-clause-crash g c = λ sure clean stands.
     let going = inv.going (c.run_record.ensures.kept.was_sure sure) clean stands in
     let (past, parts, written, is, was) = so_far going.0 stands in
     let stood = inv.kept.still_stands going.0 stands in
-    kept-stopped g.B.Book.firm _ _ past _ _ _ _ _ _ _ _ _ _ _ parts first (written, is, was) going (c.in-Err.ensures.crash sure going.0 stood) (c.in-Err.ensures.told sure going.0 stood)
+    kept-stopped _ _ past _ _ _ _ _ _ _ _ _ _ _ parts first (written, is, was) going (c.in-Err.ensures.crash sure going.0 stood) (c.in-Err.ensures.told sure going.0 stood)
 
 pub returns-clause-crash : goal.returns-clause-crash
 returns-clause-crash g c = λ sure clean stands.
@@ -124,4 +124,4 @@ returns-clause-crash g c = λ sure clean stands.
     let (past, parts, written, is, was) = so_far going.0 stands in
     let s = rw c.in-None.is at ((c.next.ensures.steps inv.turns inv.plain).0 inv.ready) in
     let end = rows-end left_of c.loop-row.row-iterator.rdr c.next.new.self.rdr [] default_config y inv.config source s in
-    kept-here g.B.Book.firm _ _ past _ _ _ _ _ _ _ parts (λ w. rest-none c.loop-row.row-iterator.rdr.state y end) (written, is, was) going
+    kept-here _ _ past _ _ _ _ _ _ _ parts (λ w. rest-none c.loop-row.row-iterator.rdr.state y end) (written, is, was) going

@@ -9,12 +9,12 @@ invariant-loop-row g l = record {
   ready : Ready l.row-iterator.rdr;
   turns : 0 < l.row-iterator.left;
   config : l.row-iterator.rdr.config ≡ default_config;
-  kept : LeavesBook g.B.Book.clean g.B.Book.sure g.B.Book.stands g.B.Book.lasts g.B.Book.refusals IsSame l.initial.desk l.desk;
-  going : g.B.Book.sure l.desk → g.B.Book.clean l.initial.desk → g.B.Book.stands l.initial.desk → IsGoing g.B.Book.clean g.B.Book.leaves g.B.Book.firm l.initial.desk l.desk;
+  kept : LeavesBook IsSame (g.B.Book.seen l.initial.desk) (g.B.Book.seen l.desk);
+  going : (g.B.Book.seen l.desk).sure → (g.B.Book.seen l.initial.desk).clean → (g.B.Book.seen l.initial.desk).stands → IsGoing (g.B.Book.seen l.initial.desk) (g.B.Book.seen l.desk);
   left : (y : List ℕ) × (source_of (λ (s : Bor (List ℕ)). Some s.now) l.row-iterator.rdr ≡ Some y)
-      × (g.B.Book.clean l.desk → g.B.Book.stands l.initial.desk → (past : List (List (List ℕ)))
+      × ((g.B.Book.seen l.desk).clean → (g.B.Book.seen l.initial.desk).stands → (past : List (List (List ℕ)))
       × (past ++ rest_records l.row-iterator.rdr.state y ≡ sheet_records l.fn.bytes)
-      × Appends (g.W.Write.contents l.initial.writer) (g.W.Write.contents l.writer) (concat (lines_from l.fn.day (g.B.Book.firm l.initial.desk) past))
-      × (g.B.Book.firm l.desk ≡ firm_from l.fn.day (g.B.Book.firm l.initial.desk) past)
-      × (l.refused ≡ not (all_accepted l.fn.day (g.B.Book.firm l.initial.desk) past)));
+      × Appends (g.W.Write.contents l.initial.writer) (g.W.Write.contents l.writer) (concat (lines_from l.fn.day (g.B.Book.seen l.initial.desk).firm past))
+      × ((g.B.Book.seen l.desk).firm ≡ firm_from l.fn.day (g.B.Book.seen l.initial.desk).firm past)
+      × (l.refused ≡ not (all_accepted l.fn.day (g.B.Book.seen l.initial.desk).firm past)));
 }

@@ -1,4 +1,4 @@
-use Rattle.cashier.proofs.Names.{ℕ, List, Option, IfSome, Firm, IsWhole, LinesAreKept, records_run, SheetEnd}
+use Rattle.cashier.proofs.Names.{ℕ, List, Option, IfSome, Seen, IsWhole, LinesAreKept, records_run, SheetEnd}
 use Rattle.cashier.proofs.SheetKept.{kept-large, kept-none, known-large, known-none, known-run}
 use Rattle.cashier.proofs.SheetFacts.{ends-large, ends-run}
 use Rattle.cashier.proofs.sheet.run_sheet.Goals as goal
@@ -14,7 +14,7 @@ returns-in-Ok-Some-clause-crash g c = λ sure clean stands.
     let B = g.B.Book in
     let W = g.W.Write in
     known-run _ c.in-Ok-Some.bytes.items
-    (λ all. LinesAreKept B.clean B.leaves c.args.day (B.firm c.args.desk.now) all c.args.desk.now (W.contents c.args.writer.now) (W.contents c.run_records.new.writer) c.run_records.result c.run_records.new.desk)
+    (λ all. LinesAreKept c.args.day (B.seen c.args.desk.now).firm all (B.seen c.args.desk.now) (W.contents c.args.writer.now) (W.contents c.run_records.new.writer) c.run_records.result (B.seen c.run_records.new.desk))
     (rw c.in-Ok-Some.field-0-is at c.in-Ok-Some.ensures.bytes) (rw c.as_slice.ensures.value at (c.run_records.ensures.crash sure clean stands))
 
 pub returns-in-Ok-None-clause-crash : goal.returns-in-Ok-None-clause-crash
@@ -22,17 +22,17 @@ returns-in-Ok-None-clause-crash g c = λ sure clean stands.
     let B = g.B.Book in
     let W = g.W.Write in
     known-large _
-    (λ all. LinesAreKept B.clean B.leaves c.args.day (B.firm c.args.desk.now) all c.args.desk.now (W.contents c.args.writer.now) (W.contents c.refuse_whole.new.writer) c.refuse_whole.result c.args.desk.now)
-    (rw c.in-Ok-None.field-0-is at c.in-Ok-None.ensures.bytes) (kept-large B.firm _ _ _ _ _ clean (c.refuse_whole.ensures.ends _))
+    (λ all. LinesAreKept c.args.day (B.seen c.args.desk.now).firm all (B.seen c.args.desk.now) (W.contents c.args.writer.now) (W.contents c.refuse_whole.new.writer) c.refuse_whole.result (B.seen c.args.desk.now))
+    (rw c.in-Ok-None.field-0-is at c.in-Ok-None.ensures.bytes) (kept-large _ _ _ _ _ clean (c.refuse_whole.ensures.ends _))
 
 -- no record was run
-none-run : {B : Type 0} (clean : B → Type 0) (leaves : B → Firm → Type 0) (firm : B → Firm) (known : Option (List ℕ)) (day : ℕ) (old : B) (given : Option (List ℕ)) (ended : SheetEnd) → (IsWhole ended → ⊥)
-    → IfSome known (λ bytes. LinesAreKept clean leaves day (firm old) (records_run bytes) old given given ended old)
-none-run clean leaves firm known day old given ended never =
-    known-none known (λ all. LinesAreKept clean leaves day (firm old) all old given given ended old) (λ all. kept-none firm day all old given ended never)
+none-run : (known : Option (List ℕ)) (day : ℕ) (old : Seen) (given : Option (List ℕ)) (ended : SheetEnd) → (IsWhole ended → ⊥)
+    → IfSome known (λ bytes. LinesAreKept day old.firm (records_run bytes) old given given ended old)
+none-run known day old given ended never =
+    known-none known (λ all. LinesAreKept day old.firm all old given given ended old) (λ all. kept-none day all old given ended never)
 
 pub returns-in-Err-Reader-clause-crash : goal.returns-in-Err-Reader-clause-crash
-returns-in-Err-Reader-clause-crash g c = λ sure clean stands. none-run g.B.Book.clean g.B.Book.leaves g.B.Book.firm _ _ _ _ _ (λ w. w)
+returns-in-Err-Reader-clause-crash g c = λ sure clean stands. none-run _ _ _ _ _ (λ w. w)
 
 pub returns-in-Err-Memory-clause-crash : goal.returns-in-Err-Memory-clause-crash
-returns-in-Err-Memory-clause-crash g c = λ sure clean stands. none-run g.B.Book.clean g.B.Book.leaves g.B.Book.firm _ _ _ _ _ (λ w. w)
+returns-in-Err-Memory-clause-crash g c = λ sure clean stands. none-run _ _ _ _ _ (λ w. w)

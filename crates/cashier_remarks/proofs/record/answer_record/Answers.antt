@@ -7,12 +7,12 @@ returns-in-Ok-clause-step g c = λ clean stands. rw (heard-read (fields_of c.arg
 
 pub returns-in-Err-clause-step : goal.returns-in-Err-clause-step
 returns-in-Err-clause-step g c =
-    λ _ _. rw c.refused.ensures (refused-step c.args.day (g.B.Book.firm c.args.desk.now) (fields_of c.args.row.now) c.in-Err.refusal c.in-Err.ensures)
+    λ _ _. rw c.refused.ensures (refused-step c.args.day (g.B.Book.seen c.args.desk.now).firm (fields_of c.args.row.now) c.in-Err.refusal c.in-Err.ensures)
 
 pub returns-in-Ok-clause-crash : goal.returns-in-Ok-clause-crash
 returns-in-Ok-clause-crash g c = λ sure clean stands.
-    record-asked c.args.day (g.B.Book.firm c.args.desk.now) _ _ (fields_of c.args.row.now) c.in-Ok.request c.answer.result c.in-Ok.ensures (c.answer.ensures.crash sure stands (λ asked. clean))
+    record-asked c.args.day (g.B.Book.seen c.args.desk.now).firm _ _ (fields_of c.args.row.now) c.in-Ok.request c.answer.result c.in-Ok.ensures (c.answer.ensures.crash sure stands (λ asked. clean))
 
 pub returns-in-Err-clause-crash : goal.returns-in-Err-clause-crash
 returns-in-Err-clause-crash g c = λ sure clean stands.
-    record-refused c.args.day (g.B.Book.firm c.args.desk.now) c.args.desk.now (fields_of c.args.row.now) c.in-Err.refusal c.refused.result c.in-Err.ensures c.refused.ensures
+    record-refused c.args.day (g.B.Book.seen c.args.desk.now).firm (g.B.Book.seen c.args.desk.now) (fields_of c.args.row.now) c.in-Err.refusal c.refused.result c.in-Err.ensures c.refused.ensures
