@@ -4,6 +4,7 @@ use Rattle.clap.specs.Words.{Text}
 use Rattle.firm_rows.specs.Firm.{Firm, empty_firm}
 use Rattle.firm_rows.specs.FirmSound.{FirmSound}
 use Rattle.trust_base.specs.declared.refusal.StoreFault.{StoreFault}
+use Rattle.trust_desk.specs.Checking.{AreReads}
 use Rattle.trust_store.specs.Seen.{Seen}
 use Rattle.portal_http.specs.Clients.{Ports}
 use Rattle.command_line.specs.Program.{Means, MeansCheck, MeansNothing, db_of}
@@ -30,7 +31,7 @@ pub record HadNoBook (untouched : Type 0) (told : Outcome) : Type 0 where
 -- return when one is put back.
 module _ {B W : Type 0} (seen : B → Seen) where
   -- a run over the book that was found at a path: the book is clean, and the run over it ended this way; then the book
-  -- that the run left was put back, or could not be, with this result. The claims about the firm hold if the book's
+  -- that the run left was read, if at all, and put back, or could not be, with this result. The claims about the firm hold if the book's
   -- store is clean after the run, and if it stood for a sound firm when it was found; the claims about a crash hold
   -- even if a fault has shut the store. A check that ended well found the rows of a sound firm, whatever rows were
   -- found that can be read
@@ -50,8 +51,11 @@ module _ {B W : Type 0} (seen : B → Seen) where
         → LeavesRun seen words input known opens ports old new before after ended
     pub checked : (seen after).clean → (seen before).readable → MeansCheck words → ended ≡ outcome.Done
         → IsSaidSound (seen before).firm old new
+    -- the book after it was read once more for what a person is told; this is the one that was put back
+    pub shown : B
+    pub read : AreReads (seen after) (seen shown)
     pub put : Result Unit StoreFault
-    pub left : puts after put
+    pub left : puts shown put
     pub outcome : told ≡ put_outcome ended put
 
   -- a run of words over a book: it ended at the command line only if they mean nothing; if anything was begun, they

@@ -6,6 +6,7 @@ ghost use Rattle.cashier.specs.Notice.{IsBookPath, IsServedPort, IsSource, IsTol
 ghost use Rattle.command_line.specs.Program.{words_of};
 
 use crate::outcome::Outcome;
+use cashier_remarks::is_printable;
 use command_line::{Advice, Task, advice_of, command_of};
 use std::alloc::Global;
 use std::fmt;
@@ -71,7 +72,7 @@ impl fmt::Display for Notice<'_> {
     }
 }
 
-// Returns what these words say to read.
+// Returns what these words say to read. A path with control characters is not shown, because a terminal would obey them.
 fn source_of<'a>(alloc: Global, words: &'a [&'a str]) -> Option<Source<'a>>
     ensures { IfSome result (IsSource (words_of words.entry.now)) }
 {
@@ -79,22 +80,22 @@ fn source_of<'a>(alloc: Global, words: &'a [&'a str]) -> Option<Source<'a>>
         return None;
     };
     match plan.task {
-        Task::Import(path) => Some(Source::File(path)),
-        Task::Match(path) => Some(Source::File(path)),
+        Task::Import(path) if is_printable(path) => Some(Source::File(path)),
+        Task::Match(path) if is_printable(path) => Some(Source::File(path)),
         Task::Sheet => Some(Source::Input),
         Task::Stream => Some(Source::Input),
         _ => None,
     }
 }
 
-// Returns the path of the book that the words name.
+// Returns the path of the book that the words name, unless it has control characters.
 fn book_path<'a>(alloc: Global, words: &'a [&'a str]) -> Option<&'a str>
     ensures { IfSome result (λ path. IsBookPath (words_of words.entry.now) path.now) }
 {
     let Ok(plan) = command_of(alloc, words) else {
         return None;
     };
-    plan.db
+    plan.db.filter(|path| is_printable(path))
 }
 
 // Returns the port whose clients these words say to serve.

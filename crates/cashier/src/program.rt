@@ -12,6 +12,7 @@ ghost use Rattle.cashier.specs.Serving.{PortEnds};
 ghost use Rattle.command_line.specs.Program.{Means, MeansSheet, MeansStream, words_of};
 ghost use Rattle.command_line.specs.declared.command.Task.{Task};
 ghost use Rattle.portal_http.specs.Clients.{ports_of};
+ghost use Rattle.trust_desk.specs.Checking.{AreReads};
 
 use crate::check::run_check;
 use crate::matching::run_match;
@@ -23,8 +24,8 @@ use crate::report::run_report;
 use crate::sheet::run_sheet;
 use crate::statement::run_import;
 use cashier_remarks::{
-    AskedRemarks, Folder, Presence, Remark, Remarks, StatementTelling, is_past, tell_of_day,
-    tell_of_loss, tell_of_new_book, tell_of_no_book,
+    AppliedLines, AskedRemarks, Folder, Remark, Remarks, StatementTelling, is_past, tell_of_day,
+    tell_of_earlier, tell_of_loss, tell_of_new_book, tell_of_no_book,
 };
 use command_line::{CliFault, Plan, Task, command_of};
 use portal_http::{Network, serve_connections, serve_stream};
@@ -32,7 +33,7 @@ use std::alloc::{AllocError, Global};
 use std::io::{ErrorKind, Read, Write};
 use std::rt::Clock;
 use trust_base::{Day, StoreFault};
-use trust_desk::{Desk, EarlierLines, Unread};
+use trust_desk::{Desk, Unread};
 use trust_store::{Book, NoBook, PlainBook, Stores};
 
 /// What a run can use in addition to its standard streams.
@@ -59,14 +60,14 @@ pub fn texts_of<'a>(alloc: Global, words: &'a [String]) -> Result<Vec<&'a str>, 
     Ok(texts)
 }
 
-// Imports the statement at a path, if it can be opened. `earlier` are the lines that the book had before, if they were
-// read.
+// Imports the statement at a path, if it can be opened. The lines that it applies are kept in `applied`, if that is
+// given.
 fn import_file<F: Folder, M: Remarks, W: Write, B: Book>(
     alloc: Global,
     folder: &F,
     path: &str,
     remarks: &M,
-    earlier: Option<&EarlierLines>,
+    applied: Option<&AppliedLines>,
     today: Day,
     desk: &mut Desk<B>,
     writer: &mut W,
@@ -84,7 +85,7 @@ fn import_file<F: Folder, M: Remarks, W: Write, B: Book>(
         return Outcome::FileFault;
     };
     let is_file = file.length.is_some();
-    let told = StatementTelling::new(alloc, folder, path, is_file, today, remarks, earlier);
+    let told = StatementTelling::new(alloc, folder, path, is_file, today, remarks, applied);
     run_import(alloc, file.reader, file.length, writer, desk, today, &told)
 }
 
@@ -120,6 +121,7 @@ pub fn run_serve<F: Folder, C: Clock + Drop, N: Network, M: Remarks, W: Write, B
     let Some(mut listener) = around.network.listen(port) else {
         return Outcome::NetworkFault;
     };
+    around.remarks.show_at_once();
     outcome_of_serving(serve_connections(
         alloc,
         around.clock,
@@ -131,14 +133,14 @@ pub fn run_serve<F: Folder, C: Clock + Drop, N: Network, M: Remarks, W: Write, B
     ))
 }
 
-// Runs a plan over a desk, whatever book the plan names. Before an import the book has these lines, if they were read.
-// The contract holds for any words that mean the plan.
+// Runs a plan over a desk, whatever book the plan names. The lines that an import applies are kept in `applied`, if that
+// is given and somebody is told. The contract holds for any words that mean the plan.
 fn run_plan<R: Read, F: Folder, C: Clock + Drop, N: Network, M: Remarks, W: Write, B: Book>(
     alloc: Global,
     plan: &Plan<'_>,
     reader: &mut R,
     around: Surroundings<'_, F, C, N, M>,
-    earlier: Option<&EarlierLines>,
+    applied: Option<&AppliedLines>,
     writer: &mut W,
     desk: &mut Desk<B>,
 ) -> Outcome
@@ -179,7 +181,7 @@ fn run_plan<R: Read, F: Folder, C: Clock + Drop, N: Network, M: Remarks, W: Writ
                 around.folder,
                 path,
                 remarks,
-                earlier,
+                applied.filter(|_| remarks.are_told()),
                 today,
                 desk,
                 writer,
@@ -222,67 +224,18 @@ fn run_in_memory<R: Read, F: Folder, C: Clock + Drop, N: Network, M: Remarks, W:
     ended
 }
 
-// Reads the bank lines that the book at a path has before a plan is run, if the plan imports a statement into an
-// existing book and somebody is told about them. `None` if they are not wanted, if the book is not available, which its
-// run then reports, or if they could not be read, which is reported.
-//
-// The book is put back at once, and the run opens it again. So a row that can't be read does not stop an import of
-// other rows.
-fn lines_before<M: Remarks, S: Stores>(
+// Reports why the store failed in a run over the book at a path: which row can't be read, or that all of them can, so
+// that it may be the disk.
+fn tell_of_failure<M: Remarks, B: Book>(
     alloc: Global,
     remarks: &M,
-    plan: &Plan<'_>,
-    stores: &S,
     path: &str,
-    found: Presence,
-) -> Option<EarlierLines> {
-    let is_wanted = matches!(plan.task, Task::Import(_))
-        && matches!(found, Presence::There)
-        && !plan.is_quiet
-        && remarks.are_told();
-    if !is_wanted {
-        return None;
-    }
-    let Ok(book) = stores.at(alloc, path) else {
-        return None;
-    };
-    let mut desk = Desk::new(book);
-    let lines = desk.earlier_lines(alloc);
-    // The book's contents are kept even if this fails.
-    let _ = stores.put_back(desk.into_book());
-    match lines {
-        Ok(lines) => Some(lines),
-        Err(fault) => {
-            remarks.tell(&Remark::EarlierEnd(fault));
-            None
-        }
-    }
-}
-
-// Reports why the store failed, if a run over the book at a path ended by that: which row can't be read, or that all of
-// them can, so that it may be the disk.
-//
-// The book is opened once more for it, read whole and put back, so that nothing depends on it.
-fn tell_of_failure<M: Remarks, S: Stores>(
-    alloc: Global,
-    remarks: &M,
-    plan: &Plan<'_>,
-    stores: &S,
-    path: &str,
-    ended: Outcome,
-) {
-    if ended != Outcome::StoreFault || plan.is_quiet || !remarks.are_told() {
-        return;
-    }
-    let book = match stores.at(alloc, path) {
-        Ok(book) => book,
-        Err(fault) => return tell_of_no_book(alloc, remarks, plan, stores, path, fault),
-    };
-    let mut desk = Desk::new(book);
-    let found = desk.find_unread(alloc, plan.today);
-    // The book's contents are kept even if this fails.
-    let _ = stores.put_back(desk.into_book());
-    match found {
+    today: Day,
+    desk: &mut Desk<B>,
+)
+    ensures { AreReads (B.seen desk.old) (B.seen desk.new) }
+{
+    match desk.find_unread(alloc, today) {
         Ok(Unread::Elsewhere) => remarks.tell(&Remark::AllRead(path)),
         Ok(unread) => remarks.tell(&Remark::Unread(unread)),
         Err(StoreFault::Store) => {
@@ -290,6 +243,45 @@ fn tell_of_failure<M: Remarks, S: Stores>(
             remarks.tell(&Remark::NoBook { path, why })
         }
         Err(StoreFault::Memory) => (),
+    }
+}
+
+// Reports what the rows of a book show of a run that is over, if somebody is told: after an import, which of the lines
+// that it applied stand on something else too; after a failure of the store, why it failed. The book is only read.
+fn tell_of_rows<F: Folder, M: Remarks, B: Book>(
+    alloc: Global,
+    folder: &F,
+    remarks: &M,
+    plan: &Plan<'_>,
+    path: &str,
+    applied: &AppliedLines,
+    ended: Outcome,
+    desk: &mut Desk<B>,
+)
+    ensures { AreReads (B.seen desk.old) (B.seen desk.new) }
+{
+    if plan.is_quiet || !remarks.are_told() {
+        return;
+    }
+    if ended == Outcome::StoreFault {
+        return tell_of_failure(alloc, remarks, path, plan.today, desk);
+    }
+    if let Task::Import(statement) = plan.task {
+        tell_of_earlier(folder, statement, plan.today, remarks, applied, desk);
+    }
+}
+
+// Reports that the book of a run that ended without a fault could not be put back, if the plan is not quiet.
+fn tell_of_putting<M: Remarks>(
+    remarks: &M,
+    plan: &Plan<'_>,
+    path: &str,
+    ended: Outcome,
+    put: Result<(), StoreFault>,
+) {
+    let is_fault = outcome_put_back(ended, put) == Outcome::StoreFault;
+    if is_fault && ended != Outcome::StoreFault && !plan.is_quiet {
+        remarks.tell(&Remark::NotPutBack(path));
     }
 }
 
@@ -313,38 +305,40 @@ fn run_at_path<R: Read, F: Folder, C: Clock + Drop, N: Network, M: Remarks, S: S
         (N.refuses around.entry.network.now)) (W.contents writer.old) (W.contents writer.new) result
         ⊎ HadNoBook ((reader.new ≡ reader.old) × (writer.new ≡ writer.old)) result }
 {
-    let remarks = around.remarks;
-    let found = around.folder.presence(path);
-    let earlier = lines_before(alloc, remarks, plan, stores, path, found);
+    let (folder, remarks) = (around.folder, around.remarks);
+    let found = folder.presence(path);
     let book = match stores.at(alloc, path) {
         Ok(book) => book,
-        Err(fault) => {
-            tell_of_no_book(alloc, remarks, plan, stores, path, fault);
-            return outcome_of_store(fault);
+        Err(why) => {
+            tell_of_no_book(remarks, plan, path, why);
+            return outcome_of_store(why.fault());
         }
     };
     tell_of_new_book(remarks, plan, path, found);
+    let applied = AppliedLines::new(alloc);
     let mut desk = Desk::new(book);
     let ended = run_plan(
         alloc,
         plan,
         reader,
         around,
-        earlier.as_ref(),
+        Some(&applied),
         writer,
         &mut desk,
     );
+    tell_of_rows(
+        alloc, folder, remarks, plan, path, &applied, ended, &mut desk,
+    );
     let put = stores.put_back(desk.into_book());
-    let outcome = outcome_put_back(ended, put);
-    tell_of_failure(alloc, remarks, plan, stores, path, outcome);
-    outcome
+    tell_of_putting(remarks, plan, path, ended, put);
+    outcome_put_back(ended, put)
 }
 
 /// Runs what the words that the program was called with ask for, its name first among them, over the book at the path
 /// of `--db`. If there is no `--db`, it uses a new, empty book in memory, which is dropped at the end.
 ///
-/// Before a statement is imported, the book at the path is opened an extra time, read and put back, if somebody is told
-/// which of the statement's lines an earlier import put on another entry. Nothing else depends on that.
+/// The book at the path is opened once. What a person is told of its rows when the run is over comes of that opening: it
+/// is only read for it, before it is put back.
 ///
 /// If the words can't be read or are invalid, or memory runs out before they are parsed, nothing is read, run or
 /// written, and no book is opened: the outcome is `MemoryFault` if memory ran out, and otherwise `CommandLine`. If the

@@ -7,6 +7,8 @@ use crate::outcome::{Outcome, exit_of};
 use crate::program::{Surroundings, run_called, texts_of};
 use cashier_remarks::{Folder, Opened, Presence, Remark, Remarks};
 use portal_http::SystemNetwork;
+use std::cell::RefCell;
+use std::fmt::Write;
 use std::fs::{self, OpenFile};
 use std::io::{self, ErrorKind};
 use std::net::Net;
@@ -47,15 +49,58 @@ impl<R: Files> Folder for SystemFiles<'_, R> {
     }
 }
 
-// The standard error of the system, which prints remarks as they come.
+// The most bytes of remarks that are held. What is told after that many is shown at once.
+const MAX_HELD: usize = 1_048_576;
+
+// The bytes that are put aside before a run for remarks, so that they can be held when memory runs out.
+const ROOM: usize = 4_096;
+
+// The standard error of the system. Remarks are held until the run is over, so that the name of a fault comes first.
 #[derive(Drop)]
 struct SystemRemarks<'a, R> {
     rt: &'a R,
+    // What is held. None once remarks are shown as they come.
+    held: RefCell<Option<String>>,
 }
 
-impl<R: Eprint> Remarks for SystemRemarks<'_, R> {
+impl<'a, R: Eprint + AllocGlobal> SystemRemarks<'a, R> {
+    fn new(rt: &'a R) -> SystemRemarks<'a, R> {
+        let held = String::with_capacity(rt.alloc(), ROOM).ok();
+        SystemRemarks {
+            rt,
+            held: RefCell::new(held),
+        }
+    }
+
+    // Adds a remark to what is held. Whether it could: not if it is too much, or if memory runs out.
+    fn hold(&self, remark: &Remark<'_>) -> bool {
+        let Ok(mut held) = self.held.try_borrow_mut() else {
+            return false;
+        };
+        let Some(text) = held.as_mut() else {
+            return false;
+        };
+        let length = text.len();
+        if length < MAX_HELD && writeln!(text, "cashier: {remark}").is_ok() {
+            return true;
+        }
+        text.truncate(length);
+        false
+    }
+}
+
+impl<R: Eprint + AllocGlobal> Remarks for SystemRemarks<'_, R> {
     fn tell(&self, remark: &Remark<'_>) {
-        let _ = eprintln!(self.rt; "cashier: {remark}");
+        if !self.hold(remark) {
+            self.show_at_once();
+            let _ = eprintln!(self.rt; "cashier: {remark}");
+        }
+    }
+
+    fn show_at_once(&self) {
+        if let Ok(Some(text)) = self.held.try_replace(None) {
+            let _ = eprint!(self.rt; "{text}");
+        }
     }
 }
 
@@ -82,8 +127,8 @@ fn tell_outcome(
 }
 
 /// The whole program. Runs what the words that it was called with ask for, over standard input, standard output, the
-/// system's files and ports and the books of `stores`. Reports a fault or invalid words on standard error, and returns
-/// the exit status.
+/// system's files and ports and the books of `stores`. Reports a fault or invalid words on standard error, and then the
+/// remarks of the run; those of clients of a port come at once. Returns the exit status.
 ///
 /// It combines `run_called`, `notice_of` and `exit_of`, whose contracts say what a run does, what is reported about it
 /// and how it ends. This function has no contract: nothing can be promised about what the operating system supplies.
@@ -91,11 +136,12 @@ pub fn run_on_system<S: Stores>(
     rt: &(impl Env + Input + Files + Print + Eprint + Clock + Net + Drop + AllocGlobal),
     stores: &S,
 ) -> ExitCode {
+    let remarks = SystemRemarks::new(rt);
     let around = Surroundings {
         folder: &SystemFiles { rt },
         clock: rt,
         network: &SystemNetwork { rt },
-        remarks: &SystemRemarks { rt },
+        remarks: &remarks,
     };
     let called: Result<Vec<String>, ErrorKind> = match std::env::args(rt) {
         Ok(words) => words
@@ -112,5 +158,6 @@ pub fn run_on_system<S: Stores>(
         &mut io::writer(rt),
     );
     tell_outcome(rt, outcome, &called);
+    remarks.show_at_once();
     exit_of(outcome)
 }

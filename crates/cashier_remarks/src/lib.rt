@@ -16,9 +16,9 @@ mod remarks;
 pub use folder::{Folder, Opened, Presence};
 pub use record::{Verb, VerbForm, answer_record};
 pub use remarks::{
-    AskedRemarks, Caution, ClearedTwice, EarlierLine, EntryFault, EntryLine, ExceptionRemark,
-    ExceptionTelling, Excerpt, FileRemark, HeaderRemark, LineFault, LineRemark, NoRemarks,
-    NowTelling, OwnLine, Place, Plain, RecordFault, RecordRemark, RefusedRecord, Remark, Remarks,
-    StatementTelling, Telling, TwiceTelling, UnmatchedLine, VerbFault, is_past, tell_of_day,
-    tell_of_loss, tell_of_new_book, tell_of_no_book,
+    AppliedLines, AskedRemarks, Caution, ClearedTwice, EarlierLine, EntryFault, EntryLine,
+    ExceptionRemark, ExceptionTelling, Excerpt, FileRemark, HeaderRemark, LineFault, LineRemark,
+    NoRemarks, NowTelling, OwnLine, Place, Plain, RecordFault, RecordRemark, RefusedRecord, Remark,
+    Remarks, StatementTelling, Telling, TwiceTelling, UnmatchedLine, VerbFault, is_past,
+    is_printable, tell_of_day, tell_of_earlier, tell_of_loss, tell_of_new_book, tell_of_no_book,
 };

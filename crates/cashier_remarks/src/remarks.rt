@@ -17,6 +17,7 @@ mod kept;
 mod line;
 mod line_fault;
 mod own_line;
+mod path_text;
 mod place;
 mod plain;
 mod record;
@@ -35,7 +36,7 @@ pub use beside::{ClearedTwice, NowTelling, TwiceTelling};
 use beside::{write_earlier_end, write_of_now, write_rows_end};
 pub use caution::Caution;
 use check::{write_flaw, write_unread};
-pub use earlier_line::EarlierLine;
+pub use earlier_line::{AppliedLines, EarlierLine, tell_of_earlier};
 pub use entry_line::{EntryFault, EntryLine};
 use exception::write_end;
 pub use exception::{ExceptionRemark, ExceptionTelling};
@@ -46,6 +47,8 @@ pub use kept::tell_of_loss;
 pub use line::LineRemark;
 pub use line_fault::LineFault;
 pub use own_line::OwnLine;
+use path_text::PathText;
+pub use path_text::is_printable;
 pub use place::Place;
 pub use plain::Plain;
 pub use record::RecordRemark;
@@ -107,6 +110,8 @@ pub enum Remark<'a> {
     Unread(Unread),
     /// The store of the book at this path failed, but each row of it can be read.
     AllRead(&'a str),
+    /// The book at this path could not be put into its file.
+    NotPutBack(&'a str),
 }
 
 // Why no book is available, as written after its path.
@@ -123,13 +128,18 @@ fn words_of(why: NoBook) -> &'static str {
         NoBook::OtherTables => {
             "is a database of something else, or a book of another version of this program"
         }
-        NoBook::Failed => "could not be read or written: look at the disk",
-        NoBook::Unknown => "could not be had",
+        NoBook::LogAlone => {
+            "is not there or empty, and the log beside it, of the same name and -wal, has changes of a book: \
+            mount the disk or put the book back beside its log; neither was touched"
+        }
+        NoBook::Failed => "could not be read or written: look at the disk, and whether it is full",
+        NoBook::Memory => "could not be opened for want of memory",
     }
 }
 
 // Writes about the book at a path.
 fn write_of_path<W: fmt::Write>(f: &mut fmt::Formatter<W>, path: &str, words: &str) -> fmt::Result {
+    let path = PathText(path);
     write!(f, "{path} {words}")
 }
 
@@ -166,20 +176,19 @@ impl fmt::Display for Remark<'_> {
                 path,
                 "can be read, each row of it: look whether the disk is full, then run check",
             ),
+            Remark::NotPutBack(path) => write_of_path(
+                f,
+                path,
+                "could not be written, and the log beside it has what was accepted: keep both, and look whether \
+                the disk is full",
+            ),
             Remark::NewBook(path) => write_of_path(f, path, "was not there: a new book was begun"),
             Remark::EmptyBook(path) => write_of_path(
                 f,
                 path,
                 "was empty: a new book was begun; if it had one, put the last backup in its place",
             ),
-            Remark::NoBook { path, why } => {
-                let path = if path.is_empty() {
-                    "the empty path"
-                } else {
-                    path
-                };
-                write_of_path(f, path, words_of(*why))
-            }
+            Remark::NoBook { path, why } => write_of_path(f, path, words_of(*why)),
             _ => self.write_size(f),
         }
     }
@@ -210,8 +219,11 @@ impl Remark<'_> {
 
 /// Receives remarks. Nothing depends on whether it succeeds.
 pub trait Remarks {
-    /// Receives a remark.
+    /// Receives a remark. It may be held until the run has ended, since a fault is named before its reasons are.
     fn tell(&self, remark: &Remark<'_>);
+
+    /// Has what is held shown now, and what comes later at once: the run may last for days.
+    fn show_at_once(&self) {}
 
     /// Whether anybody receives them. If not, nothing is read only for remarks.
     fn are_told(&self) -> bool {
@@ -245,6 +257,10 @@ impl<M: Remarks> Remarks for AskedRemarks<'_, M> {
         if self.are_told() {
             self.remarks.tell(remark);
         }
+    }
+
+    fn show_at_once(&self) {
+        self.remarks.show_at_once();
     }
 
     fn are_told(&self) -> bool {

@@ -3,12 +3,12 @@
 ghost use Rattle.trust_store.specs.Calls.{IsRead};
 
 use crate::desk::Desk;
-use crate::watching::{ClearedLine, RowWatch};
+use crate::watching::{AppliedLine, ClearedLine, EarlierWatch, RowWatch};
 use firm_rows::{FirmLine, FirmLineSink, MatterRow, MatterRowSink, Owner};
 use std::alloc::{AllocError, Global};
 use std::cmp::Ordering;
 use std::marker::Model;
-use trust_base::{Day, EntryNo, Line, MatterNo, StoreFault};
+use trust_base::{BankText, Day, EntryNo, Line, MatterNo, StoreFault};
 use trust_matter::{Clearing, DepositState, Entry, PaymentState};
 use trust_store::Book;
 
@@ -65,25 +65,55 @@ impl ClearedLines {
         kept: &Entry,
     ) -> Result<(), AllocError> {
         let owner = Owner::Matter { matter, entry };
-        match kept {
+        let lines = EntryLines::of(kept);
+        if let Some((line, amount)) = lines.clearing {
+            self.keep(&owner, line, amount)?;
+        }
+        if let Some((line, amount)) = lines.returning {
+            self.keep(&owner, line, amount)?;
+        }
+        Ok(())
+    }
+}
+
+// The bank lines of an entry, each with its amount in cents, negative for money that went out.
+#[derive(Clone, Copy)]
+struct EntryLines<'a> {
+    // The line that cleared it.
+    clearing: Option<(&'a Clearing, i64)>,
+    // The line that took the deposit back.
+    returning: Option<(&'a Clearing, i64)>,
+}
+
+impl<'a> EntryLines<'a> {
+    fn of(entry: &'a Entry) -> EntryLines<'a> {
+        let (clearing, returning) = match entry {
             Entry::Deposit(deposit) => {
                 let amount = deposit.amount.get() as i64;
                 match &deposit.state {
-                    DepositState::Cleared(line) => self.keep(&owner, line, amount),
-                    DepositState::Returned(back) => {
-                        self.keep(&owner, &back.clearing, amount)?;
-                        self.keep(&owner, &back.returning, -amount)
-                    }
-                    DepositState::Held | DepositState::Cancelled(_) => Ok(()),
+                    DepositState::Cleared(line) => (Some((line, amount)), None),
+                    DepositState::Returned(back) => (
+                        Some((&back.clearing, amount)),
+                        Some((&back.returning, -amount)),
+                    ),
+                    DepositState::Held | DepositState::Cancelled(_) => (None, None),
                 }
             }
             Entry::Payment(payment) => match &payment.state {
                 PaymentState::Cleared(paid) => {
-                    self.keep(&owner, &paid.clearing, -(payment.amount.get() as i64))
+                    let amount = payment.amount.get() as i64;
+                    (Some((&paid.clearing, -amount)), None)
                 }
-                _ => Ok(()),
+                PaymentState::Proposed
+                | PaymentState::Declined
+                | PaymentState::Issued(_)
+                | PaymentState::Voided(_) => (None, None),
             },
-            Entry::Fee(_) | Entry::Claim(_) => Ok(()),
+            Entry::Fee(_) | Entry::Claim(_) => (None, None),
+        };
+        EntryLines {
+            clearing,
+            returning,
         }
     }
 }
@@ -155,29 +185,117 @@ fn collect<B: Book>(book: &mut B, found: &mut ClearedLines) -> Result<(), StoreF
     Ok(())
 }
 
-/// The bank lines that a book has: those that cleared an entry or took it back, and the firm's own. An imported line is
-/// looked up among them by date, bank reference and amount.
+impl AppliedLine {
+    /// Keeps a line that an import applied to an owner, with the number of its item.
+    pub fn of(number: u64, owner: Owner, line: &Line) -> Result<AppliedLine, AllocError> {
+        Ok(AppliedLine {
+            number,
+            line: ClearedLine {
+                owner,
+                date: line.date,
+                bank_ref: line.bank_ref.copied()?,
+                amount: line.amount.get(),
+            },
+        })
+    }
+}
+
+// A line that an import applied, with what an earlier line like it belongs to, if there is one.
 #[derive(Drop)]
-pub struct EarlierLines {
+struct Likened {
+    applied: AppliedLine,
+    earlier: Option<Owner>,
+}
+
+// Finds for each of the lines that an import applied whether the book has an earlier one like it.
+//
+// Contracts see nothing of it.
+#[derive(Drop)]
+struct Likening {
     // Sorted by date, amount and bank reference.
-    lines: Vec<ClearedLine>,
+    lines: Vec<Likened>,
 }
 
-// Compares one of them with a line of a statement.
-fn order_beside(one: &ClearedLine, line: &Line) -> Ordering {
-    let by_date = one.date.get().cmp(&line.date.get());
-    let by_amount = by_date.then(one.amount.cmp(&line.amount.get()));
-    by_amount.then(one.bank_ref.as_slice().cmp(line.bank_ref.as_slice()))
+impl Model for Likening {
+    ghost Value = { Unit };
+
+    ghost view = { λ lines. tt };
 }
 
-impl EarlierLines {
-    /// Returns a line with the same date, bank reference and amount, if there is one.
-    pub fn same_as(&self, line: &Line) -> Option<&ClearedLine> {
-        match self.lines.binary_search_by(|one| order_beside(one, line)) {
-            Ok(place) => self.lines.get(place),
-            Err(_) => None,
+impl Likening {
+    fn of(alloc: Global, applied: Vec<AppliedLine>) -> Result<Likening, AllocError> {
+        let mut lines = Vec::new(alloc);
+        for applied in applied {
+            lines.push(Likened {
+                applied,
+                earlier: None,
+            })?;
+        }
+        lines.sort_by(|one, other| order_of(&one.applied.line, &other.applied.line))?;
+        Ok(Likening { lines })
+    }
+
+    // Takes a line that the book has. The import's own are among those that it applied; any other is an earlier one.
+    fn see(&mut self, owner: Owner, date: Day, bank_ref: &BankText, amount: i64) {
+        let start = self.lines.partition_point(|one| {
+            order_beside(&one.applied.line, date, bank_ref, amount) == Ordering::Less
+        });
+        let end = self.lines.partition_point(|one| {
+            order_beside(&one.applied.line, date, bank_ref, amount) != Ordering::Greater
+        });
+        let Some(alike) = self.lines.as_mut_slice().get_mut(start..end) else {
+            return;
+        };
+        if alike.iter().any(|one| one.applied.line.owner == owner) {
+            return;
+        }
+        for one in alike {
+            one.earlier = Some(owner);
         }
     }
+}
+
+// Compares a line that an import applied with a line of the book.
+fn order_beside(one: &ClearedLine, date: Day, bank_ref: &BankText, amount: i64) -> Ordering {
+    let by_date = one.date.get().cmp(&date.get());
+    let by_amount = by_date.then(one.amount.cmp(&amount));
+    by_amount.then(one.bank_ref.as_slice().cmp(bank_ref.as_slice()))
+}
+
+impl MatterRowSink for Likening {
+    ghost taken = { λ lines row. lines };
+
+    fn matter_row(&mut self, matter: MatterNo, row: MatterRow<'_>) -> Result<(), AllocError> {
+        if let MatterRow::Entry(entry, kept) = row {
+            let owner = Owner::Matter { matter, entry };
+            let lines = EntryLines::of(kept);
+            if let Some((line, amount)) = lines.clearing {
+                self.see(owner, line.bank_day, &line.bank_ref, amount);
+            }
+            if let Some((line, amount)) = lines.returning {
+                self.see(owner, line.bank_day, &line.bank_ref, amount);
+            }
+        }
+        Ok(())
+    }
+}
+
+impl FirmLineSink for Likening {
+    ghost lined = { λ lines line. lines };
+
+    fn firm_line(&mut self, line: &FirmLine) -> Result<(), AllocError> {
+        self.see(Owner::Firm, line.date, &line.bank_ref, line.amount.get());
+        Ok(())
+    }
+}
+
+// Reads the bank lines of a book beside those that an import applied.
+fn liken<B: Book>(book: &mut B, found: &mut Likening) -> Result<(), StoreFault>
+    ensures { IsRead result (B.seen book.old) (B.seen book.new) }
+{
+    book.each_row(found)?;
+    book.each_firm_line(found)?;
+    Ok(())
 }
 
 impl<B: Book> Desk<B> {
@@ -206,17 +324,32 @@ impl<B: Book> Desk<B> {
         Ok(())
     }
 
-    /// Returns the bank lines that the book has, of any day, for reports on lines that are imported later. The book is
-    /// unchanged.
+    /// Reports to `watch`, in the order of their items, which of the lines that an import applied stand on something
+    /// else too, by an earlier import: those for which the book has another line of the same date, bank reference and
+    /// amount. The book is unchanged, and is not read if nothing was applied. The contract does not say what `watch` is
+    /// told.
     ///
     /// Returns `Store` if the book's store failed, and `Memory` if memory ran out.
-    pub fn earlier_lines(&mut self, alloc: Global) -> Result<EarlierLines, StoreFault>
-        ensures read { IsRead result (B.seen self.old) (B.seen self.new) }
+    pub fn tell_earlier<V: EarlierWatch>(
+        &mut self,
+        alloc: Global,
+        applied: Vec<AppliedLine>,
+        watch: &V,
+    ) -> Result<(), StoreFault>
+        ensures { IsRead result (B.seen self.old) (B.seen self.new) }
     {
-        let mut found = ClearedLines::between(alloc, 0, u32::MAX);
-        collect(&mut self.book, &mut found)?;
+        if applied.is_empty() {
+            return Ok(());
+        }
+        let mut found = Likening::of(alloc, applied)?;
+        liken(&mut self.book, &mut found)?;
         let mut lines = found.lines;
-        lines.sort_by(|one, other| order_of(one, other))?;
-        Ok(EarlierLines { lines })
+        lines.sort_by(|one, other| one.applied.number.cmp(&other.applied.number))?;
+        for one in &lines {
+            if let Some(earlier) = one.earlier {
+                watch.stood_already(&one.applied, earlier);
+            }
+        }
+        Ok(())
     }
 }

@@ -18,7 +18,9 @@ ghost use Rattle.trust_desk.specs.ItemStep.{balance_item, count_item, counted_by
 
 use crate::desk::Desk;
 use crate::watching::{At, ItemWatch, NotApplied};
-use firm_rows::{BalanceKind, FirmLedger, FirmLine, Verdict, decide_balance, decide_firm_line};
+use firm_rows::{
+    BalanceKind, FirmLedger, FirmLine, Owner, Verdict, decide_balance, decide_firm_line,
+};
 use matter_bodies::ImportReply;
 use statement_csv::{Item, Lines, ReadFault, Whole};
 use std::alloc::Global;
@@ -78,8 +80,14 @@ fn tell_of_applied<V: ItemWatch>(at: &At<'_, V>, item: &Item, counted: Counted) 
         return;
     }
     match item {
-        Item::OfMatter(line) => at.watch.applied(at.number, &line.line),
-        Item::OfFirm(line) => at.watch.applied(at.number, line),
+        Item::OfMatter(line) => {
+            let owner = Owner::Matter {
+                matter: line.matter,
+                entry: line.entry,
+            };
+            at.watch.applied(at.number, owner, &line.line)
+        }
+        Item::OfFirm(line) => at.watch.applied(at.number, Owner::Firm, line),
         Item::Opening(_) | Item::Closing(_) | Item::Stray(_) | Item::Unreadable(_) => (),
     }
 }

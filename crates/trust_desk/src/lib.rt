@@ -100,7 +100,6 @@ mod unread;
 mod watching;
 
 pub use checking::{Checked, RowCounts};
-pub use cleared_lines::EarlierLines;
 pub use desk::Desk;
 pub use firm_audit::Flaw;
 pub use importing::{Counted, ImportEnd, ImportStop};
@@ -109,4 +108,6 @@ pub use requests::{Body, End, MatchText, Reply, Report, Request, RunEnd};
 pub use statement_match::Matched;
 pub use trust_base::OwnedBytes;
 pub use unread::Unread;
-pub use watching::{At, ClearedLine, ItemWatch, NoWatch, NotApplied, RowWatch};
+pub use watching::{
+    AppliedLine, At, ClearedLine, EarlierWatch, ItemWatch, NoWatch, NotApplied, RowWatch,
+};

@@ -44,9 +44,9 @@ pub enum NotApplied<'a> {
 
 /// Is told of the items of a statement, or of the exceptions. Nothing depends on whether it succeeds.
 pub trait ItemWatch {
-    /// Called after a line was applied: it cleared its entry or took it back, or was added to the firm's own. The
+    /// Called after a line was applied: it cleared its owner's entry or took it back, or was added to the firm's own. The
     /// number is that of its item; the first record after the header has number 1.
-    fn applied(&self, number: u64, line: &Line);
+    fn applied(&self, number: u64, owner: Owner, line: &Line);
 
     /// Called after an item was not applied, with its number; the first record after the header has number 1. Also
     /// called for an exception, with its number in their list.
@@ -68,6 +68,23 @@ pub struct ClearedLine {
     pub amount: i64,
 }
 
+/// A line that an import applied.
+#[derive(Drop, Debug)]
+pub struct AppliedLine {
+    /// The number of its item; the first record after the header has number 1.
+    pub number: u64,
+    /// The line, with what it cleared or took back.
+    pub line: ClearedLine,
+}
+
+/// Is told which of the lines that an import applied stand on something else too. Nothing depends on whether it
+/// succeeds.
+pub trait EarlierWatch {
+    /// Called for a line that was applied, if the book has another line of the same date, bank reference and amount,
+    /// which an earlier import put on this.
+    fn stood_already(&self, line: &AppliedLine, earlier: Owner);
+}
+
 /// Is told what the rows of a book show in addition to a report. Nothing depends on whether it succeeds.
 pub trait RowWatch {
     /// Called for two bank lines with the same date, bank reference and amount.
@@ -82,7 +99,7 @@ pub trait RowWatch {
 pub struct NoWatch;
 
 impl ItemWatch for NoWatch {
-    fn applied(&self, _number: u64, _line: &Line) {}
+    fn applied(&self, _number: u64, _owner: Owner, _line: &Line) {}
 
     fn not_applied(&self, _number: u64, _told: &NotApplied<'_>) {}
 

@@ -3,10 +3,9 @@
 use crate::folder::Presence;
 use crate::remarks::{Remark, Remarks};
 use command_line::Plan;
-use std::alloc::Global;
 use std::rt::Clock;
-use trust_base::{Day, StoreFault};
-use trust_store::{NoBook, Stores};
+use trust_base::Day;
+use trust_store::NoBook;
 
 // How far the business day may be ahead of the machine's clock, in days.
 const DAYS_AHEAD: u64 = 31;
@@ -61,20 +60,10 @@ pub fn tell_of_new_book<M: Remarks>(remarks: &M, plan: &Plan<'_>, path: &str, fo
     }
 }
 
-/// Reports why no book is available at a path, if the store failed.
-pub fn tell_of_no_book<M: Remarks, S: Stores>(
-    alloc: Global,
-    remarks: &M,
-    plan: &Plan<'_>,
-    stores: &S,
-    path: &str,
-    fault: StoreFault,
-) {
-    if plan.is_quiet || fault == StoreFault::Memory {
+/// Reports why no book is available at a path, unless memory ran out.
+pub fn tell_of_no_book<M: Remarks>(remarks: &M, plan: &Plan<'_>, path: &str, why: NoBook) {
+    if plan.is_quiet || why == NoBook::Memory {
         return;
     }
-    match stores.why_none(alloc, path) {
-        NoBook::Unknown => (),
-        why => remarks.tell(&Remark::NoBook { path, why }),
-    }
+    remarks.tell(&Remark::NoBook { path, why });
 }

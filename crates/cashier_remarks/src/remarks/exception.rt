@@ -3,6 +3,7 @@
 use crate::remarks::line::{LineRemark, remark_on_item};
 use crate::remarks::plain::Plain;
 use crate::remarks::{Remark, Remarks};
+use firm_rows::Owner;
 use std::fmt;
 use trust_base::{BankAmount, Day, Line, StoreFault};
 use trust_desk::{ImportStop, ItemWatch, NotApplied};
@@ -64,7 +65,7 @@ fn line_of<'a>(told: &NotApplied<'a>) -> Option<&'a Line> {
 }
 
 impl<M: Remarks> ItemWatch for ExceptionTelling<'_, M> {
-    fn applied(&self, _number: u64, _line: &Line) {}
+    fn applied(&self, _number: u64, _owner: Owner, _line: &Line) {}
 
     fn not_applied(&self, _number: u64, told: &NotApplied<'_>) {
         if let Some(line) = line_of(told) {

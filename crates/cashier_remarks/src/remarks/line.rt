@@ -1,5 +1,6 @@
 // Remarks about lines of a statement as it is imported, and about exceptions.
 
+use crate::remarks::beside::write_owner;
 use crate::remarks::earlier_line::EarlierLine;
 use crate::remarks::entry_line::EntryLine;
 use crate::remarks::line_fault::{LineFault, fault_of_line};
@@ -109,8 +110,8 @@ impl LineRemark<'_> {
             }
             LineRemark::Stray(reference) if !reference.is_empty() => write!(f, ", {reference}"),
             LineRemark::Earlier(line) => {
-                let reference = line.reference;
-                write!(f, ", {reference}")
+                f.write_str(", ")?;
+                write_owner(f, line.owner)
             }
             _ => Ok(()),
         }

@@ -1,7 +1,7 @@
 // Remarks about a statement as it is imported.
 
 use crate::folder::Folder;
-use crate::remarks::earlier_line::EarlierLine;
+use crate::remarks::earlier_line::{AppliedLines, EarlierLine};
 use crate::remarks::header::{HeaderRemark, remark_on_header};
 use crate::remarks::line::{LineRemark, remark_on_item};
 use crate::remarks::place::Place;
@@ -10,10 +10,11 @@ use crate::remarks::unmatched::tell_unmatched;
 use crate::remarks::whole_file::tell_of_records;
 use crate::remarks::{Remark, Remarks};
 use csv::ByteRecord;
+use firm_rows::Owner;
 use std::alloc::Global;
 use std::cell::RefCell;
 use trust_base::{Day, Field, Line, Refusal, StoreFault};
-use trust_desk::{EarlierLines, ImportStop, ItemWatch, NotApplied};
+use trust_desk::{AppliedLine, EarlierWatch, ImportStop, ItemWatch, NotApplied};
 
 // The file, which is read again once there is something to report about it.
 #[derive(Drop)]
@@ -32,14 +33,14 @@ pub struct StatementTelling<'a, F, M> {
     path: &'a str,
     today: Day,
     remarks: &'a M,
-    earlier: Option<&'a EarlierLines>,
+    applied: Option<&'a AppliedLines>,
     again: RefCell<Again>,
 }
 
 impl<'a, F: Folder, M: Remarks> StatementTelling<'a, F, M> {
     /// Makes it for the statement at a path. The file can be opened again if it is not a pipe.
     ///
-    /// `earlier` are the lines that the book had before it, if they were read.
+    /// The lines that it applies are kept in `applied`, if that is given.
     pub fn new(
         alloc: Global,
         folder: &'a F,
@@ -47,15 +48,18 @@ impl<'a, F: Folder, M: Remarks> StatementTelling<'a, F, M> {
         is_file: bool,
         today: Day,
         remarks: &'a M,
-        earlier: Option<&'a EarlierLines>,
+        applied: Option<&'a AppliedLines>,
     ) -> StatementTelling<'a, F, M> {
+        if let Some(applied) = applied {
+            applied.set_file(is_file);
+        }
         StatementTelling {
             alloc,
             folder,
             path,
             today,
             remarks,
-            earlier,
+            applied,
             again: RefCell::new(if is_file {
                 Again::Unopened
             } else {
@@ -172,18 +176,9 @@ fn row_of<'a>(found: Option<Found<'a>>) -> Option<&'a ByteRecord> {
 }
 
 impl<F: Folder, M: Remarks> ItemWatch for StatementTelling<'_, F, M> {
-    fn applied(&self, number: u64, line: &Line) {
-        let Some(earlier) = self.earlier else {
-            return;
-        };
-        let Some(before) = earlier.same_as(line) else {
-            return;
-        };
-        if let Some(place) = self.place_at(number) {
-            self.remarks.tell(&Remark::Line {
-                place,
-                told: LineRemark::Earlier(EarlierLine::new(line, before)),
-            });
+    fn applied(&self, number: u64, owner: Owner, line: &Line) {
+        if let Some(applied) = self.applied {
+            applied.keep(number, owner, line);
         }
     }
 
@@ -208,6 +203,17 @@ impl<F: Folder, M: Remarks> ItemWatch for StatementTelling<'_, F, M> {
             ImportStop::Refused(Refusal::Memory) => self.tell_not_run(next, StoreFault::Memory),
             ImportStop::Done => self.tell_of_file(false),
             ImportStop::Refused(_) | ImportStop::ReadFault => (),
+        }
+    }
+}
+
+impl<F: Folder, M: Remarks> EarlierWatch for StatementTelling<'_, F, M> {
+    fn stood_already(&self, line: &AppliedLine, earlier: Owner) {
+        if let Some(place) = self.place_at(line.number) {
+            self.remarks.tell(&Remark::Line {
+                place,
+                told: LineRemark::Earlier(EarlierLine::new(line, earlier)),
+            });
         }
     }
 }

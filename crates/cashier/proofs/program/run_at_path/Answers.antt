@@ -4,10 +4,10 @@ use Rattle.cashier.proofs.RunFacts.{put-line, store-no-line}
 use Rattle.cashier.proofs.program.run_at_path.Goals as goal
 
 pub returns-in-Err-clause-began : goal.returns-in-Err-clause-began
-returns-in-Err-clause-began g c = λ ended. store-no-line c.in-Err.fault (sym c.outcome_of_store.ensures ∙ ended)
+returns-in-Err-clause-began g c = λ ended. store-no-line c.fault.result (sym c.outcome_of_store.ensures ∙ ended)
 
 pub returns-in-Err-clause-ran : goal.returns-in-Err-clause-ran
-returns-in-Err-clause-ran g c = λ _ _. inr (record { fault = c.in-Err.fault; outcome = c.outcome_of_store.ensures; nothing = (refl, refl) })
+returns-in-Err-clause-ran g c = λ _ _. inr (record { fault = c.fault.result; outcome = c.outcome_of_store.ensures; nothing = (refl, refl) })
 
 pub returns-clause-began : goal.returns-clause-began
 returns-clause-began g c = grind (arith, ints, nat_tests, put-line)
@@ -26,6 +26,8 @@ returns-clause-ran g c = λ words means.
       ran = λ clean stands. c.run_plan-ended.ensures.ends words means clean stands;
       crash = λ sure stands. c.run_plan-ended.ensures.crash words means sure (served ((c.run_plan-ended.ensures.kept words means).was_sure sure)) stands;
       checked = λ clean readable check done. c.run_plan-ended.ensures.sound clean readable (check-alone _ _ _ check means) done;
+      shown = c.tell_of_rows.new.desk;
+      read = c.tell_of_rows.ensures;
       put = c.put_back-put.result;
       left = rw c.into_book.ensures at c.put_back-put.ensures.put;
       outcome = c.outcome_put_back-outcome.ensures;
