@@ -1,7 +1,6 @@
 -- A stream that is served.
 use Rattle.portal_http.proofs.Names.{Seen, ◌≡◌, ◌⊎◌, inl, inr, true, false, ◌<◌, ◌+◌, ℕ, List, [], ◌∷◌, ◌++◌, Option, Some, None, length, map, refl, sym, ap, ◌∙◌, subst, arith, length-append, append_assoc, IfSome, append-nil, map-append, Appends, Keeps, Appends-nil, Appends-trans, Refusal, Memory, Firm, Reply, KeepsBook, counted_reply, counted_replies, AreNoFaults, AreNoFaultsButLast, IsMade, IsMadeInRun, MayLeave, before_fault, IsUnstopped, RunsSoundly, Steps, firm_step, Heard, is_fault_reply, refused, runs-covered, kept-as, kept-still, kept-then, leave-as, leave-still, leave-then, fault-front, made-before, made-last, none-at_all, none-before, none-last, plain-step, each-own, RunsSoundly-push, counted-push, sound-runs-are-runs, Message, Began, IsNext, heard_of, replies_bytes, reply_bytes, AreBehind, AreFirst, IsCut, IsFrontRun, IsRead, IsTail, IsWritten, MayLeaveServed, Served, Serving, whole_text, StreamEnd, ints, nat_tests}
 use Rattle.std.proofs.lemmas.Grind.{flat_map-append}
-use Rattle.firm_rows.specs.FirmSound.{FirmSound}
 use Rattle.trust_desk.specs.Isolation.{IsOwn}
 use Rattle.trust_desk.specs.NeverBelowZero.{CoveredRun}
 use Rattle.portal_messages.specs.declared.input.Next.TheVariants as nexts
@@ -54,7 +53,7 @@ front-whole day firm mid ms rest rs run = record { front = ms; rest = rest; part
 keeps-self : (a : Option (List ℕ)) → Keeps a a
 keeps-self a = grind (arith, ints, nat_tests)
 
-module _ (day : ℕ) (stream before : Option (List ℕ)) (old : Seen) (sound : old.stands → FirmSound old.firm) where
+module _ (day : ℕ) (stream before : Option (List ℕ)) (old : Seen) where
   -- what is being served, and what was served
   abbrev Serves : ℕ → Option (List ℕ) → Option (List ℕ) → Seen → Type 0
   Serves n unread after new = Serving day stream before old n unread after new
@@ -82,8 +81,7 @@ module _ (day : ℕ) (stream before : Option (List ℕ)) (old : Seen) (sound : o
   -- one more message, and its reply
   module _ (n : ℕ) (unread after : Option (List ℕ)) (mid : Seen) (s : Serves n unread after mid) (left later : Option (List ℕ)) (next : Seen) (m : Message) (reply : Reply)
       (comes : IsNext unread left (nexts.Message m)) (step : next.clean → mid.stands → Steps day mid.firm (heard_of m) reply next.firm) (kept : KeepsBook (counted_reply reply) mid next)
-      (may : next.sure → mid.clean → mid.stands → MayLeave (is_fault_reply reply ≡ false) (IsMade day mid.firm (heard_of m)) mid.firm (firm_step day mid.firm (heard_of m)).firm mid next)
-      (fit : next.stands → FirmSound next.firm) where
+      (may : next.sure → mid.clean → mid.stands → MayLeave (is_fault_reply reply ≡ false) (IsMade day mid.firm (heard_of m)) mid.firm (firm_step day mid.firm (heard_of m)).firm mid next) where
     abbrev messages-more : List Message
     messages-more = s.messages ++ m ∷ []
 
@@ -98,7 +96,7 @@ module _ (day : ℕ) (stream before : Option (List ℕ)) (old : Seen) (sound : o
         let was = kept.was_clean clean in
         let now = s.kept.still_stands was stands in
         subst (λ (hs : List Heard). RunsSoundly day old.firm hs replies-more next.firm) (sym (map-append heard_of s.messages (m ∷ [])))
-        (RunsSoundly-push day old.firm mid.firm next.firm (map heard_of s.messages) (heard_of m) s.replies reply (s.run was stands) (step clean now) (fit (kept.still_stands clean now)))
+        (RunsSoundly-push day old.firm mid.firm next.firm (map heard_of s.messages) (heard_of m) s.replies reply (s.run was stands) (step clean now) (next.sound (kept.still_stands clean now)))
 
     own-more : next.clean → old.stands → (k : ℕ) → IsUnstopped k (map heard_of messages-more) replies-more → IsOwn k day old.firm (map heard_of messages-more) replies-more next.firm
     own-more clean stands k fine = each-own k day old.firm (map heard_of messages-more) replies-more next.firm fine (sound-runs-are-runs day old.firm next.firm (map heard_of messages-more) replies-more (run-more clean stands))
@@ -167,7 +165,7 @@ module _ (day : ℕ) (stream before : Option (List ℕ)) (old : Seen) (sound : o
           written = subst (λ (t : List ℕ × List ℕ). IsCut t.0 t.1 before later) (λ i. (all i, sym (last-push s.replies reply) i)) (cut-behind before after later (replies_bytes s.replies) (reply_bytes reply) s.written wrote);
           run = run-more;
           own = own-more;
-          covered = λ clean stands. runs-covered day old.firm next.firm (map heard_of messages-more) replies-more (sound stands) (run-more clean stands);
+          covered = λ clean stands. runs-covered day old.firm next.firm (map heard_of messages-more) replies-more (old.sound stands) (run-more clean stands);
           kept = kept-more;
           crash = crash-more;
           shut = shut-more;
@@ -179,7 +177,7 @@ module _ (day : ℕ) (stream before : Option (List ℕ)) (old : Seen) (sound : o
     own clean stands m fine = each-own m day old.firm (map heard_of s.messages) s.replies new.firm fine (sound-runs-are-runs day old.firm new.firm (map heard_of s.messages) s.replies (s.run clean stands))
 
     covered : new.clean → old.stands → CoveredRun day old.firm (map heard_of s.messages) s.replies new.firm
-    covered clean stands = runs-covered day old.firm new.firm (map heard_of s.messages) s.replies (sound stands) (s.run clean stands)
+    covered clean stands = runs-covered day old.firm new.firm (map heard_of s.messages) s.replies (old.sound stands) (s.run clean stands)
 
     serves : new.sure → old.clean → old.stands → AreNoFaults s.replies → new.clean
     serves sure clean stands plain = (s.crash sure clean stands (none-at_all s.replies plain)).serves clean plain

@@ -8,31 +8,31 @@ use Rattle.portal_http.proofs.stream.serve_routes.Goals.{in-Ok, in-Err, in-Ok-wr
 pub loop-init : goal.loop-init
 loop-init g c = record {
   turns = omega arith;
-  serving = serving-none c.args.day _ _ _ ((g.B.Book.seen c.args.desk.now).sound) _ c.new-input.ensures.unread;
+  serving = serving-none c.args.day _ _ _ _ c.new-input.ensures.unread;
   fresh = c.new-input.ensures.fresh;
 }
 
 pub returns-in-Ok-Ended : goal.returns-in-Ok-Ended
 returns-in-Ok-Ended g c =
     let comes = rw c.in-Ok-Ended.field-0-is at (c.in-Ok-Ended.ensures.next c.loop.invariant.fresh) in
-    served-ended _ _ _ _ ((g.B.Book.seen c.args.desk.now).sound) _ _ _ _ c.loop.invariant.serving _ c.loop-test.true comes
+    served-ended _ _ _ _ _ _ _ _ c.loop.invariant.serving _ c.loop-test.true comes
 
 pub returns-in-Ok-Framing : goal.returns-in-Ok-Framing
 returns-in-Ok-Framing g c =
     let comes = rw c.in-Ok-Framing.field-0-is at (c.in-Ok-Framing.ensures.next c.loop.invariant.fresh) in
     let framed = rw c.in-Ok-Framing.field-0-is at (c.in-Ok-Framing.ensures.framing c.loop.invariant.fresh) in
     elim c.match-write_reply.branch [
-      | in-Ok w ↦ rw w.result-is (served-framing _ _ _ _ ((g.B.Book.seen c.args.desk.now).sound) _ _ _ _ c.loop.invariant.serving _ _ c.in-Ok-Framing.why c.refused.result c.loop-test.true comes framed c.refused.ensures w.in-Ok.ensures.ok)
-      | in-Err w ↦ rw w.result-is (served-framing_fault _ _ _ _ ((g.B.Book.seen c.args.desk.now).sound) _ _ _ _ c.loop.invariant.serving _ _ c.in-Ok-Framing.why c.refused.result c.loop-test.true comes framed c.refused.ensures w.in-Err.ensures.err)
+      | in-Ok w ↦ rw w.result-is (served-framing _ _ _ _ _ _ _ _ c.loop.invariant.serving _ _ c.in-Ok-Framing.why c.refused.result c.loop-test.true comes framed c.refused.ensures w.in-Ok.ensures.ok)
+      | in-Err w ↦ rw w.result-is (served-framing_fault _ _ _ _ _ _ _ _ c.loop.invariant.serving _ _ c.in-Ok-Framing.why c.refused.result c.loop-test.true comes framed c.refused.ensures w.in-Err.ensures.err)
     ]
 
 pub returns-in-Err-Reader : goal.returns-in-Err-Reader
-returns-in-Err-Reader g c = served-read_fault _ _ _ _ ((g.B.Book.seen c.args.desk.now).sound) _ _ _ _ c.loop.invariant.serving
+returns-in-Err-Reader g c = served-read_fault _ _ _ _ _ _ _ _ c.loop.invariant.serving
 
 pub returns-in-Err-Memory : goal.returns-in-Err-Memory
 returns-in-Err-Memory g c = elim c.match-write_reply-2.branch [
-  | in-Ok-write_reply w ↦ rw w.result-is (served-no_memory _ _ _ _ ((g.B.Book.seen c.args.desk.now).sound) _ _ _ _ c.loop.invariant.serving _ c.refused-in-Err-Memory.result c.refused-in-Err-Memory.ensures w.in-Ok-write_reply.ensures.ok)
-  | in-Err-write_reply w ↦ rw w.result-is (served-memory_fault _ _ _ _ ((g.B.Book.seen c.args.desk.now).sound) _ _ _ _ c.loop.invariant.serving _ c.refused-in-Err-Memory.result c.refused-in-Err-Memory.ensures w.in-Err-write_reply.ensures.err)
+  | in-Ok-write_reply w ↦ rw w.result-is (served-no_memory _ _ _ _ _ _ _ _ c.loop.invariant.serving _ c.refused-in-Err-Memory.result c.refused-in-Err-Memory.ensures w.in-Ok-write_reply.ensures.ok)
+  | in-Err-write_reply w ↦ rw w.result-is (served-memory_fault _ _ _ _ _ _ _ _ c.loop.invariant.serving _ c.refused-in-Err-Memory.result c.refused-in-Err-Memory.ensures w.in-Err-write_reply.ensures.err)
 ]
 
 pub returns-in-Err-write_reply-2 : goal.returns-in-Err-write_reply-2
@@ -43,7 +43,7 @@ returns-in-Err-write_reply-2 g c =
       | in-Ok-request_of w ↦ rw (w.reply-is, w.desk-is) (asked-answered _ _ w.in-Ok-request_of.request _ _ _ w.in-Ok-request_of.ensures w.answer-reply.ensures.step w.answer-reply.ensures.kept (λ sure clean stands. w.answer-reply.ensures.crash sure stands (λ asked. clean)))
       | in-Err-request_of w ↦ rw (w.reply-is, w.desk-is) (refused-answered _ _ w.in-Err-request_of.why _ _ w.in-Err-request_of.ensures w.refused-reply.ensures)
     ] in
-    served-write_fault _ _ _ _ ((g.B.Book.seen c.args.desk.now).sound) _ _ _ _ c.loop.invariant.serving _ _ _ c.in-Ok-Message.message c.match-request_of.reply comes step.step step.kept step.crash ((g.B.Book.seen c.match-request_of.desk).sound) c.in-Err-write_reply-2.ensures.err
+    served-write_fault _ _ _ _ _ _ _ _ c.loop.invariant.serving _ _ _ c.in-Ok-Message.message c.match-request_of.reply comes step.step step.kept step.crash c.in-Err-write_reply-2.ensures.err
 
 pub loop-preserved : goal.loop-preserved
 loop-preserved g c =
@@ -55,9 +55,9 @@ loop-preserved g c =
     ] in
     record {
       turns = omega arith;
-      serving = serving-more _ _ _ _ ((g.B.Book.seen c.args.desk.now).sound) _ _ _ _ c.loop.invariant.serving _ _ _ c.in-Ok-Message.message c.match-request_of.reply comes step.step step.kept step.crash ((g.B.Book.seen c.match-request_of.desk).sound) c.in-Ok-write_reply-2.ensures.ok;
+      serving = serving-more _ _ _ _ _ _ _ _ c.loop.invariant.serving _ _ _ c.in-Ok-Message.message c.match-request_of.reply comes step.step step.kept step.crash c.in-Ok-write_reply-2.ensures.ok;
       fresh = c.read_message.ensures.last ∙ (ap stays c.in-Ok-Message.is ∙ ap (λ (x : Next). stays (Ok x)) c.in-Ok-Message.field-0-is);
     }
 
 pub returns : goal.returns
-returns g c = served-limit _ _ _ _ ((g.B.Book.seen c.args.desk.now).sound) _ _ _ _ c.loop.invariant.serving (omega arith)
+returns g c = served-limit _ _ _ _ _ _ _ _ c.loop.invariant.serving (omega arith)
