@@ -31,10 +31,10 @@ pub record HadNoBook (untouched : Type 0) (told : Outcome) : Type 0 where
 -- return when one is put back.
 module _ {B W : Type 0} (seen : B → Seen) where
   -- a run over the book that was found at a path: the book is clean, and the run over it ended this way; then the book
-  -- that the run left was read, if at all, and put back, or could not be, with this result. The claims about the firm hold if the book's
-  -- store is clean after the run, and if it stood for a sound firm when it was found; the claims about a crash hold
-  -- even if a fault has shut the store. A check that ended well found the rows of a sound firm, whatever rows were
-  -- found that can be read
+  -- that the run left was read, if at all, and put back, or could not be, with this result. The claims about the firm
+  -- hold if the book's store is clean after the run, and if it stood for a sound firm when it was found; the claims
+  -- about a crash hold even if a fault has shut the store. A check that ended well found the rows of a sound firm,
+  -- whatever rows were found that can be read
   pub record RanAtPath (finds : B → Type 0) (puts : B → Result Unit StoreFault → Type 0) (words : List Text)
       (input : Option (List ℕ)) (known : Text → Option (List ℕ)) (opens : Text → Option (Option ℕ) → Type 0)
       (ports : Ports W) (old new : Option (List ℕ)) (told : Outcome) : Type 0 where

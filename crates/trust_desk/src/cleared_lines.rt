@@ -1,6 +1,7 @@
 //! The bank lines that a book has, and what they show: a line that cleared two entries, and work after a day.
 
 ghost use Rattle.trust_store.specs.Calls.{IsRead};
+ghost use Rattle.trust_desk.specs.Checking.{AreReads};
 
 use crate::desk::Desk;
 use crate::watching::{AppliedLine, ClearedLine, EarlierWatch, RowWatch};
@@ -336,7 +337,7 @@ impl<B: Book> Desk<B> {
         applied: Vec<AppliedLine>,
         watch: &V,
     ) -> Result<(), StoreFault>
-        ensures { IsRead result (B.seen self.old) (B.seen self.new) }
+        ensures { AreReads (B.seen self.old) (B.seen self.new) }
     {
         if applied.is_empty() {
             return Ok(());
