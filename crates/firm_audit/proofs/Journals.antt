@@ -3,7 +3,6 @@ use Rattle.firm_audit.proofs.Names.{inl, inr, cases_Bool, ◌≡◌, ℕ, zero, 
 use Rattle.matter_rows.specs.declared.entry.Entry.{Entry}
 use Rattle.matter_rows.specs.Balances.{ledger}
 use Rattle.firm_rows.specs.declared.movement.Owner.{Owner}
-use Rattle.firm_rows.specs.declared.movement.Owner.TheVariants as owner
 use Rattle.firm_audit.proofs.KeptRows.{at-each}
 
 -- A matter's own movements.

@@ -1,5 +1,5 @@
 -- Rows that pass are those of a sound firm.
-use Rattle.firm_audit.proofs.Names.{◌≡◌, ℕ, sym, ap, ◌∙◌, subst, Rows, entry_at, events_in, Sound, Firm, of, put, joined, AreKeptWhole, rows_in, firm_of_all, rows_of-joined, sound_in, IsJournalOf, IsOwnMoney, AreAscending}
+use Rattle.firm_audit.proofs.Names.{◌≡◌, ℕ, sym, ap, ◌∙◌, subst, Rows, entry_at, events_in, Sound, Firm, of, put, joined, AreKeptWhole, rows_in, firm_of_all, rows_of-joined, sound_in, IsJournalOf, IsOwnMoney, AreAscending, AreSound}
 use Rattle.firm_rows.proofs.Kept.{unopened-sound}
 use Rattle.firm_rows.specs.FirmSound.{FirmSound}
 use Rattle.trust_store.specs.declared.all_rows.AllRows.{AllRows}
@@ -16,7 +16,7 @@ module _ (rows : AllRows) (kept : AreKeptWhole rows.matters.items) (journal : Is
   moved : (m : ℕ) → IsMovedAs rows.movements.items m (of m firm)
   moved m = subst (IsMovedAs rows.movements.items m) (own_rows m) (moved-in m rows.matters.items rows.movements.items kept.whole journal)
 
-  pub firm_is_sound : FirmSound firm
+  firm_is_sound : FirmSound firm
   firm_is_sound = record {
     in_order = record {
       rows = λ m. ap (λ (r : Rows). put m r (joined rows.matters.items)) (sym (own_rows m)) ∙ joined-in_order m rows.matters.items kept.ascends;
@@ -31,3 +31,6 @@ module _ (rows : AllRows) (kept : AreKeptWhole rows.matters.items) (journal : Is
     covered = λ m k. (moved m).covered k;
     within = own.within;
   }
+
+  pub rows_are_sound : AreSound rows
+  rows_are_sound = record { matters = kept; firm = firm_is_sound }

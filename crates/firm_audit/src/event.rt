@@ -1,6 +1,6 @@
 // Whether movements of the journal are an entry's events.
 
-ghost use Rattle.std.specs.Prelude.{◌≡◌, Some, slice_get, IsTrue};
+ghost use Rattle.std.specs.Prelude.{◌≡◌, ◌↔◌, Some, slice_get, IsTrue};
 ghost use Rattle.matter_rows.specs.Events.{events_of};
 ghost use Rattle.firm_rows.specs.Journal.{is_of_entry, event_of, events_moved};
 
@@ -10,7 +10,7 @@ use trust_base::{EntryNo, MatterNo};
 
 // Whether the movement is event `place`, counted from 0, of the entry.
 fn is_event(movement: &Movement, entry: &Entry, number: EntryNo, place: usize) -> bool
-    ensures { IsTrue result → slice_get (events_of entry.now) place ≡ Some (event_of movement.now) }
+    ensures { IsTrue result ↔ slice_get (events_of entry.now) place ≡ Some (event_of movement.now) }
 {
     match entry.event(number, place) {
         Some(event) => event.day.get() == movement.day.get() && event.amount == movement.amount,
@@ -37,7 +37,7 @@ pub(crate) fn is_moved(
     number: EntryNo,
     entry: &Entry,
 ) -> bool
-    ensures { IsTrue result → events_moved matter number movements.now ≡ events_of entry.now }
+    ensures { IsTrue result ↔ events_moved matter number movements.now ≡ events_of entry.now }
 {
     let mut place = 0;
     for movement in movements {

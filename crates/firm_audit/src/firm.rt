@@ -1,8 +1,7 @@
 // The audit of all rows of a firm.
 
-ghost use Rattle.std.specs.Prelude.{◌≡◌, None, IfOk};
-ghost use Rattle.firm_rows.specs.FirmSound.{FirmSound};
-ghost use Rattle.trust_store.specs.Kept.{firm_of_all};
+ghost use Rattle.std.specs.Prelude.{◌≡◌, ◌↔◌, None, IfOk, IfSome};
+ghost use Rattle.firm_audit.specs.Flaws.{AreSound, IsFlawIn};
 
 use crate::Flaw;
 use crate::journal::journal_flaw;
@@ -12,7 +11,8 @@ use crate::own_money::own_flaw;
 use std::alloc::{AllocError, Global};
 use trust_store::AllRows;
 
-/// Returns the first flaw found in all rows of a firm, or `None` if they are those of a sound firm.
+/// Returns the first flaw found in all rows of a firm, or `None` exactly if they are those of a sound firm, each matter
+/// complete. The flaw is there.
 ///
 /// It looks only at the rows, whatever book they were read from. It checks that each matter is complete and sound, and
 /// matters are sorted by number. Each movement must be of an entry or of the firm's own money, and each entry's
@@ -23,7 +23,8 @@ use trust_store::AllRows;
 /// This takes one pass over all movements for each matter, and memory for a copy of one matter at a time. The only
 /// error is out of memory.
 pub fn audit(alloc: Global, rows: &AllRows) -> Result<Option<Flaw>, AllocError>
-    ensures sound { IfOk result (λ found. found ≡ None → FirmSound (firm_of_all rows.now)) }
+    ensures sound { IfOk result (λ found. found ≡ None ↔ AreSound rows.now) }
+    ensures flaw { IfOk result (λ found. IfSome found (IsFlawIn rows.now)) }
 {
     let found = matters_flaw(alloc, &rows.matters)?;
     if found.is_some() {

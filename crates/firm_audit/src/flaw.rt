@@ -2,12 +2,12 @@
 
 use trust_base::{EntryNo, MatterNo};
 
-/// The first thing found that is not sound in a firm's rows.
+/// The first thing found that is not sound in a firm's rows. `specs/Flaws` says what each is of the rows.
 #[derive(Clone, Copy, Debug, PartialEq, Eq)]
 pub enum Flaw {
     /// The matter is not complete and sound, or its number is not higher than those before it.
     Matter(MatterNo),
-    /// The entry's movements in the journal are not what the entry moved.
+    /// The entry's movements in the journal are not what the entry moved. The entry exists.
     Entry { matter: MatterNo, entry: EntryNo },
     /// The matter's movements sum to less than zero somewhere, are not in order of day, are later than its last day, or
     /// do not add up to its ledger.

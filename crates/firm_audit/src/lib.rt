@@ -4,8 +4,9 @@
 //!
 //! By public call, with the clauses of its contract in brackets.
 //!
-//! - `audit`: of all rows of a firm, from whatever book they were read: **if it finds no flaw, they are those of a
-//!   sound firm** (`sound`). That a sound firm has none is tested.
+//! - `audit`: of all rows of a firm, from whatever book they were read: **it finds no flaw exactly if they are those of
+//!   a sound firm**, each matter complete (`sound`). A flaw that it finds is there (`flaw`, by `IsFlawIn`).
+//! - `Err` is out of memory. No clause says that there was too little.
 #![tactic(auto)]
 
 mod event;

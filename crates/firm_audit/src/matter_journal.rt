@@ -1,12 +1,13 @@
 // Whether the movements of a matter are sound.
 
-ghost use Rattle.std.specs.Prelude.{◌≡◌, None, IfOk, IfSome, IsTrue, map, pos};
+ghost use Rattle.std.specs.Prelude.{◌≡◌, ◌≢◌, ◌⊎◌, ◌↔◌, None, false, IfNone, IfOk, IfSome, IsTrue, map};
 ghost use Rattle.std.specs.Option.{option_copied};
 ghost use Rattle.matter_rows.specs.Rows.{last_of};
 ghost use Rattle.matter_rows.specs.Balances.{ledger};
 ghost use Rattle.matter_parts.specs.Parts.{entries_kept};
 ghost use Rattle.trust_store.specs.Kept.{IsKeptWhole};
 ghost use Rattle.firm_audit.specs.Audited.{moved_of, RiseWithin, moved_sum, AreCovered, AreMoved, IsJournal};
+ghost use Rattle.firm_audit.specs.Flaws.{IsJournalFlaw, IsOverdrawn, IsUnlikeAmong};
 
 use crate::Flaw;
 use crate::event::is_moved;
@@ -36,7 +37,8 @@ fn movements_of(
 
 // The first entry whose movements are not its events.
 fn unlike(own: &[Movement], matter: MatterNo, kept: &[Kept]) -> Option<EntryNo>
-    ensures { result ≡ None → AreMoved matter kept.now own.now }
+    ensures none { result ≡ None → AreMoved matter kept.now own.now }
+    ensures some { IfSome result (IsUnlikeAmong matter kept.now own.now) }
 {
     for one in kept {
         if !is_moved(own, matter, one.number, &one.entry) {
@@ -58,7 +60,7 @@ fn last_day(head: Option<&Head>) -> u32
 
 // Whether the movements are in order of day, up to the last day.
 fn is_in_time(own: &[Movement], last: u32) -> bool
-    ensures { IsTrue result → RiseWithin 0 last (map (λ v. v.day) own.now) }
+    ensures { IsTrue result ↔ RiseWithin 0 last (map (λ v. v.day) own.now) }
 {
     let mut before = 0;
     for movement in own {
@@ -72,21 +74,19 @@ fn is_in_time(own: &[Movement], last: u32) -> bool
 }
 
 // The sum of the movements. None if any running sum is negative.
-fn covered_sum(own: &[Movement]) -> Option<u64>
-    ensures sum { IfSome result (λ sum. pos sum ≡ moved_sum own.now) }
+fn covered_sum(own: &[Movement]) -> Option<i128>
+    ensures sum { IfSome result (λ sum. sum ≡ moved_sum own.now) }
     ensures covered { IfSome result (λ _. AreCovered own.now) }
+    ensures overdrawn { IfNone result (IsOverdrawn own.now) }
 {
-    let mut sum = 0i64;
+    let mut sum = 0i128;
     for movement in own {
-        let Some(more) = sum.checked_add(movement.amount) else {
-            return None;
-        };
-        if more < 0 {
+        sum += i128::from(movement.amount);
+        if sum < 0 {
             return None;
         }
-        sum = more;
     }
-    Some(sum as u64)
+    Some(sum)
 }
 
 // Whether the movements add up to the matter's ledger, and never to less than zero on the way.
@@ -94,15 +94,14 @@ fn adds_up(own: &[Movement], kept: &KeptMatter) -> bool
     requires { IsKeptWhole kept.now }
     ensures sum { IsTrue result → moved_sum own.now ≡ ledger (entries_kept kept.now.matter.kept) }
     ensures covered { IsTrue result → AreCovered own.now }
+    ensures flaw { result ≡ false
+        → IsOverdrawn own.now ⊎ (moved_sum own.now ≢ ledger (entries_kept kept.now.matter.kept)) }
 {
     let told = balances(&kept.matter);
     let Some(sum) = covered_sum(own) else {
         return false;
     };
-    if sum < told.total {
-        return false;
-    }
-    sum - told.total == told.held
+    sum == i128::from(told.total) + i128::from(told.held)
 }
 
 /// The first flaw in a matter's movements.
@@ -112,8 +111,9 @@ pub(crate) fn matter_flaw(
     movements: &[Movement],
 ) -> Result<Option<Flaw>, AllocError>
     requires { IsKeptWhole kept.now }
-    ensures { IfOk result
+    ensures sound { IfOk result
         (λ found. found ≡ None → IsJournal kept.now (moved_of kept.now.number movements.now)) }
+    ensures flaw { IfOk result (λ found. IfSome found (IsJournalFlaw kept.now movements.now)) }
 {
     let matter = kept.number;
     let own = movements_of(alloc, matter, movements)?;

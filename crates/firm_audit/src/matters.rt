@@ -1,8 +1,9 @@
 // Whether the matters are complete and sound, and sorted by number.
 
-ghost use Rattle.std.specs.Prelude.{◌≡◌, None, IfOk};
+ghost use Rattle.std.specs.Prelude.{◌≡◌, None, IfOk, IfSome};
 ghost use Rattle.std.specs.List.{AllByRecursion};
 ghost use Rattle.trust_store.specs.Kept.{IsKeptWhole, AreKeptWhole};
+ghost use Rattle.firm_audit.specs.Flaws.{IsFlawedMatter, IsMatterFlaw};
 
 use crate::Flaw;
 use crate::order::{Sorted, out_of_order};
@@ -13,7 +14,8 @@ use trust_store::KeptMatter;
 
 // The first matter that is not complete and sound.
 fn unsound(alloc: Global, matters: &[KeptMatter]) -> Result<Option<MatterNo>, AllocError>
-    ensures { IfOk result (λ found. found ≡ None → AllByRecursion IsKeptWhole matters.now) }
+    ensures none { IfOk result (λ found. found ≡ None → AllByRecursion IsKeptWhole matters.now) }
+    ensures some { IfOk result (λ found. IfSome found (IsFlawedMatter matters.now)) }
 {
     for kept in matters {
         if !is_sound_whole(alloc, &kept.matter)? {
@@ -38,7 +40,8 @@ pub(crate) fn matters_flaw(
     alloc: Global,
     matters: &[KeptMatter],
 ) -> Result<Option<Flaw>, AllocError>
-    ensures { IfOk result (λ found. found ≡ None → AreKeptWhole matters.now) }
+    ensures sound { IfOk result (λ found. found ≡ None → AreKeptWhole matters.now) }
+    ensures flaw { IfOk result (λ found. IfSome found (IsMatterFlaw matters.now)) }
 {
     if let Some(place) = out_of_order(matters) {
         return Ok(Some(Flaw::Matter(matters[place].number)));

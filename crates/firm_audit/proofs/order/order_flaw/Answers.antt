@@ -5,5 +5,5 @@ use Rattle.firm_rows.proofs.Balances.{balance_total}
 use Rattle.firm_audit.proofs.Ascending.{sorted}
 use Rattle.firm_audit.proofs.order.order_flaw.Goals as goal
 
-pub returns-in_err-place : goal.returns-in_err-place
-returns-in_err-place c = search (rules, sorted, line_cmp, line_total, balance_cmp, balance_total)
+pub returns-in_err-place-clause-sound : goal.returns-in_err-place-clause-sound
+returns-in_err-place-clause-sound c = search (rules, sorted, line_cmp, line_total, balance_cmp, balance_total)
