@@ -13,6 +13,7 @@ pub mod Sorted
 pub mod Lasts
 pub mod Lists
 pub mod Open
+pub mod OfLists
 pub mod Retained
 pub mod Tidy
 pub mod Trial

@@ -1,5 +1,5 @@
 -- Days whose records are whole after a purge.
-use Rattle.firm_figures.proofs.Names.{◌≡◌, ℕ, Bool, true, false, List, Option, ap, subst, arith, IsSome, ◌||◌, nat_lt, filter, list_any, nat_tests, Head, Rows, purged_head, closed_on, Covered, Edit, IsPlace, MatterChange, changed_by, Row, Firm, after_change, after_edit, purged_by, entry_pairs, head_pairs, of, pairs, put, seat_pairs, IsClosedBy, IsPurge, PurgeChangesNoFigureLeft, PurgeChangesNoListLeft, is_day_after, is_period_purged, is_purged_after}
+use Rattle.firm_figures.proofs.Names.{◌≡◌, ℕ, Bool, false, List, Option, ap, subst, arith, IsSome, ◌||◌, nat_lt, filter, list_any, nat_tests, Head, Rows, purged_head, closed_on, Covered, Edit, IsPlace, MatterChange, changed_by, Row, Firm, after_change, after_edit, purged_by, entry_pairs, head_pairs, of, pairs, put, seat_pairs, IsClosedBy, IsPurge, PurgeChangesNoFigureLeft, PurgeChangesNoListLeft, is_day_after, is_period_purged, is_purged_after}
 use Rattle.std.proofs.lemmas.Bool.{false≢true}
 use Rattle.std.proofs.lemmas.List.Folds.{list_any-append}
 use Rattle.trust_matter.specs.edit.Edit.TheVariants as edit

@@ -9,6 +9,7 @@ ghost use Rattle.firm_figures.specs.Purged.{PurgeChangesNoFigure, PurgeChangesNo
 ghost use Rattle.firm_figures.specs.Reconciliations.{ReconciliationIsKept};
 ghost use Rattle.firm_figures.specs.Lists.{JournalIsKept, ListedAreOpen, ListsAlwaysAgree, TrialIsKept, TotalIsKept};
 ghost use Rattle.firm_figures.specs.Retained.{RetentionIsKept};
+ghost use Rattle.firm_figures.specs.OfLists.{SinksGiveTheSame};
 
 use trust_matter::laws::sound_is_covered;
 
@@ -85,4 +86,10 @@ pub fn trial_is_kept()
 /// What the retention sink stores from a firm's rows is the retention list.
 pub fn retention_is_kept()
     ensures { RetentionIsKept }
+{}
+
+/// Of all rows of a sound, countable firm, `finish` of the four sinks gives what `reconcile_at`, `trial_balance`,
+/// `journal_list` and `retention_list` give of the same rows in memory.
+pub fn sinks_give_the_same()
+    ensures { SinksGiveTheSame }
 {}

@@ -1,5 +1,5 @@
 //! A firm's figures as of a day and the lists that go with them, its journal, its trial balance and its retention list.
-//! Each is built from rows that arrive one at a time.
+//! Each is built from rows that arrive one at a time, or asked of rows in memory by one call.
 //!
 //! # What is promised
 //!
@@ -26,12 +26,19 @@
 //! - `laws` `lists_agree`: in every sound firm no sum so far of the journal is below zero, and the last is TOTAL.
 //! - `laws` `listed_are_open`: every matter of the trial balance is open.
 //! - `RetentionSink`; `laws` `retention_is_kept`: the closed matters with the day until which their records are kept.
+//! - `reconcile_at`, `trial_balance`, `journal_list`, `retention_list`: the same of rows in memory, each by one call.
+//!   An Ok has what the definitions say: the reconciliation or None (`told`), with figures that agree (`agree`); the
+//!   open matters, the firm's own balance and TOTAL (`lines`, `own`, `total`); the movements with the sums so far
+//!   (`lines`), none below zero (`covered`), the last of them TOTAL (`total`); the closed matters. The only error is
+//!   out of memory.
+//! - `laws` `sinks_give_the_same`: what `finish` of each sink gives of all rows of a sound firm is what these give.
 #![tactic(auto)]
 
 mod day_lists;
 mod figures;
 mod journal_sink;
 pub mod laws;
+mod of_lists;
 mod reconciliation;
 mod retention_sink;
 mod trial_sink;
@@ -40,6 +47,7 @@ pub use day_lists::{EntryLine, Issued, OpeningLine, ReconciliationLists};
 pub use figures::Figures;
 pub use firm_rows::Owner;
 pub use journal_sink::{JournalLine, JournalSink};
+pub use of_lists::{journal_list, reconcile_at, retention_list, trial_balance};
 pub use reconciliation::{Reconciliation, ReconciliationSink};
 pub use retention_sink::{RetentionLine, RetentionSink};
 pub use trial_sink::{TrialBalance, TrialLine, TrialSink};

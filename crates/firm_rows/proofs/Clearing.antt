@@ -1,6 +1,5 @@
 -- A firm stays sound where a matter is left without an entry and its movements go.
 use Rattle.firm_rows.proofs.Names.{◌≡◌, ◌≢◌, ℕ, zero, suc, ◌≤◌, Bool, true, false, not, cond, List, [], ◌∷◌, map, take, refl, sym, ap, ◌∙◌, subst, arith, pos, ◌≤ℤ◌, filter, AllByRecursion, ints, nat_tests, Entry, Rows, entry_at, last_of, ledger, events_in, Sound, Movement, Owner, Firm, of, is_of_matter, moved_without, purged_by, event_of, is_of_entry, is_of_firm, events_moved, days_moved, moved_for, AreMovedInTime, FirmSound, PurgedMovesNothing, PurgeLeavesOthers}
-use Rattle.firm_rows.specs.declared.movement.Owner.TheVariants as owner
 use Rattle.firm_rows.proofs.Changed.{each-matter, of-purged_by, of_other-purged_by}
 use Rattle.firm_rows.proofs.Order.{in_order-purged_by}
 

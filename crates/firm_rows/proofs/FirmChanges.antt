@@ -1,6 +1,5 @@
 -- Each change of a firm's rows changes those of one matter at most, and leaves a sound firm sound.
 use Rattle.firm_rows.proofs.Names.{◌≡◌, ℕ, Option, Some, None, arith, nat_tests, Line, Covered, as_firm_line, balance_row, Firm, of, after_change, with_firm_line, with_balance_row, OfMatter, Repeated, Unmatched, OfFirm, OfBalance, matched_by, FirmSound, IsInOrder, ChangesOne, StaysSound, StaysInOrder, LineFits}
-use Rattle.trust_matter.specs.declared.line_verdict.LineVerdict.TheVariants as verdict
 use Rattle.firm_rows.proofs.Balances.{balances-sorted}
 use Rattle.firm_rows.proofs.Changed.{changes-own, changes-no_other}
 use Rattle.firm_rows.proofs.Kept.{stays-sound}

@@ -1,5 +1,5 @@
 -- A change of a sound firm leaves it sound.
-use Rattle.firm_rows.proofs.Names.{◌≡◌, ◌≢◌, ℕ, ◌+◌, ◌≤◌, List, [], ◌∷◌, ◌++◌, map, take, Option, Some, None, sym, ap, ◌∙◌, subst, arith, rules, append-nil, length-append, inl, inr, pos, ◌+ℤ◌, ◌≤ℤ◌, ints, cases_lt, take-append-le, take_all, IsStrictlySortedBy, Edit, Rows, unopened, entry_at, last_of, ledger, events_in, Sound, Covered, MatterChange, IsChange, changed_by, movement_of, AreMoved, IsMovedWithin, IsPlace, Movement, Firm, empty_firm, of, joined_movement, moved_by, rewritten_by, after_edit, after_change, balance_of, events_moved, firm_events, line_event, days_moved, amount_for, moved_for, AreMovedInTime, FirmSound}
+use Rattle.firm_rows.proofs.Names.{◌≡◌, ◌≢◌, ℕ, ◌≤◌, List, [], ◌∷◌, ◌++◌, map, take, Option, Some, None, sym, ap, ◌∙◌, subst, arith, rules, append-nil, length-append, inl, inr, pos, ◌+ℤ◌, ◌≤ℤ◌, ints, cases_lt, take-append-le, take_all, IsStrictlySortedBy, Edit, Rows, unopened, entry_at, last_of, ledger, events_in, Sound, Covered, MatterChange, IsChange, changed_by, movement_of, AreMoved, IsMovedWithin, IsPlace, Movement, Firm, empty_firm, of, joined_movement, moved_by, rewritten_by, after_edit, after_change, balance_of, events_moved, firm_events, line_event, days_moved, amount_for, moved_for, AreMovedInTime, FirmSound}
 use Rattle.std.proofs.Math.Seq.{take-nil}
 use Rattle.trust_matter.specs.movement.EntryMovement as change
 use Rattle.firm_rows.proofs.Sums.{sum-append}

@@ -3,6 +3,7 @@ pub mod Balances
 pub mod Changed
 pub mod Clearing
 pub mod FirmChanges
+pub mod Handed
 pub mod InTime
 pub mod Joined
 pub mod Kept
@@ -13,5 +14,6 @@ pub mod OwnLines
 pub mod Solvent
 pub mod Sums
 pub mod Told
+pub mod Unsound
 pub mod LinesStay
 mod Names

@@ -1,7 +1,5 @@
 -- A line of the firm's own, and a balance, leave a sound firm sound.
 use Rattle.firm_rows.proofs.Names.{◌≡◌, ℕ, Bool, true, List, [], ◌∷◌, ◌++◌, length, take, sym, ap, ◌∙◌, subst, arith, append-nil, ℤ, pos, ◌+ℤ◌, ◌≤ℤ◌, ◌&&◌, nat_le, int_eq, ints, map-append, take_all, last_of, Movement, FirmLine, BalanceRow, balance_of, IsOwnBalance, is_own_balance, kept_balance, balance_verdict, Firm, of, own_movement, with_firm_line, with_balance_row, by_balance, events_moved, line_event, days_moved, amount_for, moved_for, AreMovedInTime, FirmSound, FirmLineFits, BalanceFits, nat_tests}
-use Rattle.firm_rows.specs.declared.ledger.Verdict.{Verdict}
-use Rattle.firm_rows.specs.declared.ledger.Verdict.TheVariants as told
 use Rattle.firm_rows.proofs.Sums.{sum-append}
 use Rattle.firm_rows.proofs.InTime.{RiseTo, days-append}
 use Rattle.firm_rows.proofs.Told.{events-append, firm-append}

@@ -1,11 +1,8 @@
 -- What a change moves is what its entry's events say, and what the ledger gains.
 use Rattle.firm_rows.proofs.Names.{◌≡◌, ◌≢◌, ℕ, ◌+◌, false, cond, List, [], ◌∷◌, ◌++◌, length, Option, Some, None, sym, ap, ◌∙◌, arith, append-nil, eqb, map, pos, ◌+ℤ◌, ◌-ℤ◌, ◌==◌, slice_get, ints, nat_tests, map-append, filter-append, Entry, Edit, Rows, entry_at, with_entry, ledger, Event, events_of, events_in, cancelling, payments, received, as_movement, edited, movement_of, events_by, AreMoved, IsPlace, Movement, joined_movement, sum_of, event_of, is_of_entry, is_of_firm, events_moved, firm_events, moved_for, ledger_share}
 use Rattle.std.specs.Prelude.{option_map}
-use Rattle.trust_matter.specs.entry.Entry.TheVariants as entry
 use Rattle.trust_matter.specs.deposit.DepositState.{DepositState}
-use Rattle.trust_matter.specs.deposit.DepositState.TheVariants as deposit
 use Rattle.trust_matter.specs.payment.PaymentState.{PaymentState}
-use Rattle.trust_matter.specs.payment.PaymentState.TheVariants as payment
 use Rattle.trust_matter.specs.edit.Numbered.{Numbered}
 use Rattle.trust_matter.specs.edit.Edit.TheVariants as edit
 use Rattle.trust_matter.specs.movement.EntryMovement as change
@@ -13,7 +10,6 @@ use Rattle.trust_matter.specs.Shares.{total_share, held_share, held_deposit, cle
 use Rattle.trust_matter.specs.Changes as changes
 use Rattle.trust_matter.proofs.Entries.{entry_at-append, entry_at-with, none-past}
 use Rattle.trust_matter.proofs.Sums.{total-append, total-with}
-use Rattle.firm_rows.specs.declared.movement.Owner.TheVariants as owner
 use Rattle.firm_rows.proofs.Changed.{IsNoPurge}
 use Rattle.firm_rows.proofs.Sums.{sum-append}
 

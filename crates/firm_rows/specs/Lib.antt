@@ -7,3 +7,5 @@ pub mod Journal
 pub mod Exceptions
 pub mod Countable
 pub mod LinesStay
+pub mod Handing
+pub mod Unsound

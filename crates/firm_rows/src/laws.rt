@@ -4,6 +4,7 @@ ghost use Rattle.firm_rows.specs.Exceptions.{WithLineAdds, WithoutLineTakes, Wit
 ghost use Rattle.firm_rows.specs.Firm.{empty_firm};
 ghost use Rattle.firm_rows.specs.FirmSound.{IsInOrder, FirmSound, ChangesOne, StaysSound, StaysInOrder, PurgedMovesNothing, PurgeLeavesOthers, LineFits, FirmLineFits, BalanceFits, SoundIsSolvent};
 ghost use Rattle.firm_rows.specs.LinesStay.{FirmLineIsKept, FirmLinesStay, BalanceIsKept, BalancesStay};
+ghost use Rattle.firm_rows.specs.Unsound.{SolventIsNotSound};
 
 use trust_matter::laws::sound_is_covered;
 
@@ -64,3 +65,9 @@ pub fn sound_is_solvent()
 {
     sound_is_covered();
 }
+
+/// The converse is false: there is a solvent firm, in order, that is not sound. It has two matters, one with 200.00 and
+/// one with 200.00 below zero, so that one client's money has paid another's debt.
+pub fn solvent_is_not_sound()
+    ensures { SolventIsNotSound }
+{}

@@ -21,14 +21,20 @@
 //!   amount; what is kept stays kept by every change that fits, purging too.
 //! - `laws` `sound_is_solvent`: the ledgers of all matters and the firm's own add up to at least zero and to what the
 //!   journal moved.
+//! - `laws` `solvent_is_not_sound`: the converse is false. Two matters, one below zero by what the other has, make a
+//!   firm that is in order and solvent, and not sound.
+//! - `hand_rows`, `hand_movements`, `hand_firm_lines`, `hand_lines`, `hand_balances`: a sink gets all rows of a slice
+//!   in order, or, if it runs out of memory, some first ones.
 #![tactic(auto)]
 
+mod handing;
 pub mod laws;
 mod ledger;
 mod limits;
 mod movement;
 mod sink;
 
+pub use handing::{hand_balances, hand_firm_lines, hand_lines, hand_movements, hand_rows};
 pub use ledger::{
     BalanceKind, BalanceRow, FirmLedger, FirmLine, Verdict, decide_balance, decide_firm_line,
     is_own_balance,

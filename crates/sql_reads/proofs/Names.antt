@@ -52,9 +52,9 @@ pub use Rattle.std.specs.List.{AllByRecursion, slice_get}
 pub use Rattle.trust_base.specs.declared.refusal.StoreFault.{StoreFault}
 pub use Rattle.trust_base.specs.declared.refusal.StoreFault.TheVariants.{Store}
 pub use Rattle.trust_store.proofs.KeptMatters.{firm_rows, joined-ranged}
-pub use Rattle.trust_store.proofs.Sinks.{all_more, begun, ended, kept-numbered, one_more, some_more}
-pub use Rattle.trust_store.specs.Books.{FoldsFront, HandedOver}
-pub use Rattle.trust_store.specs.Calls.{AreHanded}
+pub use Rattle.firm_rows.proofs.Handed.{all_more, begun, ended, one_more, some_more}
+pub use Rattle.trust_store.proofs.Sinks.{kept-numbered}
+pub use Rattle.firm_rows.specs.Handing.{AreHanded, FoldsFront, HandedOver}
 pub use Rattle.trust_store.specs.Kept.{IsKeptWhole, firm_of, joined, kept_pairs, rows_in, rows_kept}
 pub use Rattle.trust_store.specs.Named.{IsPartFor}
 pub use Rattle.sql_reads.specs.Fed.{AreCounted, IsFed}

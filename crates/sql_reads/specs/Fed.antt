@@ -8,7 +8,7 @@ use Rattle.sqlite.specs.State.{State, Shown, Begins}
 use Rattle.trust_base.specs.declared.refusal.StoreFault.{StoreFault}
 use Rattle.firm_rows.specs.Countable.{AreCountable}
 use Rattle.firm_rows.specs.Firm.{Firm}
-use Rattle.trust_store.specs.Books.{FoldsFront}
+use Rattle.firm_rows.specs.Handing.{FoldsFront}
 use Rattle.sql_schema.specs.declared.layout.Layout.{Layout}
 use Rattle.sql_tables.specs.Standing.{Stands}
 use Rattle.sql_rows.specs.Standing.{firm_in}

@@ -68,7 +68,7 @@ impl<K: MovementSink> RowTaking<K> for Movements {
 
 impl<K: MovementSink> Listing<K> for Movements {
     ghost use Rattle.firm_rows.specs.Countable.{IsMovementInRange};
-    ghost use Rattle.trust_store.specs.Calls.{AreHanded};
+    ghost use Rattle.firm_rows.specs.Handing.{AreHanded};
 
     ghost hands = { λ firm result old new. AreHanded K.moved IsMovementInRange firm.movements result old new };
 
@@ -100,7 +100,7 @@ impl<K: FirmLineSink> RowTaking<K> for FirmLines {
 
 impl<K: FirmLineSink> Listing<K> for FirmLines {
     ghost use Rattle.firm_rows.specs.Countable.{IsFirmLineInRange};
-    ghost use Rattle.trust_store.specs.Calls.{AreHanded};
+    ghost use Rattle.firm_rows.specs.Handing.{AreHanded};
 
     ghost hands = { λ firm result old new. AreHanded K.lined IsFirmLineInRange firm.firm_lines result old new };
 
@@ -132,7 +132,7 @@ impl<K: ExceptionSink> RowTaking<K> for Exceptions {
 
 impl<K: ExceptionSink> Listing<K> for Exceptions {
     ghost use Rattle.firm_rows.specs.Countable.{IsLineInRange};
-    ghost use Rattle.trust_store.specs.Calls.{AreHanded};
+    ghost use Rattle.firm_rows.specs.Handing.{AreHanded};
 
     ghost hands = { λ firm result old new. AreHanded K.noted IsLineInRange firm.exceptions result old new };
 
@@ -163,7 +163,7 @@ impl<K: BalanceSink> RowTaking<K> for Balances {
 
 impl<K: BalanceSink> Listing<K> for Balances {
     ghost use Rattle.firm_rows.specs.Countable.{IsBalanceInRange};
-    ghost use Rattle.trust_store.specs.Calls.{AreHanded};
+    ghost use Rattle.firm_rows.specs.Handing.{AreHanded};
 
     ghost hands = { λ firm result old new. AreHanded K.balanced IsBalanceInRange firm.balances result old new };
 

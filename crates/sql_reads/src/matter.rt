@@ -11,7 +11,7 @@ ghost use Rattle.matter_parts.specs.Parts.{IsWhole, kept_in};
 ghost use Rattle.matter_parts.specs.Audit.{IsSoundWhole};
 ghost use Rattle.firm_rows.specs.Countable.{IsRowInRange};
 ghost use Rattle.firm_rows.specs.Firm.{of};
-ghost use Rattle.trust_store.specs.Calls.{AreHanded};
+ghost use Rattle.firm_rows.specs.Handing.{AreHanded};
 ghost use Rattle.trust_store.specs.Named.{IsPartFor};
 ghost use Rattle.sql_schema.specs.declared.layout.Layout.{Layout};
 ghost use Rattle.sql_tables.specs.Lists.{lists_in};

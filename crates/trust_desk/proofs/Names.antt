@@ -77,7 +77,8 @@ pub use Rattle.trust_reports.specs.TextsOfLedgers.{ledger_card, own_card_text}
 pub use Rattle.trust_reports.specs.TextsOfLists.{exception_line, exceptions_text, journal_text, retention_text, trial_text}
 pub use Rattle.trust_store.proofs.Named.{line-held, named-held}
 pub use Rattle.trust_store.specs.Books.{counted, counted_fault}
-pub use Rattle.trust_store.specs.Calls.{AreHanded, IsRead, IsWrite, IsWriteIf}
+pub use Rattle.firm_rows.specs.Handing.{AreHanded}
+pub use Rattle.trust_store.specs.Calls.{IsRead, IsWrite, IsWriteIf}
 pub use Rattle.trust_desk.specs.Answered.{IsAnswered}
 pub use Rattle.trust_desk.specs.Applied.{IsItemApplied, IsImported}
 pub use Rattle.trust_desk.specs.Beside.{AgreesWith, IsAppliedBeside, KeepsBeside, StandsBeside, beside, lines_after}

@@ -1,6 +1,6 @@
 -- The names that the proofs of this crate cite, passed on from one place. Declares nothing.
 pub use Rattle.firm_rows.proofs.Ordered.{absent-at, all-append, found-at, rises}
-pub use Rattle.firm_rows.specs.Countable.{IsBalanceInRange, IsFirmLineInRange, IsLineInRange, IsMovementInRange, IsRowInRange, MOST_ROWS}
+pub use Rattle.firm_rows.specs.Countable.{IsRowInRange, MOST_ROWS}
 pub use Rattle.firm_rows.specs.Firm.{EntryRow, Firm, Row, SeatRow, after_change, among, empty_firm, entry_pairs, head_pairs, joined_movement, kept_movements, moved_by, moved_without, of, own_movement, pairs, put, rows_of, seat_pairs, with_line, without_line}
 pub use Rattle.firm_rows.specs.FirmChange.{FirmChange, OfMatter}
 pub use Rattle.firm_rows.specs.FirmLines.{IsOwnBalance, as_firm_line, balance_cmp, balance_of, kept_balance, with_balance}
@@ -26,10 +26,9 @@ pub use Rattle.std.specs.List.{AllByRecursion}
 pub use Rattle.std.specs.List.Sorted.{IsBinarySearchResult, IsNonDecreasingBy, IsSearchInRange}
 unfoldable pub use Rattle.std.specs.List.Sorted.{IsStrictlySortedBy}
 pub use Rattle.std.specs.Prelude.{IsSome, insert, nat_lt, slice_get, ◌==◌, ◌||◌}
-pub use Rattle.trust_base.specs.Limits.{IsBankAmount}
 pub use Rattle.trust_base.specs.LineOrder.{line_cmp}
 pub use Rattle.trust_base.specs.declared.line.Line.{Line}
-pub use Rattle.trust_store.specs.Books.{HandedOver}
+pub use Rattle.firm_rows.specs.Handing.{HandedOver}
 pub use Rattle.trust_store.specs.Calls.{IsWrite, IsWriteIf}
 pub use Rattle.trust_store.specs.Kept.{AreKept, AreKeptWhole, Ascends, IsBefore, IsKeptAs, IsKeptWhole, StandsAt, WouldStandAt, firm_of, joined, kept_pairs, matters_with, place, rows_in, rows_kept, seek, told}
 pub use Rattle.trust_store.specs.Named.{IsPartFor, LineIsHeld, NamedAreHeld, drawn_on, is_named, is_number}

@@ -1,10 +1,9 @@
 -- What each read and each write of a book leaves, whatever else it returns.
-use Rattle.std.specs.Prelude.{◌≡◌, ℕ, List, OnOk, OnErr, Result, fold}
+use Rattle.std.specs.Prelude.{◌≡◌, ℕ, OnOk, OnErr, Result}
 use Rattle.trust_base.specs.declared.refusal.StoreFault.{StoreFault}
-use Rattle.firm_rows.specs.Countable.{AreCountable}
 use Rattle.firm_rows.specs.Firm.{Firm}
 use Rattle.firm_rows.specs.FirmChange.{FirmChange, after}
-use Rattle.trust_store.specs.Books.{FoldsFront, counted}
+use Rattle.trust_store.specs.Books.{counted}
 use Rattle.trust_store.specs.Crashes.{LeavesBefore, LeavesOr, LeavesAlone}
 use Rattle.trust_store.specs.Seen.{Seen}
 
@@ -55,10 +54,3 @@ pub record IsWriteIf {T : Type 0} (fits : Type 0) (change : FirmChange) (result 
   pub settled : new.sure → old.stands → fits
       → OnOk result (LeavesAlone old.firm old.leaves → LeavesAlone (after change old.firm) new.leaves)
   pub count : new.refusals ≡ counted result old.refusals
-
--- a sink received all of the rows, fewer than 2^64 with amounts in range; on an error, only a prefix of them
-pub record AreHanded {S A T E : Type 0} (step : S → A → S) (IsInRange : A → Type 0) (rows : List A)
-    (result : Result T E) (old new : S) : Type 0 where
-  pub all : OnOk result (new ≡ fold step old rows)
-  pub some : FoldsFront step old rows new
-  pub countable : OnOk result (AreCountable IsInRange rows)

@@ -8,7 +8,8 @@ ghost use Rattle.firm_rows.specs.Firm.{Firm, of};
 ghost use Rattle.firm_rows.specs.FirmChange.{OfMatter, Repeated, Unmatched, FitsFirm, by_line, by_firm_line, by_balance};
 ghost use Rattle.firm_rows.specs.FirmLines.{kept_balance};
 ghost use Rattle.firm_rows.specs.FirmSound.{IsVerdictOn, IsFirmVerdict, IsBalanceVerdict};
-ghost use Rattle.trust_store.specs.Calls.{IsRead, IsWrite, IsWriteIf, AreHanded};
+ghost use Rattle.firm_rows.specs.Handing.{AreHanded};
+ghost use Rattle.trust_store.specs.Calls.{IsRead, IsWrite, IsWriteIf};
 ghost use Rattle.trust_store.specs.Kept.{firm_of_all};
 ghost use Rattle.trust_store.specs.Named.{IsPartFor};
 

@@ -8,8 +8,7 @@ ghost use Rattle.firm_rows.specs.Countable.{IsRowInRange, MOST_ROWS};
 ghost use Rattle.firm_rows.specs.Firm.{empty_firm, of, joined_movement, kept_movements, moved_without, is_of_matter, pairs, head_pairs, seat_pairs, after_change, after_stray, after_match, own_movement, with_firm_line, with_balance_row};
 ghost use Rattle.firm_rows.specs.FirmLines.{IsOwnBalance, balance_of, as_firm_line, balance_row, kept_balance};
 ghost use Rattle.firm_rows.specs.FirmSound.{FirmSound};
-ghost use Rattle.trust_store.specs.Books.{FoldsFront};
-ghost use Rattle.trust_store.specs.Calls.{AreHanded};
+ghost use Rattle.firm_rows.specs.Handing.{AreHanded, FoldsFront};
 ghost use Rattle.trust_store.specs.Named.{IsPartFor};
 ghost use Rattle.trust_store.specs.Kept.{Ascends, AreKeptWhole, IsKeptAs, joined, kept_pairs, rows_kept, rows_in, seek};
 
@@ -17,11 +16,11 @@ use crate::Book;
 use crate::all_rows::{AllRows, copies};
 use crate::balances::{add_balance, balance_kept};
 use crate::exceptions::{add_line, remove_line};
-use crate::handing::{hand_balances, hand_firm_lines, hand_lines, hand_movements};
 use firm_rows::laws::{firm_stays_sound, verdicts_fit};
 use firm_rows::{
     BalanceKind, BalanceRow, BalanceSink, ExceptionSink, FirmLedger, FirmLine, FirmLineSink,
-    MAX_OWN, Movement, MovementSink, Owner, RowSink, Verdict,
+    MAX_OWN, Movement, MovementSink, Owner, RowSink, Verdict, hand_balances, hand_firm_lines,
+    hand_lines, hand_movements,
 };
 use std::alloc::{AllocError, Global};
 use std::marker::Model;
@@ -148,16 +147,16 @@ impl PlainBook {
 
 impl Book for PlainBook {
     ghost seen = { λ b. record {
-        firm = b;
-        clean = Unit {0};
-        sure = Unit {0};
-        stands = FirmSound b;
-        readable = Unit {0};
-        lasts = Unit {0};
-        leaves = λ _. ⊥;
-        refusals = 0;
-        sound = λ sound. sound;
-        clean_is_sure = λ clean. clean;
+      firm = b;
+      clean = Unit {0};
+      sure = Unit {0};
+      stands = FirmSound b;
+      readable = Unit {0};
+      lasts = Unit {0};
+      leaves = λ _. ⊥;
+      refusals = 0;
+      sound = λ sound. sound;
+      clean_is_sure = λ clean. clean;
     } };
 
     fn matter(&mut self, alloc: Global, matter: MatterNo) -> Result<Matter, StoreFault> {

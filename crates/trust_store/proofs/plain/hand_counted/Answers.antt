@@ -1,6 +1,6 @@
 use Rattle.trust_store.proofs.Names.{arith, on_ok_weaker, joined}
 use Rattle.trust_store.proofs.KeptMatters.{joined-ranged}
-use Rattle.trust_store.proofs.Sinks.{begun}
+use Rattle.firm_rows.proofs.Handed.{begun}
 use Rattle.trust_store.proofs.plain.hand_counted.Goals as goal
 
 pub returns-in-Some : goal.returns-in-Some

@@ -1,6 +1,8 @@
-use Rattle.trust_store.proofs.Names.{arith, subst, IsBankAmount, IsBalanceInRange}
-use Rattle.trust_store.proofs.Sinks.{next_handed}
-use Rattle.trust_store.proofs.handing.hand_balances.Goals as goal
+use Rattle.firm_rows.proofs.Names.{arith, subst}
+use Rattle.trust_base.specs.Limits.{IsBankAmount}
+use Rattle.firm_rows.specs.Countable.{IsBalanceInRange}
+use Rattle.firm_rows.proofs.Handed.{next_handed}
+use Rattle.firm_rows.proofs.handing.hand_balances.Goals as goal
 
 pub loop-row-preserved : goal.loop-row-preserved
 loop-row-preserved g c =

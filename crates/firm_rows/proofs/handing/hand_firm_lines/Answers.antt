@@ -1,6 +1,8 @@
-use Rattle.trust_store.proofs.Names.{arith, subst, IsBankAmount, IsFirmLineInRange}
-use Rattle.trust_store.proofs.Sinks.{next_handed}
-use Rattle.trust_store.proofs.handing.hand_firm_lines.Goals as goal
+use Rattle.firm_rows.proofs.Names.{arith, subst}
+use Rattle.trust_base.specs.Limits.{IsBankAmount}
+use Rattle.firm_rows.specs.Countable.{IsFirmLineInRange}
+use Rattle.firm_rows.proofs.Handed.{next_handed}
+use Rattle.firm_rows.proofs.handing.hand_firm_lines.Goals as goal
 
 pub loop-line-preserved : goal.loop-line-preserved
 loop-line-preserved g c =

@@ -1,6 +1,7 @@
-use Rattle.trust_store.proofs.Names.{arith, IsMovementInRange}
-use Rattle.trust_store.proofs.Sinks.{next_handed}
-use Rattle.trust_store.proofs.handing.hand_movements.Goals as goal
+use Rattle.firm_rows.proofs.Names.{arith}
+use Rattle.firm_rows.specs.Countable.{IsMovementInRange}
+use Rattle.firm_rows.proofs.Handed.{next_handed}
+use Rattle.firm_rows.proofs.handing.hand_movements.Goals as goal
 
 pub loop-movement-preserved : goal.loop-movement-preserved
 loop-movement-preserved g c =
