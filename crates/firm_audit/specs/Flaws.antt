@@ -14,6 +14,7 @@ use Rattle.firm_rows.specs.declared.ledger.FirmLine.{FirmLine}
 use Rattle.firm_rows.specs.FirmLines.{IsOwnBalance, balance_cmp, balance_of}
 use Rattle.firm_rows.specs.Firm.{Firm, of}
 use Rattle.firm_rows.specs.Journal.{events_moved, firm_events, line_event}
+use Rattle.firm_rows.specs.FirmSound.{FirmSound}
 use Rattle.trust_store.specs.declared.all_rows.AllRows.{AllRows}
 use Rattle.trust_store.specs.declared.plain.KeptMatter.{KeptMatter}
 use Rattle.trust_store.specs.Kept.{AreKept, IsKeptWhole, firm_of_all, rows_kept}
@@ -111,6 +112,10 @@ IsMatterFlaw ks (flaw.Balance n) = ⊥
 -- the flaw is there, in all rows as they were read
 abbrev pub IsFlawIn : AllRows → Flaw → Type 0
 IsFlawIn rows f = IsMatterFlaw rows.matters.items f ⊎ IsFlawOf (firm_of_all rows) f
+
+-- a firm that has a flaw is not sound
+abbrev pub FlawedIsUnsound : Type 0
+FlawedIsUnsound = (firm : Firm) (f : Flaw) → IsFlawOf firm f → ¬ FirmSound firm
 
 -- each matter is complete and sound, sorted by number, and all rows are those of a sound firm
 abbrev pub AreSound : AllRows → Type 0

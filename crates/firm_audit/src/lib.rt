@@ -6,6 +6,7 @@
 //!
 //! - `audit`: of all rows of a firm, from whatever book they were read: **it finds no flaw exactly if they are those of
 //!   a sound firm**, each matter complete (`sound`). A flaw that it finds is there (`flaw`, by `IsFlawIn`).
+//! - `laws` `flawed_is_unsound`: a firm that has a flaw is not sound.
 //! - `Err` is out of memory. No clause says that there was too little.
 #![tactic(auto)]
 
@@ -13,6 +14,7 @@ mod event;
 mod firm;
 mod flaw;
 mod journal;
+pub mod laws;
 mod matter_journal;
 mod matters;
 mod order;
