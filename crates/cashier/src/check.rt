@@ -140,6 +140,7 @@ fn found_of(checked: Checked) -> CheckFound
 }
 
 // Checks the rows of a desk's book on a business day.
+#[tactic(auto, using(trust_desk::proofs::Calls::reads_of_read))]
 fn find_flaw<B: Book>(
     alloc: Global,
     desk: &mut Desk<B>,

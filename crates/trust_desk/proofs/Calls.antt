@@ -3,10 +3,15 @@ use Rattle.std.specs.Prelude.{◌≡◌, ℕ, Result, Ok, Err, false}
 use Rattle.trust_desk.proofs.Names.{Seen, ◌∙◌, refl, is_fault, Refusal, StoreFault, Firm, FirmChange, counted, IsRead, IsWrite, Body, KeepsBook, counted_body, counted_refusal, is_fault_body, arith, ints, nat_tests}
 use Rattle.trust_base.specs.declared.refusal.Refusal.TheVariants as refusal
 use Rattle.trust_base.specs.declared.refusal.StoreFault.TheVariants as faults
+use Rattle.trust_desk.specs.Checking.{AreReads}
 use Rattle.trust_desk.specs.declared.requests.Body.TheVariants as body
 
 pub read-kept : {T : Type 0} {result : Result T StoreFault} {old new : Seen} → IsRead result old new → KeepsBook (counted result) old new
 read-kept read = record { was_clean = read.was_clean; was_sure = read.was_sure; still_stands = read.still_stands; still_lasts = λ sure _ lasts. read.still_lasts sure lasts; cause = λ sure stands. read.count }
+
+-- a read is a series of reads
+pub reads_of_read : {T : Type 0} {result : Result T StoreFault} {old new : Seen} → IsRead result old new → AreReads old new
+reads_of_read {new} read = record { same = read.same; was_clean = read.was_clean; was_sure = read.was_sure; still_stands = read.still_stands; still_lasts = read.still_lasts; crash = λ clean stands. read.crash (new.clean_is_sure clean) stands }
 
 pub write-kept : {T : Type 0} {change : FirmChange} {result : Result T StoreFault} {old new : Seen} → IsWrite change result old new → KeepsBook (counted result) old new
 write-kept write = record { was_clean = write.was_clean; was_sure = write.was_sure; still_stands = write.still_stands; still_lasts = write.still_lasts; cause = λ sure stands. write.count }

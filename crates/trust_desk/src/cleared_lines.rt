@@ -331,6 +331,7 @@ impl<B: Book> Desk<B> {
     /// told.
     ///
     /// Returns `Store` if the book's store failed, and `Memory` if memory ran out.
+    #[tactic(auto, using(crate::proofs::Calls::reads_of_read))]
     pub fn tell_earlier<V: EarlierWatch>(
         &mut self,
         alloc: Global,

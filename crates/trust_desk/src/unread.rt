@@ -157,6 +157,7 @@ fn is_answered<T: Drop>(read: Result<T, StoreFault>) -> Result<bool, StoreFault>
 }
 
 // Whether the rows of a matter are the whole of sound ones.
+#[tactic(auto, using(crate::proofs::Calls::reads_of_read))]
 fn is_whole<B: Book>(alloc: Global, book: &mut B, matter: MatterNo) -> Result<bool, StoreFault>
     ensures { AreReads (B.seen book.old) (B.seen book.new) }
 {
@@ -165,6 +166,7 @@ fn is_whole<B: Book>(alloc: Global, book: &mut B, matter: MatterNo) -> Result<bo
 }
 
 // Whether the head and the seats of a matter can be read.
+#[tactic(auto, using(crate::proofs::Calls::reads_of_read))]
 fn has_front<B: Book>(alloc: Global, book: &mut B, matter: MatterNo) -> Result<bool, StoreFault>
     ensures { AreReads (B.seen book.old) (B.seen book.new) }
 {
@@ -191,6 +193,7 @@ fn row_after<B: Book>(
 }
 
 // Returns the row of a matter that can't be read, if there is one.
+#[tactic(auto, using(crate::proofs::Calls::reads_of_read))]
 fn unread_row<B: Book>(
     alloc: Global,
     book: &mut B,
@@ -236,6 +239,7 @@ fn unread_of_matters<B: Book>(alloc: Global, book: &mut B) -> Result<Option<Unre
 }
 
 // Returns which row of the journal, of the firm's own lines, of the exceptions or of the balances can't be read.
+#[tactic(auto, using(crate::proofs::Calls::reads_of_read))]
 fn unread_of_firm<B: Book>(book: &mut B) -> Result<Unread, StoreFault>
     ensures { AreReads (B.seen book.old) (B.seen book.new) }
 {
@@ -292,6 +296,7 @@ fn ask_again<B: Book>(
 }
 
 // Returns which part of a book can't be read, if its store still works.
+#[tactic(auto, using(crate::proofs::Calls::reads_of_read))]
 fn find_unread<B: Book>(alloc: Global, book: &mut B, day: Day) -> Result<Unread, StoreFault>
     ensures reads { AreReads (B.seen book.old) (B.seen book.new) }
     ensures serves { (B.seen book.new).sure → OnOk result (B.seen book.new).clean }

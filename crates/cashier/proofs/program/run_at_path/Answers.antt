@@ -30,5 +30,5 @@ returns-clause-ran g c = λ words means.
       read = c.tell_of_rows.ensures;
       put = c.put_back-put.result;
       left = rw c.into_book.ensures at c.put_back-put.ensures.put;
-      outcome = c.outcome_put_back-outcome.ensures;
+      outcome = c.outcome_put_back.ensures;
     })
