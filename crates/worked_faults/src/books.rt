@@ -10,6 +10,7 @@ use crate::pieces::{
 };
 use crate::refusing::RefusingBook;
 use crate::sheets::{OPENING, STRAY_LINES, STRAYS};
+use crate::streams::AMONG_OTHERS;
 use crate::trial::TrialWriter;
 use portal_http::{Input, Next, Routes, read_message, request_of, write_reply};
 use std::alloc::Global;
@@ -166,6 +167,11 @@ fn a_run_goes_on_after_a_refused_write(rt: HostRuntime) {
     for (what, nth, messages) in REFUSED {
         assert!(rt; is_run(rt.alloc(), *nth, messages), "{what}");
     }
+}
+
+#[test]
+fn a_run_of_a_streams_requests_gives_its_replies(rt: HostRuntime) {
+    assert!(rt; is_run(rt.alloc(), 0, AMONG_OTHERS.pieces));
 }
 
 // What is given, after some messages, over a book that refuses the write with this number: the text and its answer at

@@ -16,7 +16,11 @@ mod clock;
 #[cfg(test)]
 mod closes;
 #[cfg(test)]
+mod days;
+#[cfg(test)]
 mod ends;
+#[cfg(test)]
+mod figures;
 #[cfg(test)]
 mod files;
 #[cfg(test)]

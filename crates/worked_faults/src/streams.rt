@@ -18,9 +18,9 @@ const ALONE: Trial = Trial {
     most: 3,
 };
 
-// The same messages, with an opening, deposits, refused requests and statements of a second matter before, between
-// and after them.
-const AMONG_OTHERS: Trial = Trial {
+/// The same messages, with an opening, deposits, refused requests and statements of a second matter before, between
+/// and after them.
+pub(crate) const AMONG_OTHERS: Trial = Trial {
     pieces: &[
         OTHER_OPEN,
         OTHER_SKIPPED,
