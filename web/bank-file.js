@@ -1,8 +1,9 @@
-// The bank's file, and the references that the cashier typed into its lines. Both are kept in the browser until the
-// file is imported or put away. The file itself is never changed: what is sent is the file with what was typed.
+// The bank's file, and what the cashier decided of its lines: a reference that was typed or chosen, the entries that a
+// line was split over, or that it is left. All of it is kept in the browser until the file is imported or put away. The
+// file itself is never changed: what is sent is the file with what was decided.
 
 import { bytesOf, recordsOf, textOf, wordsOf } from './csv.js';
-import { FILE, TYPED } from './shelf.js';
+import { FILE, LEFT, PARTS, TYPED } from './shelf.js';
 
 export const NAMES = ['date', 'reference', 'bank_ref', 'amount', 'text'];
 
@@ -32,6 +33,8 @@ export class BankFile {
         this.records = recordsOf(text).slice(1);
         this.lines = linesIn(this.records);
         this.typed = new Map(shelf.read(TYPED));
+        this.parts = new Map(shelf.read(PARTS));
+        this.left = new Set(shelf.read(LEFT));
     }
 
     // The file that the browser keeps, or null.
@@ -40,30 +43,62 @@ export class BankFile {
         return file ? new BankFile(shelf, file.name, file.text) : null;
     }
 
-    // A file that was chosen is kept in the place of another one. Chosen again, it still has what was typed into it.
-    static async chosen(shelf, file) {
-        const text = textOf(new Uint8Array(await file.arrayBuffer()));
-        const made = new BankFile(shelf, file.name, text);
-        if (shelf.read(FILE)[0]?.text !== text) made.forget();
-        shelf.write(FILE, [{ name: file.name, text }]);
-        return made;
+    // A file's text is kept in the place of another one. Taken again, it still has what was decided of its lines.
+    static taken(shelf, name, text) {
+        if (shelf.read(FILE)[0]?.text !== text) forgetDecided(shelf);
+        shelf.write(FILE, [{ name, text }]);
+        return new BankFile(shelf, name, text);
+    }
+
+    // The same of a file that was chosen.
+    static chosen(shelf, name, bytes) {
+        return BankFile.taken(shelf, name, textOf(bytes));
     }
 
     forget() {
         this.shelf.write(FILE, []);
-        this.untype();
+        this.left.clear();
+        this.unname();
     }
 
-    // As it was typed, whether it is a reference yet or not; nothing where it is empty.
+    // As it was typed, whether it is a reference yet or not; nothing where it is empty. One thing is decided of a line.
     type(number, typed) {
+        this.parts.delete(number);
+        this.left.delete(number);
         if (typed.trim()) this.typed.set(number, typed);
         else this.typed.delete(number);
-        this.shelf.write(TYPED, [...this.typed]);
+        this.keep();
     }
 
-    untype() {
+    // Parts have a reference and an amount each, and together the line's amount.
+    split(number, parts) {
+        this.type(number, '');
+        this.parts.set(number, parts);
+        this.keep();
+    }
+
+    leave(number) {
+        this.type(number, '');
+        this.left.add(number);
+        this.keep();
+    }
+
+    keep() {
+        this.shelf.write(TYPED, [...this.typed]);
+        this.shelf.write(PARTS, [...this.parts]);
+        this.shelf.write(LEFT, [...this.left]);
+    }
+
+    // What was named has done its work. A line that was left stays so.
+    unname() {
         this.typed.clear();
-        this.shelf.write(TYPED, []);
+        this.parts.clear();
+        this.keep();
+    }
+
+    // Whether a line was named here, by a reference or by its parts.
+    isNamed(number) {
+        return this.typed.has(number) || this.parts.has(number);
     }
 
     // A line's reference as it is sent; what is typed and no reference yet is not.
@@ -71,20 +106,39 @@ export class BankFile {
         return this.typed.has(number) ? readReference(this.typed.get(number)) ?? reference : reference;
     }
 
-    // How many lines would be exceptions, since they have no reference.
-    countOpen() {
-        return this.lines.filter((line) => line.isWhole && !this.referenceOf(line)).length;
+    // The lines in the order in which they are sent: a line that is split is sent as its parts, of its own number.
+    sent() {
+        return this.lines.flatMap((line) => this.parts.get(line.number)?.map((part) => ({ ...line, ...part }))
+            ?? [{ ...line, reference: line.isWhole ? this.referenceOf(line) : line.reference }]);
     }
 
-    // Its bytes, with what was typed in the place of its second field.
+    // How many lines would be exceptions, since they have no reference.
+    countOpen() {
+        return this.sent().filter((line) => line.isWhole && !line.reference).length;
+    }
+
+    // A record as its parts: each has the day, the bank's reference and the words as they stand in the file.
+    partsText(number) {
+        const [day, , bankRef, , words] = this.records[number - 1].map(({ from, to }) => this.text.slice(from, to));
+        return this.parts.get(number).map((part) => [day, part.reference, bankRef, part.amount, words].join(','))
+            .join('\n');
+    }
+
+    // Its bytes, with what was typed in the place of a record's second field, and the parts in that of a whole one.
     bytes() {
-        const parts = [];
+        const changed = [];
         let last = 0;
-        for (const line of this.lines.filter(({ number }) => this.typed.has(number))) {
-            const { from, to } = this.records[line.number - 1][1];
-            parts.push(this.text.slice(last, from), this.referenceOf(line));
+        for (const line of this.lines.filter(({ number }) => this.isNamed(number))) {
+            const fields = this.records[line.number - 1];
+            const isParted = this.parts.has(line.number);
+            const { from, to } = isParted ? { from: fields[0].from, to: fields.at(-1).to } : fields[1];
+            changed.push(this.text.slice(last, from), isParted ? this.partsText(line.number) : this.referenceOf(line));
             last = to;
         }
-        return bytesOf(parts.join('') + this.text.slice(last));
+        return bytesOf(changed.join('') + this.text.slice(last));
     }
+}
+
+function forgetDecided(shelf) {
+    for (const name of [TYPED, PARTS, LEFT]) shelf.write(name, []);
 }

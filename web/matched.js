@@ -1,7 +1,7 @@
 // What the desk tells of a bank's file: the statement that an import takes, and what is left of it.
 
 import { linesOf, NAMES } from './bank-file.js';
-import { textOf } from './csv.js';
+import { bytesOf, recordsOf, textOf } from './csv.js';
 
 const MATCH = '/firm/statements/match';
 const UNMATCHED = '/firm/statements/unmatched';
@@ -28,11 +28,10 @@ class Tally {
 }
 
 // The lines that are written, each with who named it: the file (`''`), the cashier (`typed`), or the desk (`filled`).
-function readWritten(text, file) {
-    const named = file.lines.filter((line) => !file.typed.has(line.number));
-    const typed = file.lines.filter((line) => file.typed.has(line.number));
-    const inFile = new Tally(named.map((line) => keyOf(line, line.reference)));
-    const inBrowser = new Tally(typed.map((line) => keyOf(line, file.referenceOf(line))));
+function readWritten(text, file, sent) {
+    const keysOf = (lines) => lines.map((line) => keyOf(line, line.reference));
+    const inFile = new Tally(keysOf(sent.filter(({ number }) => !file.isNamed(number))));
+    const inBrowser = new Tally(keysOf(sent.filter(({ number }) => file.isNamed(number))));
     const by = (key) => {
         if (inFile.take(key)) return '';
         return inBrowser.take(key) ? 'typed' : 'filled';
@@ -54,19 +53,19 @@ function reasonOf(told, line) {
 
 // Of a record that is no line only its number is told. `line` is null where the file has none of the number; then
 // nothing can be typed into it.
-function readTold(text, file) {
+function readTold(text, sent) {
     const [, number, mark, told] = TOLD.exec(text) ?? [null, '0', ': ', text];
-    const line = file.lines[Number(number) - 1] ?? null;
+    const line = sent[Number(number) - 1] ?? null;
     return { line, reason: mark === ': ' ? told : reasonOf(told, line) };
 }
 
 // The counts stand in the last line. Lines are split by the line feed alone: the others may stand in the bank's words.
-function readLeft(text, file) {
+function readLeft(text, sent) {
     const lines = text.trimEnd().split('\n');
     const counts = COUNTS.exec(lines.at(-1));
     if (!counts) throw new Error(`no counts: ${lines.at(-1)}`);
     const [written, inBook, left] = counts.slice(1).map(Number);
-    return { written, inBook, left, told: lines.slice(0, -1).map((each) => readTold(each, file)) };
+    return { written, inBook, left, told: lines.slice(0, -1).map((each) => readTold(each, sent)) };
 }
 
 async function askBoth(page, file) {
@@ -80,8 +79,9 @@ export async function matchFile(page, file) {
     for (let tries = 2; ; tries -= 1) {
         const { statement, unmatched } = await askBoth(page, file);
         if (!unmatched.isDone) return { refused: unmatched };
-        const lines = readWritten(textOf(statement.bytes), file);
-        const left = readLeft(unmatched.text, file);
+        const sent = file.sent();
+        const lines = readWritten(textOf(statement.bytes), file, sent);
+        const left = readLeft(unmatched.text, sent);
         if (left.written === lines.length || tries === 0) return { bytes: statement.bytes, lines, ...left };
     }
 }
@@ -91,15 +91,66 @@ const quoted = (words) => `"${words.replaceAll('"', '""')}"`;
 const recordOf = ({ date, reference, bank_ref: number, amount, text }) =>
     [date, reference, number, amount, text].map(quoted).join(',');
 
-// Why each of these lines matches nothing: null for all where the desk does not tell, empty for one that would be
-// applied or that is the firm's own.
+const bodyOf = (fields) => new TextEncoder().encode([NAMES.join(','), ...fields.map(recordOf)].join('\n'));
+
+const wholeLines = (fields) => fields.map((each) => ({ ...each, isWhole: true }));
+
+// What the desk tells of each of these lines: null for all where it does not, empty for one that would be applied or
+// that is the firm's own.
 export async function reasonsOf(page, fields) {
-    const body = [NAMES.join(','), ...fields.map(recordOf)].join('\n');
-    const answer = await page.desk.post(UNMATCHED, new TextEncoder().encode(body));
+    const answer = await page.desk.post(UNMATCHED, bodyOf(fields));
     if (!answer.isDone) return fields.map(() => null);
-    const lines = fields.map((each) => ({ ...each, isWhole: true }));
-    const reasons = new Map(readLeft(answer.text, { lines }).told.map(({ line, reason }) => [line, reason]));
+    const lines = wholeLines(fields);
+    const reasons = new Map(readLeft(answer.text, lines).told.map(({ line, reason }) => [line, reason]));
     return lines.map((line) => reasons.get(line) ?? '');
+}
+
+const lineKey = ({ date, bank_ref: number, amount }) => JSON.stringify([date, number, amount]);
+
+// A file of these lines without their references, in which each stands once.
+export function openFile(fields) {
+    const once = new Map(fields.map((each) => [lineKey(each), { ...each, reference: '' }]));
+    return bodyOf([...once.values()]);
+}
+
+// Whether the book has each of these lines, under whatever reference: without one it is then neither written nor told.
+// False for all where the desk does not tell.
+export async function areInBook(page, fields) {
+    if (!fields.length) return [];
+    const body = openFile(fields);
+    const statement = await page.desk.post(MATCH, body);
+    const unmatched = await page.desk.post(UNMATCHED, body);
+    if (!statement.isDone || !unmatched.isDone) return fields.map(() => false);
+    const told = readLeft(unmatched.text, linesOf(textOf(body))).told.map(({ line }) => line).filter(Boolean);
+    const open = new Set([...linesOf(textOf(statement.bytes)), ...told].map(lineKey));
+    return fields.map((each) => !open.has(lineKey(each)));
+}
+
+// A statement without some of its records, which are numbered from 1.
+function without(bytes, numbers) {
+    const text = textOf(bytes);
+    const records = recordsOf(text);
+    const startOf = (number) => records[number]?.[0].from ?? text.length;
+    const kept = records.flatMap((_, number) =>
+        (numbers.has(number) ? [] : [text.slice(startOf(number), startOf(number + 1))]));
+    return bytesOf(kept.join(''));
+}
+
+// Takes lines out of what would be imported: `isOut` says of a line whether it is. They are to be looked at then, for
+// the reason that `reasonOfLine` gives.
+export function takeOut(found, file, isOut, reasonOfLine) {
+    const out = found.lines.filter(isOut);
+    const open = file.sent().filter(({ isWhole, reference }) => isWhole && !reference);
+    const told = out.map((line) => ({ line: open.find((each) => lineKey(each) === lineKey(line)) ?? line,
+        reason: reasonOfLine(line) }));
+    return {
+        ...found,
+        bytes: without(found.bytes, new Set(out.map(({ number }) => number))),
+        lines: found.lines.filter((line) => !isOut(line)),
+        written: found.written - out.length,
+        left: found.left + out.length,
+        told: [...found.told, ...told],
+    };
 }
 
 // Whether another answer has the same statement.

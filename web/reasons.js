@@ -20,20 +20,21 @@ const ADVICE = [
         + 'lawyer approved, that was voided, or that comes a second time is for the bank to explain.'],
     [/^it shows an entry that was issued after it/,
         'The bank had it before a lawyer approved it. Look at the entry first.'],
-    [/^it shows an entry of another amount/, 'The bank misread it, or the entry was mistyped. A held deposit can be '
-        + 'cancelled and booked anew; else call the bank.'],
+    [/^it shows an entry of another amount/, 'Is it one of several that the bank shows in one line? Then split the '
+        + 'line. Else the bank misread it, or the entry was mistyped: a held deposit can be cancelled and booked anew; '
+        + 'or call the bank.'],
     [/^nothing in its words tells which entry/,
-        `An equal amount does not tell whose it is. ${LOOK}, then type the reference.`],
+        `An equal amount does not tell whose it is. ${LOOK}, then use the entry.`],
     [/^no payment of its amount; it may be a return/,
-        "If the bank took a deposit back, type that deposit's reference."],
-    [/^no entry of its amount; the deposits of /, 'The bank shows a slip with several checks in one line. If the slip '
-        + 'has these, write a line for each into the file, with the same day and bank reference, its own amount and '
-        + 'its reference, and match it again.'],
+        'If the bank took a deposit back, use that deposit.'],
+    [/^no entry of its amount; the deposits of /,
+        'The bank shows a slip with several checks in one line. If the slip has these, use them.'],
     [/^no entry of its amount/, MISSING],
     [/^its reference is that of an entry|^the book has no deposit or payment of its reference/,
         'As it stands it would be an exception. Look at the reference, and mend it.'],
     [/^it is an exception under /,
-        'It was imported before, and matched nothing. Mend the entry of that reference, or type another.'],
+        'It was imported before, and matched nothing. Mend the entry of that reference, or use another.'],
+    [/^the firm's own money would be /, 'As it stands it would be an exception. Name its entry, or leave it.'],
 ];
 
 // Empty for a reason that the page does not know.

@@ -6,6 +6,8 @@ export const MATTERS = 'matters';
 export const STATEMENT = 'statement';
 export const FILE = 'file';
 export const TYPED = 'typed';
+export const PARTS = 'parts';
+export const LEFT = 'left';
 
 export class Shelf {
     constructor(person) {

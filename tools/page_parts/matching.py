@@ -125,7 +125,7 @@ def match_and_import(bank: Bank) -> None:
 
 
 def fields(bank: Bank) -> list[typing.Any]:
-    return bank.browser.find("form.left input")
+    return bank.browser.find("form.left .typing input")
 
 
 def type_what_is_left(bank: Bank) -> None:
@@ -142,7 +142,7 @@ def type_what_is_left(bank: Bank) -> None:
     bank.has("The desk is not open.", "The file is kept in this browser")
     browser.open("#/statement")
     browser.settle()
-    bank.has("march.csv is kept in this browser", "typed here", "Typed here. It would be imported so.",
+    bank.has("march.csv is kept in this browser", "named here", "Decided here. It would be imported so.",
              "1 to be looked at.")
     bank.checks.same("what was typed", [each.get_attribute("value") for each in fields(bank)],
                      ["FIRM", "m000003-0001", ""])
@@ -199,6 +199,11 @@ def name_a_wrong_entry(bank: Bank) -> None:
              "Some of these lines match nothing as they stand", "Import these all the same")
     bank.checks.same("the field has what the file has", fields(bank)[0].get_attribute("value"), "M000002-0010")
     bank.type(r1="FIRM")
+    bank.browser.press("Match again")
+    bank.has("the firm's own money would be 18,088.00 with it, and stays from 0.00 to 500.00", "all the same")
+    bank.type(r1="M000004-0002")
+    bank.choose("wrong.csv", HEAD + line.replace("18000.00", "31.00"))
+    bank.type(r1="M000004-0002")
     bank.browser.press("Match again")
     bank.has("1 line would be imported, 0 in the book already, 0 to be looked at.")
     bank.lacks("all the same")
@@ -271,7 +276,8 @@ def see_spiteful_words(bank: Bank) -> None:
     bank.choose("spite.csv", SPITEFUL)
     bank.has("<img src=x onerror=alert(1)>: no entry of its amount", "\u2039U+202E\u203agpj.exe, \"quoted\"",
              "letters of two alphabets", "not readable", "garbage", "no line of a statement", "mend it in the file")
-    why = [row.find_elements("css selector", "td")[3].text for row in bank.browser.find(".left tbody tr")]
+    why = [" ".join(each.text for each in row.find_elements("css selector", ":scope > p")[1 if at < 4 else 0:])
+           for at, row in enumerate(bank.browser.find(".left .line"))]
     bank.checks.same("the records whose reasons are told apart from the bank's words",
                      [at for at, words in enumerate(why) if words.startswith("no entry of its amount")], [0, 1, 2, 5])
     bank.checks.same("the pictures made", bank.browser.find("img"), [])
@@ -294,9 +300,9 @@ def see_spiteful_words(bank: Bank) -> None:
 ALIKE = (
     ("no entry of its amount", "Book what is missing"),
     ("no entry of its amount; the deposits of 2026-03-12 are together its amount: M000001-0001 held 2026-03-12 Ada",
-     "write a line for each into the file"),
+     "If the slip has these, use them."),
     ("it shows M000001-0001, which another record names", "The bank shows an entry once."),
-    ("it shows an entry of another amount: M000001-0001 held 2026-03-12 Ada, 5.00", "The bank misread it"),
+    ("it shows an entry of another amount: M000001-0001 held 2026-03-12 Ada, 5.00", "Then split the line."),
     ("what nobody has told yet", ""),
 )
 
@@ -314,7 +320,7 @@ def see_long_files(bank: Bank) -> None:
     """A hundred lines are shown, and all when asked for; the front end takes a statement of this length."""
     lines = "".join(f"2026-03-14,,K{at},{at}.25,CARD {'x' * 40}\n" for at in range(1, 1201))
     bank.choose("long.csv", HEAD + lines)
-    bank.has("1200 to be looked at.", "To be looked at: 100 of 1200", "Show all 1200")
+    bank.has("1200 to be looked at.", "To be looked at: 1200", "100 of 1200 are shown.", "Show all 1200")
     bank.checks.same("the fields at first", len(fields(bank)), 100)
     bank.type(r7="FIRM")
     bank.browser.press("Show all 1200")

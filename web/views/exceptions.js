@@ -1,12 +1,19 @@
-// The bank's lines that match nothing, and the way to take one back that was a slip in a file.
+// The bank's lines that match nothing, and the ways out: what a line is gets decided as for a line of the bank's file;
+// one that was a slip in a file, or that the book has under another reference, is dismissed.
 
 import { grouped } from '../amounts.js';
 import { change } from '../asks.js';
-import { noteBox } from '../boxes.js';
+import { BankFile } from '../bank-file.js';
+import { doneBox, noteBox, refusedBox } from '../boxes.js';
+import { ownWith } from '../candidates.js';
+import { textOf } from '../csv.js';
 import { button, el, label, money, number, p } from '../elements.js';
-import { reasonsOf } from '../matched.js';
+import { isEntry, readExceptions } from '../exceptions.js';
+import { areInBook, openFile, reasonsOf } from '../matched.js';
+import { readTrial } from '../reports.js';
+import { FILE } from '../shelf.js';
 import { column, longTable } from '../tables.js';
-import { reasonWords, referenceLink } from './matched.js';
+import { reasonWords, referenceLink } from './left.js';
 
 const PATH = '/firm/exceptions/dismiss';
 const HERE = '#/report/exceptions';
@@ -14,34 +21,19 @@ const HERE = '#/report/exceptions';
 // So many lines are shown at first.
 const FIRST = 100;
 
-// A line as the list prints it. Where a reference has a space nobody can say where it ends: such a line is not read.
-const LINE = /^(\d{4}-\d\d-\d\d) (\S+) (\S+) (-?\d+\.\d\d) (.*)$/;
-
-const isEntry = (reference) => /^M\d{6}-\d{4}$/.test(reference);
-
-// An empty field is printed so.
-const fieldOf = (printed) => (printed === '-' ? '' : printed);
-
-function readLine(whole) {
-    const found = LINE.exec(whole);
-    if (!found) return { whole, fields: null };
-    const [date, reference, bankRef, amount, text] = found.slice(1);
-    const fields =
-        { date, reference: fieldOf(reference), bank_ref: fieldOf(bankRef), amount, text: fieldOf(text) };
-    return { whole, fields };
-}
-
 // What a line is called on its button.
 const nameOf = ({ reference, amount }) => (isEntry(reference) ? reference : `the line of ${grouped(amount)}`);
 
 // Asked once more, since it is not undone.
-function confirm(page, { whole, fields }, place) {
+function confirm(page, { whole, fields, isKnown }, place) {
     const dismiss = () => change(page,
         { path: PATH, fields, done: 'The line is no exception any more.', then: HERE, place });
+    const words = isKnown ? '? The book has this line under another reference. Nothing else changes.'
+        : '? Only where the bank does not have this line. Nothing else changes.';
     const asked = noteBox(
-        p('Dismiss ', label(whole), '? Only where the bank does not have this line. Nothing else changes.'),
+        p('Dismiss ', label(whole), words),
         el('div', { class: 'buttons' },
-            button('The bank does not have it: dismiss it', dismiss, ''),
+            button(isKnown ? 'Dismiss it' : 'The bank does not have it: dismiss it', dismiss, ''),
             button('Keep it', () => place.replaceChildren())),
     );
     place.replaceChildren(asked);
@@ -51,10 +43,12 @@ function confirm(page, { whole, fields }, place) {
 const COLUMNS = [column('Day', 'tight'), column('Reference', 'tight'), column('Amount', 'right'),
     column("The bank's number and words"), column('Change', 'tight')];
 
+const KNOWN = 'The book has this line under another reference: this one can be dismissed.';
+
 // What the bank says, and below it why the line matches nothing.
-const wordsOf = ({ fields, reason }) => [
+const wordsOf = ({ fields, reason, isKnown }) => [
     label([fields.bank_ref, fields.text].filter(Boolean).join(' | ')),
-    reason && el('p', { class: 'hint' }, reasonWords(reason)),
+    isKnown ? el('p', { class: 'hint' }, KNOWN) : reason && el('p', { class: 'hint' }, reasonWords(reason)),
 ];
 
 const cellsOf = (page, place) => (line) => (line.fields
@@ -64,27 +58,72 @@ const cellsOf = (page, place) => (line) => (line.fields
 
 const APPLIED = 'It would be applied now: bring the same file in again.';
 
-const reasonIn = (told, { reference }) => (told === '' && isEntry(reference) ? APPLIED : told);
+// Why a line with this reference is an exception. Of the firm's own lines the desk tells no reason.
+function reasonIn(told, { reference, amount }, own) {
+    if (told === '' && isEntry(reference)) return APPLIED;
+    if (told !== '' || reference !== 'FIRM' || own === null) return told;
+    const { sum, mayBe } = ownWith(own, amount);
+    return mayBe ? APPLIED : `The firm's own money is ${grouped(own)}; with this line it would be ${grouped(sum)}, and `
+        + 'it stays from 0.00 to 500.00.';
+}
 
-// The lines, with why each that could be read matches nothing.
+// The lines, with why each that could be read matches nothing, and whether the book has it by another reference.
 async function withReasons(page, lines) {
     const whole = lines.filter(({ fields }) => fields);
     if (!whole.length) return lines;
-    const told = await reasonsOf(page, whole.map(({ fields }) => fields));
-    const reasons = new Map(whole.map((line, i) => [line, reasonIn(told[i], line.fields)]));
-    return lines.map((line) => ({ ...line, reason: reasons.get(line) }));
+    const all = whole.map(({ fields }) => fields);
+    const told = await reasonsOf(page, all);
+    const isKnown = await areInBook(page, all);
+    const trial = await page.desk.read('/firm/trial-balance');
+    const own = trial.isDone ? readTrial(trial.text).firm : null;
+    const found = new Map(whole.map((line, i) =>
+        [line, { reason: reasonIn(told[i], line.fields, own), isKnown: isKnown[i] }]));
+    return lines.map((line) => ({ ...line, ...found.get(line) }));
 }
+
+// Takes the lines into the view of the bank's file, without the references that were wrong.
+const deciding = (page, lines) => button('Decide what these lines are', () => {
+    BankFile.taken(page.shelf, 'The exceptions', textOf(openFile(lines.map(({ fields }) => fields))));
+    page.go('#/statement');
+}, '');
 
 // What stands below the list of exceptions: nothing where it has none.
 export async function dismissal(page, text) {
-    const lines = await withReasons(page, text.trimEnd().split('\n').slice(1).map(readLine));
+    const lines = await withReasons(page, readExceptions(text));
     if (!lines.length) return null;
     const place = el('div', {});
     const cells = cellsOf(page, place);
+    const open = lines.filter(({ fields, isKnown }) => fields && !isKnown);
+    const [kept] = page.shelf.read(FILE);
     return el('section', { 'aria-labelledby': 'dismissal' },
         el('h2', { id: 'dismissal' }, 'A slip in a file'),
         p('A line that was typed or imported wrong stays an exception, also once the right one is applied. It can be ',
             'dismissed. A line that the bank has, and nobody knows of, stays: the reconciliation counts on it.'),
+        open.length > 0 && p('A line that the bank has can be given its entry: ', deciding(page, open),
+            kept && el('span', { class: 'hint' }, ` They take the place of ${kept.name}, which this browser keeps.`)),
         place,
         longTable({ caption: 'Exceptions', columns: COLUMNS, items: lines, cells, first: FIRST }));
+}
+
+// Exceptions that are in the book under another reference by now, each with a button that dismisses it. Null where
+// there are none.
+export function dismissOffers(page, all) {
+    if (!all.length) return null;
+    const offerOf = (fields) => {
+        const item = el('li', {});
+        const dismiss = async () => {
+            page.say('Sending');
+            const answer = await page.desk.post(PATH, JSON.stringify(fields));
+            page.say('');
+            item.replaceChildren(answer.isDone ? doneBox('The line is no exception any more.')
+                : refusedBox(answer, page.person));
+            item.firstChild.focus();
+        };
+        item.append(money(fields.amount), ' of ', number(fields.date), ', under ',
+            ...[referenceLink(fields.reference) || 'no reference'].flat().filter(Boolean), ' ',
+            button(`Dismiss the exception under ${fields.reference || 'no reference'}`, dismiss));
+        return item;
+    };
+    return noteBox(p('These lines are in the book now. They are still exceptions under another reference, and the '
+        + 'reconciliation counts them so:'), el('ul', {}, all.map(offerOf)));
 }

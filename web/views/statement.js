@@ -1,12 +1,21 @@
 // The bank's statement: a file is matched with what waits for the bank, and what is sure is imported; or the file is
 // brought in as it is. It is kept in the browser until it is done with.
 
+import { readAtBank } from '../at-bank.js';
+import { grouped } from '../amounts.js';
 import { BankFile } from '../bank-file.js';
 import { doneBox, failedBox, noteBox, tellRefusal, warningBox } from '../boxes.js';
+import { ownWith, referencesIn, tooMuchOwn } from '../candidates.js';
+import { textOf } from '../csv.js';
+import { entryPath } from '../desk.js';
 import { button, el, facts, link, p } from '../elements.js';
-import { isSameAs, matchFile } from '../matched.js';
+import { movementOf, readByMovement } from '../exceptions.js';
+import { areInBook, isSameAs, matchFile, reasonsOf, takeOut } from '../matched.js';
+import { readTrial } from '../reports.js';
 import { STATEMENT } from '../shelf.js';
-import { countWrong, leftForm, matchedBox, writtenTable } from './matched.js';
+import { dismissOffers } from './exceptions.js';
+import { LeftLines, reasonWords, referenceLink } from './left.js';
+import { countWrong, matchedBox, writtenTable } from './matched.js';
 
 const GREATEST = 4194304;
 
@@ -15,8 +24,9 @@ const TOO_LARGE = 'The file has more than 4,194,304 bytes: bring it in parts, ea
 const NOT_READ = 'The file was changed or moved since it was chosen: choose it again.';
 const STILL_READ = 'A long statement may still be read. Wait some minutes, then bring the same file in again: '
     + 'its lines are applied once.';
-const KEPT = 'The file is kept in this browser, with what was typed into it.';
+const KEPT = 'The file is kept in this browser, with what was decided of its lines.';
 const CHANGED = 'The book has changed since this was matched. Nothing was imported: look at it again.';
+const CHOSEN = 'What you decided is in the list now. Nothing was imported yet: look at it, and import.';
 const WRONG = 'Some of these lines match nothing as they stand: they are told below. Mend them first, or they become '
     + 'exceptions.';
 const HINT = 'First line: date,reference,bank_ref,amount,text. At most 4,194,304 bytes. '
@@ -30,19 +40,104 @@ function wrongWith(file) {
 }
 
 // The counts in words. The desk tells how many lines were not readable, and not which.
-const countsBox = (name, told) => doneBox(`${name} was brought in.`,
-    facts([
-        ['Lines that found their place', String(told.applied)], ['Were there already', String(told.repeated)],
-        ['Match nothing (exceptions)', String(told.exceptions)], ['Not readable', String(told.unreadable)],
-        ['Closing balance of', told.statement],
-    ]),
-    told.exceptions > 0 && p(link('#/report/exceptions', 'Look at the exceptions'),
-        '. Book or mend what is missing, and bring the same file in again.'),
-    told.unreadable > 0 && p('A line that is not readable was left out. Compare the file with the bank.'),
-    told.statement && p(link(`#/reconciliation/${told.statement}`, `Reconcile ${told.statement}`)));
+function countsBox(name, told) {
+    const isWell = told.exceptions === 0 && told.unreadable === 0;
+    return (isWell ? doneBox : warningBox)(`${name} was brought in.`,
+        facts([
+            ['Lines that found their place', String(told.applied)], ['Were there already', String(told.repeated)],
+            ['Match nothing (exceptions)', String(told.exceptions)], ['Not readable', String(told.unreadable)],
+            ['Closing balance of', told.statement],
+        ]),
+        told.exceptions > 0 && p(link('#/report/exceptions', 'Look at the exceptions'),
+            '. Book or mend what is missing, and bring the same file in again.'),
+        told.unreadable > 0 && p('A line that is not readable was left out. Compare the file with the bank.'),
+        told.statement && p(link(`#/reconciliation/${told.statement}`, `Reconcile ${told.statement}`)));
+}
 
 // The file is the wrong one, which no other sending mends.
 const isNoStatement = ({ status }) => status === 413 || status === 422;
+
+const isOf = (line, { date, bank_ref: number, amount }) =>
+    line.date === date && line.bank_ref === number && line.amount === amount;
+
+const ownWords = (sum) => `the firm's own money would be ${grouped(sum)} with it, and stays from 0.00 to 500.00`;
+
+// What stands in the book and in its exceptions beside what the desk made of the file.
+class Beside {
+    constructor(own, exceptions) {
+        Object.assign(this, { own, exceptions, reasons: new Map() });
+    }
+
+    // The exceptions of a line: it was imported before under another reference.
+    of(line) {
+        return (this.exceptions.get(movementOf(line)) ?? []).filter((each) => isOf(line, each));
+    }
+
+    // Why an exception does not fit; empty where it would be applied now.
+    async readReasons(page, lines) {
+        const all = [...new Set(lines.flatMap((line) => this.of(line)))];
+        if (!all.length) return;
+        const reasons = await reasonsOf(page, all);
+        all.forEach((each, i) => {
+            const { sum, mayBe } = ownWith(this.own ?? '0.00', each.amount);
+            this.reasons.set(each, each.reference === 'FIRM' && !mayBe ? ownWords(sum) : reasons[i] ?? '');
+        });
+    }
+
+    reasonOf(line, reference) {
+        const same = this.of(line).find((each) => each.reference === reference);
+        return same ? this.reasons.get(same) ?? '' : '';
+    }
+
+    // What is told of a line's exceptions.
+    words(line) {
+        return this.of(line).map((each) => p('It was imported before under ',
+            referenceLink(each.reference) || 'no reference', ', and is an exception since: ',
+            reasonWords(this.reasons.get(each) || 'it would be applied now'), '.'));
+    }
+}
+
+async function readBeside(page) {
+    const [trial, exceptions] = [await page.desk.read('/firm/trial-balance'), await readByMovement(page)];
+    return new Beside(trial.isDone ? readTrial(trial.text).firm : null, exceptions);
+}
+
+// What the desk makes of the file, and what it can't know: that a line is filled with the reference under which it is
+// an exception, and that the firm's own money would be too much.
+async function look(page, file) {
+    const found = await matchFile(page, file);
+    if (found.refused) return found;
+    const beside = await readBeside(page);
+    const open = [...found.lines, ...found.told.map(({ line }) => line)].filter((line) => line?.isWhole);
+    await beside.readReasons(page, open);
+    const isRetried = (line) => line.by === 'filled' && beside.reasonOf(line, line.reference) !== '';
+    const looked = takeOut(found, file, isRetried, (line) => `it is an exception under ${line.reference}`);
+    const firm = file.sent().filter(({ isWhole, reference }) => isWhole && reference === 'FIRM');
+    const isKnown = await areInBook(page, firm);
+    const tooMuch = beside.own ? tooMuchOwn(beside.own, firm.filter((_, i) => !isKnown[i])) : new Map();
+    const told = firm.filter(({ number }) => tooMuch.has(number))
+        .map((line) => ({ line, reason: ownWords(tooMuch.get(line.number)) }));
+    return { ...looked, left: looked.left + told.length, told: [...looked.told, ...told], beside };
+}
+
+// Cleared deposits that lines below zero may take back, by the lines' numbers: of the entries that the reasons name.
+async function readReturns(page, told, entries) {
+    const waiting = new Set(entries.map(({ reference }) => reference));
+    const found = new Map();
+    for (const { line, reason } of told) {
+        if (!line?.isWhole || !line.amount.startsWith('-')) continue;
+        const named = referencesIn(reason).filter((each) => !waiting.has(each));
+        const answers = await Promise.all(named.map((each) =>
+            page.desk.read(entryPath(each.slice(1, 7), each.slice(8)))));
+        const returned = answers.filter(({ isDone }) => isDone).map(({ body }) => body)
+            .filter(({ kind, state }) => kind === 'deposit' && state === 'cleared')
+            .filter(({ amount }) => `-${amount}` === line.amount)
+            .map(({ matter, entry, amount, source, bank_day: day }) =>
+                ({ reference: `M${matter}-${entry}`, client: '', day, words: source, amount }));
+        found.set(line.number, returned);
+    }
+    return found;
+}
 
 // The view: its elements, and the file at hand, which is null where there is none.
 class Statement {
@@ -50,6 +145,7 @@ class Statement {
         this.page = page;
         this.file = BankFile.kept(page.shelf);
         this.isBusy = false;
+        this.asks = 0;
         this.input = el('input', { type: 'file', id: 'file', name: 'file', accept: '.csv,text/csv',
             'aria-describedby': 'file-hint file-error' });
         this.error = el('p', { class: 'error', id: 'file-error', 'aria-live': 'polite' });
@@ -74,7 +170,7 @@ class Statement {
     }
 
     tell(...boxes) {
-        this.told.replaceChildren(...boxes);
+        this.told.replaceChildren(...boxes.filter(Boolean));
         boxes[0]?.focus();
     }
 
@@ -84,11 +180,15 @@ class Statement {
             p(button('Put it away', () => this.putAway()))] : []));
     }
 
-    putAway() {
+    forget() {
         this.file?.forget();
         this.file = null;
         this.lists.replaceChildren();
         this.showKept();
+    }
+
+    putAway() {
+        this.forget();
         this.tell(noteBox(p('The file is kept no more. What was imported stays in the book.')));
     }
 
@@ -98,7 +198,8 @@ class Statement {
         this.error.textContent = this.file && !chosen ? '' : wrongWith(chosen);
         if (!this.error.textContent && chosen) {
             try {
-                this.file = await BankFile.chosen(this.page.shelf, chosen);
+                const bytes = new Uint8Array(await chosen.arrayBuffer());
+                this.file = BankFile.chosen(this.page.shelf, chosen.name, bytes);
             } catch {
                 this.error.textContent = NOT_READ;
             }
@@ -114,82 +215,98 @@ class Statement {
     }
 
     refuse(answer, ...more) {
-        if (isNoStatement(answer)) {
-            this.file.forget();
-            this.file = null;
-            this.lists.replaceChildren();
-            this.showKept();
-        }
+        if (isNoStatement(answer)) this.forget();
         tellRefusal(this.told, answer, this.page.person, ...more, ...(this.file ? [p(KEPT)] : []));
     }
 
     // What the desk makes of the file; null where it is refused, which is told.
     async ask() {
         this.page.say('Matching');
-        const found = await matchFile(this.page, this.file);
+        const asked = textOf(this.file.bytes());
+        const found = await look(this.page, this.file);
         this.page.say('');
-        if (!found.refused) return found;
+        if (!found.refused) return { ...found, asked };
         this.refuse(found.refused);
         return null;
     }
 
-    async match() {
+    // Whether what is told gets the focus, which is not so as the view is opened.
+    async match(isOpened = false) {
         const found = await this.ask();
         if (!found) return;
         this.showLists(found);
-        this.tell(matchedBox(this.file, found));
-    }
-
-    // The file that was kept, as the view is opened: what is told has no focus then.
-    async matchKept() {
-        const found = await this.ask();
-        if (!found) return;
-        this.showLists(found);
-        this.told.replaceChildren(matchedBox(this.file, found));
+        const box = matchedBox(this.file, found);
+        if (isOpened) this.told.replaceChildren(box);
+        else this.tell(box);
     }
 
     showLists(found) {
-        const wrong = countWrong(this.file, found);
+        const wrong = countWrong(found);
         const ask = wrong ? button('Import these all the same', () => this.run(() => this.importThese(found)))
             : button('Import these', () => this.run(() => this.importThese(found)), '');
         const importing = found.lines.length > 0 && [wrong > 0 && warningBox(WRONG), p(ask)];
-        const left = leftForm(this.file, found.told, () => this.run(() => this.match()));
-        this.lists.replaceChildren(...[writtenTable(found.lines), importing, left].flat(Infinity).filter(Boolean));
+        const { own } = found.beside;
+        const left = new LeftLines({ file: this.file, told: found.told, own, again: () => this.run(() => this.match()),
+            wasException: (line) => found.beside.words(line) });
+        this.lists.replaceChildren(
+            ...[writtenTable(found.lines), importing, left.element].flat(Infinity).filter(Boolean));
+        if (left.element) this.readEntries(left, found.told);
     }
 
-    // What is sent is what was shown: where the book has changed meanwhile, it is shown again.
+    // Reads what waits for the bank, beside all else; what is late for another list is dropped.
+    async readEntries(left, told) {
+        this.asks += 1;
+        const mine = this.asks;
+        let known = null;
+        try {
+            const { entries } = await readAtBank(this.page);
+            known = [entries, await readReturns(this.page, told, entries)];
+        } catch {
+            known = [null, new Map()]; // references can be typed all the same
+        }
+        if (mine === this.asks) left.know(...known);
+    }
+
+    // What is sent is what was shown: where the book has changed meanwhile, or something was decided since, it is shown
+    // again.
     async importThese(found) {
         const now = await this.ask();
         if (!now) return;
         if (!isSameAs(now, found)) {
             this.showLists(now);
-            this.tell(warningBox(CHANGED), matchedBox(this.file, now));
+            this.tell(now.asked === found.asked ? warningBox(CHANGED) : noteBox(p(CHOSEN)), matchedBox(this.file, now));
             return;
         }
         const told = await this.bringIn(found.bytes);
         if (!told) return;
-        if (!found.left) this.done(told);
-        else await this.goOn(told);
+        const boxes = [told, await this.offersOf(found)];
+        if (!found.left) this.done(...boxes);
+        else await this.goOn(...boxes);
     }
 
-    // Lines are left. Those that are in the book are left out from now on, so what was typed has done its work.
-    async goOn(told) {
-        this.file.untype();
+    // What is in the book now, and an exception still under another reference, can be dismissed.
+    async offersOf({ lines, beside }) {
+        const movements = new Set(lines.filter(({ isWhole }) => isWhole).map(movementOf));
+        const old = [...beside.exceptions].filter(([movement]) => movements.has(movement)).flatMap(([, all]) => all);
+        const isKnown = await areInBook(this.page, old);
+        return dismissOffers(this.page, old.filter((_, i) => isKnown[i]));
+    }
+
+    // Lines are left. Those that are in the book are left out from now on, so what was named has done its work.
+    async goOn(...boxes) {
+        this.file.unname();
         const found = await this.ask();
         if (!found) {
-            this.told.prepend(told);
+            this.told.prepend(...boxes.filter(Boolean));
             return;
         }
         this.showLists(found);
-        this.tell(told, matchedBox(this.file, found));
+        this.tell(...boxes, matchedBox(this.file, found));
     }
 
-    done(told) {
-        this.file.forget();
-        this.file = null;
-        this.lists.replaceChildren();
-        this.showKept();
-        this.tell(told);
+    done(...boxes) {
+        this.forget();
+        this.tell(...boxes);
     }
 
     // The box that tells the counts; null where the statement is refused, which is told.
@@ -242,6 +359,6 @@ class Statement {
 
 export function statement(page) {
     const view = new Statement(page);
-    const later = () => (view.file ? view.run(() => view.matchKept()) : null);
+    const later = () => (view.file ? view.run(() => view.match(true)) : null);
     return { title: 'Bank statement', parts: [view.form(), view.told, view.lists], later };
 }

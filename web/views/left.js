@@ -1,0 +1,284 @@
+// The lines of the bank's file that are to be looked at: each with the entries that it may show, and what can be
+// decided of it.
+
+import { grouped } from '../amounts.js';
+import { readReference } from '../bank-file.js';
+import { leftOfOwn, missingTo, ofItsAmount, onItsSide, together } from '../candidates.js';
+import { button, el, label, link, money, number, p, quiet, strong } from '../elements.js';
+import { adviceOn } from '../reasons.js';
+import { column, table } from '../tables.js';
+
+// So many lines are shown at first, and so many entries of each.
+const FIRST = 100;
+const ENTRIES = 5;
+
+const WRONG = "Write FIRM, or an entry's reference such as M000001-0001.";
+
+const entryAt = (reference) => /^M(\d{6})-(\d{4})$/.exec(reference);
+
+// A reference leads to its entry.
+export function referenceLink(reference) {
+    const at = entryAt(reference);
+    return at ? link(`#/m/${at[1]}/e/${at[2]}`, number(reference)) : reference && label(reference);
+}
+
+// As in the file, where it is no day or no amount.
+export const dayOf = (date) => (/^\d{4}-\d\d-\d\d$/.test(date) ? number(date) : label(date));
+export const amountOf = (amount) => (/^-?\d+\.\d\d$/.test(amount) ? money(amount) : label(amount));
+
+// The entries that a reason names can be looked at; its days are not broken.
+export const reasonWords = (reason) => reason.split(/(M\d{6}-\d{4}|\d{4}-\d\d-\d\d)/u).map((part) =>
+    (entryAt(part) ? referenceLink(part) : dayOf(part)));
+
+const ENTRY_COLUMNS = [column('Reference', 'tight'), column('Client'), column('Day', 'tight'), column('Words'),
+    column('Amount', 'right'), column('Use', 'tight')];
+
+const entryCells = (entry, use) => [referenceLink(entry.reference), label(entry.client), number(entry.day),
+    label(entry.words), money(entry.amount), use];
+
+const entriesTable = (caption, entries, useOf) =>
+    table(caption, ENTRY_COLUMNS, entries.map((each) => entryCells(each, useOf(each))));
+
+const partsOf = (entries) => entries.map(({ reference, amount }) => ({ reference, amount }));
+
+// Chooses entries that are together a line's amount. `use` is told which.
+function chooser({ line, entries, use, close }) {
+    const side = onItsSide(entries, line);
+    const chosen = new Set();
+    const told = el('p', { role: 'status' });
+    const send = button('Use these', () => use([...chosen]), '');
+    const tell = () => {
+        const missing = missingTo(line, [...chosen]);
+        send.disabled = chosen.size < 2 || missing !== '0.00';
+        told.textContent = `${chosen.size} chosen; ${grouped(missing)} of ${grouped(line.amount)} is missing.`;
+    };
+    const tick = (entry) => {
+        const name = `part-${line.number}-${entry.reference}`;
+        const change = ({ target }) => {
+            if (target.checked) chosen.add(entry);
+            else chosen.delete(entry);
+            tell();
+        };
+        return el('input', { type: 'checkbox', id: name, name, 'aria-label': `${entry.reference}, a part`, change });
+    };
+    tell();
+    return el('div', { class: 'chooser' },
+        side.length ? entriesTable('Which entries are together this line?', side, tick)
+            : p('Nothing that waits for the bank goes this way.'),
+        told,
+        el('div', { class: 'buttons' }, side.length > 0 && send, button('Keep it whole', close)));
+}
+
+// One line. It is drawn anew as something is decided of it, and once it is known what waits for the bank.
+class Line {
+    constructor(list, { line, reasons }) {
+        Object.assign(this, { list, file: list.file, line, reasons, isChoosing: false, isLong: false });
+        this.element = el('li', { class: 'line' });
+        this.draw();
+    }
+
+    draw() {
+        const { date, amount, text, number: no } = this.line;
+        this.element.setAttribute('data-state', this.file.isNamed(no) ? 'named' : 'open');
+        this.element.replaceChildren(...[
+            el('h3', {}, amountOf(amount), ' on ', dayOf(date), ' ', el('span', { class: 'quiet' }, `record ${no}`)),
+            text && p(label(text)),
+            this.reasons.map((reason) => [p(reasonWords(reason)), el('p', { class: 'hint' }, adviceOn(reason))]),
+            this.list.wasException(this.line),
+            this.decided() ?? this.choices(),
+        ].flat(Infinity).filter(Boolean));
+    }
+
+    // What waits for the bank is known: whoever types goes on typing.
+    know() {
+        const field = this.element.contains(document.activeElement) ? document.activeElement.id : '';
+        this.draw();
+        if (field) this.element.querySelector(`#${field}`)?.focus();
+    }
+
+    // Does something, and shows what became of it.
+    decide(action) {
+        action();
+        this.isChoosing = false;
+        this.draw();
+        this.element.querySelector('.decided, input')?.focus();
+    }
+
+    use(reference) {
+        this.decide(() => this.file.type(this.line.number, reference));
+    }
+
+    useParts(entries) {
+        this.decide(() => this.file.split(this.line.number, partsOf(entries)));
+    }
+
+    // What was decided, and the way back; null where nothing was.
+    decided() {
+        const { number: no } = this.line;
+        const parts = this.file.parts.get(no);
+        const back = (words) => button(words, () => this.decide(() => this.file.type(no, '')));
+        if (parts) {
+            return [el('p', { class: 'decided', tabindex: '-1' }, strong('Split over '), parts.map((part, i) =>
+                [i > 0 && ', ', referenceLink(part.reference), ' ', money(part.amount)]),
+            '. The day and the bank\u2019s reference stay.'), back('Keep it whole')];
+        }
+        if (!this.file.left.has(no)) return null;
+        return [el('p', { class: 'decided', tabindex: '-1' }, strong('Left.'), ' It is not imported.'),
+            back('Take it up again')];
+    }
+
+    choices() {
+        return [this.candidates(), this.isChoosing && this.choosing(), this.typing()];
+    }
+
+    candidates() {
+        const { entries } = this.list;
+        if (!entries) {
+            return quiet(this.list.isRead ? 'What waits for the bank could not be read: match again, or type it.'
+                : 'Reading what waits for the bank\u2026');
+        }
+        const same = ofItsAmount(entries, this.line);
+        const set = together(entries, this.line, this.reasons.join('\n'));
+        const useOf = ({ reference }) => {
+            const made = button('Use this', () => this.use(reference));
+            made.setAttribute('aria-label', `Use ${reference} for record ${this.line.number}`);
+            return made;
+        };
+        const shown = this.isLong ? same : same.slice(0, ENTRIES);
+        return [
+            entriesTable('Entries of its amount that wait for the bank', shown, useOf),
+            shown.length < same.length && p(button(`Show all ${same.length}`, () => {
+                this.isLong = true;
+                this.draw();
+            })),
+            set.length > 0 && [entriesTable('Together they are its amount', set, () => ''),
+                p(button(`Use these ${set.length}`, () => this.useParts(set)))],
+            this.returned(),
+        ];
+    }
+
+    // A cleared deposit that the bank may have taken back.
+    returned() {
+        const { returns } = this.list;
+        return entriesTable('Deposits that it may take back', returns.get(this.line.number) ?? [], ({ reference }) =>
+            button('Use this', () => this.use(reference)));
+    }
+
+    choosing() {
+        return chooser({ line: this.line, entries: this.list.entries, use: (entries) => this.useParts(entries),
+            close: () => this.decide(() => {}) });
+    }
+
+    // The field for a line's reference. What is typed is kept at once, whether it is a reference yet or not.
+    typing() {
+        const { number: no, reference } = this.line;
+        const id = `reference-${no}`;
+        const told = el('p', { class: 'decided', tabindex: '-1' });
+        const tell = () => {
+            const named = this.file.typed.has(no) && readReference(this.file.typed.get(no));
+            told.replaceChildren(...(named ? [strong('Named here: '), referenceLink(named), '.'] : []));
+        };
+        const input = el('input', { id, name: id, type: 'text', value: this.file.typed.get(no) ?? reference,
+            autocomplete: 'off', spellcheck: 'false', 'aria-describedby': `${id}-error`,
+            input: () => {
+                this.file.type(no, input.value);
+                tell();
+            } });
+        tell();
+        const named = (made, words) => {
+            made.setAttribute('aria-label', `${words} record ${no}`);
+            return made;
+        };
+        const { own, entries } = this.list;
+        return [told, el('label', { for: id, class: 'hint' }, `Reference of record ${no}`),
+            el('div', { class: 'typing' }, input,
+                named(button('FIRM', () => this.use('FIRM')), 'FIRM for'),
+                entries && !this.isChoosing && named(button('Split it', () => {
+                    this.isChoosing = true;
+                    this.draw();
+                    this.element.querySelector('.chooser input')?.focus();
+                }), 'Split'),
+                named(button('Leave it', () => this.decide(() => this.file.leave(no))), 'Leave')),
+            el('p', { class: 'error', id: `${id}-error`, 'aria-live': 'polite' }),
+            own && el('p', { class: 'hint' }, `FIRM is the firm\u2019s own money: ${grouped(own)} now, `
+                + `${grouped(leftOfOwn(own))} left to 500.00.`)];
+    }
+}
+
+// A record that is no line: it is mended in the file itself.
+const unreadable = ({ line, reasons }) => el('li', { class: 'line' },
+    line && el('h3', {}, `Record ${line.number}`),
+    line && p(label(line.whole)),
+    reasons.map((reason) => [p(reasonWords(reason)), el('p', { class: 'hint' }, adviceOn(reason))]),
+    quiet('It is mended in the file itself.'));
+
+const TYPED = 'Decided here. It would be imported so.';
+
+// What is to be looked at, and what was decided here already, in the order of the file: each line once.
+function itemsOf(file, told) {
+    const byNumber = new Map();
+    const nowhere = told.filter(({ line }) => !line).map(({ reason }) => ({ line: null, reasons: [reason] }));
+    for (const { line, reason } of told.filter((each) => each.line)) {
+        byNumber.set(line.number, [...(byNumber.get(line.number) ?? []), reason]);
+    }
+    for (const { number: no } of file.lines) if (file.isNamed(no) && !byNumber.has(no)) byNumber.set(no, [TYPED]);
+    const items = [...byNumber].map(([no, reasons]) => ({ line: file.lines[no - 1], reasons }));
+    return [...nowhere, ...items.sort((one, other) => one.line.number - other.line.number)];
+}
+
+// All of them, as a form by which the file is matched again.
+export class LeftLines {
+    constructor({ file, told, own, wasException, again }) {
+        Object.assign(this, { file, own, wasException, entries: null, isRead: false, returns: new Map() });
+        this.items = itemsOf(file, told);
+        this.lines = [];
+        this.place = el('ol', { class: 'lines' });
+        this.more = p();
+        const submit = (event) => {
+            event.preventDefault();
+            return this.areReferences() ? again() : null;
+        };
+        this.element = this.items.length === 0 ? null : el('form', { class: 'left', submit, 'aria-busy': 'true' },
+            el('h2', {}, `To be looked at: ${this.items.length}`),
+            p('A line without a reference is not imported. Use an entry, split the line over several, or type a '
+                + 'reference; FIRM is for the firm\u2019s own money. The file is kept in this browser with what you '
+                + 'decide.'),
+            this.place,
+            this.more,
+            el('button', { type: 'submit' }, 'Match again'));
+        this.show(FIRST);
+    }
+
+    show(count) {
+        const items = this.items.slice(0, count);
+        this.lines = items.map((item) => (item.line?.isWhole ? new Line(this, item) : unreadable(item)));
+        this.place.replaceChildren(...this.lines.map((each) => each.element ?? each));
+        this.more.replaceChildren(...(items.length < this.items.length
+            ? [`${items.length} of ${this.items.length} are shown. `,
+                button(`Show all ${this.items.length}`, () => this.show(this.items.length))] : []));
+    }
+
+    // What waits for the bank is known, or can't be read (null).
+    know(entries, returns) {
+        this.entries = entries;
+        this.returns = returns;
+        this.isRead = true;
+        for (const each of this.lines) if (each instanceof Line) each.know();
+        this.element?.removeAttribute('aria-busy');
+    }
+
+    // The first that is typed and no reference has the focus. One that a cut list does not show is not looked at.
+    areReferences() {
+        let wrong = null;
+        for (const [no, typed] of this.file.typed) {
+            const input = this.element.elements.namedItem(`reference-${no}`);
+            const isWrong = Boolean(input) && readReference(typed) === null;
+            input?.setAttribute('aria-invalid', String(isWrong));
+            const error = this.element.querySelector(`#reference-${no}-error`);
+            if (error) error.textContent = isWrong ? WRONG : '';
+            if (isWrong) wrong ??= input;
+        }
+        wrong?.focus();
+        return !wrong;
+    }
+}
