@@ -90,7 +90,7 @@ def open_page(browser: Browser, site: OtherSite, front: FrontEnd, page: str) -> 
     links = browser.find("#a")
     if links:
         links[0].click()
-    for _ in range(40):
+    for _ in range(400):
         status = asked_status(front, page, before)
         if status:
             return status

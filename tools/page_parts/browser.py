@@ -4,6 +4,7 @@ import time
 import typing
 
 from selenium import webdriver
+from selenium.common.exceptions import JavascriptException, WebDriverException
 from selenium.webdriver.common.by import By
 from selenium.webdriver.support.ui import Select, WebDriverWait
 
@@ -14,13 +15,38 @@ WORDS = ["--headless=new", "--no-sandbox", "--disable-gpu", "--disable-dev-shm-u
 WIDE = 1200
 PHONE = 360
 SETTLED = 0.2  # seconds without a change
+BEGINNINGS = 3  # how often a browser is begun until it is there
+HEARD = 20  # seconds until a click that the page has not heard is made again
 
+# Counts, in each page, the clicks that it heard and the requests that are under way.
+COUNTING = """addEventListener('click', () => { window.clicks = (window.clicks ?? 0) + 1; }, true);
+const send = window.fetch;
+window.fetch = (...words) => {
+    window.asking = (window.asking ?? 0) + 1;
+    return send.apply(window, words).finally(() => { window.asking -= 1; });
+};"""
+CLICKS = "return [performance.timeOrigin, window.clicks ?? 0]"
 IS_DRAWN = "const main = document.querySelector('main'); return !!main && !document.querySelector('[aria-busy=true]')"
-SEEN = """const main = document.querySelector('main');
-return [document.querySelector('[aria-busy=true]') === null, document.getElementById('said')?.textContent ?? '',
-        main?.textContent, location.hash]"""
-SET_HASH = """document.querySelector('main').setAttribute('aria-busy', 'true');
-if (location.hash === arguments[0]) dispatchEvent(new Event('hashchange')); else location.hash = arguments[0]"""
+# Behind what the page had to do before this was asked.
+SEEN = """setTimeout(() => {
+    const main = document.querySelector('main');
+    const isBusy = document.querySelector('[aria-busy=true]') !== null || (window.asking ?? 0) > 0;
+    done([!isBusy, document.getElementById('said')?.textContent ?? '', main?.textContent, location.hash]);
+}, 30);"""
+# Until the page has heard of it, and draws.
+SET_HASH = """const view = arguments[0];
+addEventListener('hashchange', () => done(), { once: true });
+if (location.hash === view) dispatchEvent(new Event('hashchange')); else location.hash = view;"""
+
+
+def begun(options: webdriver.ChromeOptions) -> webdriver.Chrome:
+    """A browser. On a busy machine it may not be there in time, and is begun anew."""
+    for _ in range(BEGINNINGS - 1):
+        try:
+            return webdriver.Chrome(options=options)
+        except WebDriverException as fault:
+            print(f"page: a browser is begun again: {(fault.msg or '').splitlines()[:1]}", flush=True)
+    return webdriver.Chrome(options=options)
 
 
 class Browser:
@@ -31,7 +57,9 @@ class Browser:
         for word in [*WORDS, f"--window-size={width},{height}"]:
             options.add_argument(word)
         options.set_capability("goog:loggingPrefs", {"browser": "ALL"})
-        self.web = webdriver.Chrome(options=options)
+        self.web = begun(options)
+        self.web.set_script_timeout(120)
+        self.web.execute_cdp_cmd("Page.addScriptToEvaluateOnNewDocument", {"source": COUNTING})
         self.person, self.origin = person, origin
         if width < 600:
             size = {"width": width, "height": height, "deviceScaleFactor": 1, "mobile": True}
@@ -53,7 +81,7 @@ class Browser:
 
     def to(self, view: str) -> None:
         """To another view of the page that is loaded."""
-        self.web.execute_script(SET_HASH, view)
+        self.wait(SET_HASH, view)
         self.ready()
 
     def ready(self) -> None:
@@ -64,12 +92,18 @@ class Browser:
         last: typing.Any = None
         since = begun = time.monotonic()
         while time.monotonic() - since < SETTLED:
-            now = self.web.execute_script(SEEN)
+            now = self.seen()
             if now != last or not now[0] or now[1]:
                 last, since = now, time.monotonic()
             if time.monotonic() - begun > 90:
                 raise TimeoutError(f"the page does not settle: {now}")
-            time.sleep(0.03)
+
+    def seen(self) -> list[typing.Any]:
+        """Whether nothing is under way, and what the page shows. One that is loaded anew meanwhile has no answer."""
+        try:
+            return list(self.wait(SEEN))
+        except JavascriptException:
+            return [False, "", "", ""]
 
     def text(self) -> str:
         return self.web.find_element(By.TAG_NAME, "main").text
@@ -96,10 +130,22 @@ class Browser:
     def click(self, selector: str, words: str) -> None:
         for each in self.find(selector):
             if words in each.text and each.is_displayed():
-                each.click()
+                self.click_at(each)
                 self.settle()
                 return
         raise AssertionError(f"no {selector} {words!r} in {self.text()!r}")
+
+    def click_at(self, element: typing.Any) -> None:
+        """A busy machine may lose a click: one that the page does not hear is made again."""
+        before = self.run(CLICKS)
+        element.click()
+        end = time.monotonic() + HEARD
+        while self.run(CLICKS) == before:
+            if time.monotonic() > end:
+                print(f"page: a click was not heard: {element.text!r}", flush=True)
+                element.click()
+                return
+            time.sleep(0.03)
 
     def press(self, words: str) -> None:
         self.click("button", words)
@@ -112,7 +158,6 @@ class Browser:
 
     def wait(self, script: str, *words: object) -> typing.Any:
         """Runs a script that gives its result to a callback, `done`."""
-        self.web.set_script_timeout(120)
         return self.web.execute_async_script(f"const done = arguments[arguments.length - 1]; {script}", *words)
 
     def picture(self, height: int = 3000, width: int | None = None) -> bytes:

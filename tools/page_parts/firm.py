@@ -1,10 +1,12 @@
 """A firm to try the page on: `serve` over a book, the relay, and nginx with the repository's configuration."""
 import base64
+import contextlib
 import email.message
 import http.client
 import http.server
 import os
 import pathlib
+import random
 import re
 import socket
 import socketserver
@@ -19,7 +21,7 @@ ROOT = pathlib.Path(__file__).resolve().parent.parent.parent
 CONFIGURATION = ROOT / "examples" / "operations" / "nginx.conf"
 PEOPLE = ["cashier", "lee", "sato", "ada", "bob", "cleo", "eve", "Lee"]
 STARTED = 10_800  # ./cashier may prove and build the program first
-LATE = 2  # seconds until nginx gives up, in the place of the configuration's
+LATE = 5  # seconds until nginx gives up, in the place of the configuration's
 HEAD = "date,reference,bank_ref,amount,text\n"  # the first line of a statement
 
 Answer = tuple[int, str, dict[str, str]]
@@ -27,10 +29,12 @@ Change = typing.Callable[[str], str]  # of the configuration's text
 
 
 def free_port() -> int:
-    """A port of 127.0.0.1 that nobody has."""
-    with socket.socket() as held:
-        held.bind(("127.0.0.1", 0))
-        return int(held.getsockname()[1])
+    """A port of 127.0.0.1 that nobody has, and that the system gives to nobody who asks for any."""
+    while True:
+        port = random.randrange(10_000, 32_000)
+        with contextlib.suppress(OSError), socket.socket() as held:
+            held.bind(("127.0.0.1", port))
+            return port
 
 
 def wait_for(port: int, seconds: float) -> None:
@@ -180,7 +184,7 @@ class FrontEnd:
         (folder / "files" / "page").symlink_to(ROOT / "web")
         self.write(behind, change)
         self.process = subprocess.Popen(["nginx", "-p", str(folder), "-e", "nginx.err", "-c", "nginx.conf"])
-        wait_for(self.port, 10)
+        wait_for(self.port, 60)
 
     def write(self, behind: int, change: Change) -> None:
         text = CONFIGURATION.read_text(encoding="utf-8")
