@@ -5,8 +5,8 @@
 //!
 //! By public call, with the clauses of its contract in brackets.
 //!
-//! - `read_request`, `answer_record`: what a record asks, by the readers of `ask_fields`, or the first field that is
-//!   not of its form; the desk's answer to it, as the cashier.
+//! - `answer_record`: what a record asks, by the readers of `ask_fields`, or the first field that is not of its form
+//!   (within the crate `read_request`); the desk's answer to it, as the cashier.
 #![tactic(auto)]
 
 mod folder;

@@ -7,9 +7,9 @@
 //!
 //! - within the crate `find_report`: over every book: the bytes of each report on the firm are those of the definition,
 //!   of the book's rows (`told`); nothing changes, after a crash neither (`read`).
-//! - `Desk::answer_reconciliation`: of the cashier's request: NoStatement exactly if no closing balance of the day is
-//!   kept, else PeriodPurged exactly if a matter that was closed after the day has been purged, else the text; nothing
-//!   changes, after a crash neither (`IsAnswered`, `reconciliation_for`).
+//! - within the crate `answer_reconciliation`: of the cashier's request: NoStatement exactly if no closing balance of
+//!   the day is kept, else PeriodPurged exactly if a matter that was closed after the day has been purged, else the
+//!   text; nothing changes, after a crash neither (`IsAnswered`, `reconciliation_for`).
 //!
 //! Each report goes over the rows one at a time, and keeps sums and what it prints; the reconciliation also keeps the
 //! payments issued and not voided by its day, of which it lists those with another's instrument, and the balances dated
@@ -41,7 +41,7 @@
 //!   store still serves (`reads`), as it does after an Ok (`serves`). No clause says what it finds.
 //! - `Desk::tell_exceptions`, `tell_rows`: the book stays as it is, after a crash too (`read`). No clause says what is
 //!   reported.
-//! - within the crate `Desk::apply_item` (`IsAppliedBeside`): an item of a statement, a matter's line, one of the
+//! - within the crate `apply_item` (`IsAppliedBeside`): an item of a statement, a matter's line, one of the
 //!   firm's own, or a balance, is a step of the definition, or nothing changed (`step`, `err`), if the firm's own
 //!   ledger that the import keeps, where it does, is the book's, which it then is again (`kept`); a crash may leave
 //!   what it might have left before, or the rows with the item's change, and after an Ok a settled book is settled on
