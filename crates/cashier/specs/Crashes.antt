@@ -2,7 +2,6 @@
 use Rattle.std.specs.Prelude.{◌≡◌, ◌⊎◌, ℕ, List, Option, None, IfSome, option_map}
 use Rattle.std.specs.Borrow.{Bor}
 use Rattle.clap.specs.Words.{Text}
-use Rattle.firm_rows.specs.Firm.{Firm}
 use Rattle.trust_store.specs.Crashes.{LeavesOr}
 use Rattle.trust_store.specs.Seen.{Seen}
 use Rattle.statement_csv.specs.Items.{items}

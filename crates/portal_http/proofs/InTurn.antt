@@ -1,5 +1,5 @@
 -- Clients that are served in turn.
-use Rattle.portal_http.proofs.Names.{Seen, ◌≡◌, ◌+◌, ◌<◌, ◌≤◌, ℕ, suc, List, [], ◌∷◌, ◌++◌, Option, take, length, refl, sym, ap, ◌∙◌, subst, arith, length-append, Appends, Appends-nil, Appends-trans, take-append-add, append-nil, Firm, StreamEnd, AreServedInTurn, IsClientServed, KeepsStanding, ServedAll, ints, nat_tests}
+use Rattle.portal_http.proofs.Names.{Seen, ◌≡◌, ◌+◌, ◌<◌, ◌≤◌, ℕ, suc, List, [], ◌∷◌, ◌++◌, Option, take, length, refl, sym, ap, ◌∙◌, subst, arith, length-append, Appends, Appends-nil, Appends-trans, take-append-add, append-nil, StreamEnd, AreServedInTurn, IsClientServed, KeepsStanding, ServedAll, ints, nat_tests}
 use Rattle.std.proofs.lemmas.List.Concat.{flat_map-append}
 use Rattle.portal_http.specs.Clients.{Comes, Refused}
 use Rattle.portal_http.specs.EndLines.{end_line, end_lines}
