@@ -254,6 +254,21 @@ impl Likening {
             one.earlier = Some(owner);
         }
     }
+
+    // Takes a bank line of an entry with its amount, if there is one.
+    fn see_line(&mut self, owner: Owner, found: Option<(&Clearing, i64)>) {
+        if let Some((line, amount)) = found {
+            self.see(owner, line.bank_day, &line.bank_ref, amount);
+        }
+    }
+
+    // Takes the lines that cleared an entry or took it back.
+    fn see_entry(&mut self, matter: MatterNo, entry: EntryNo, kept: &Entry) {
+        let owner = Owner::Matter { matter, entry };
+        let lines = EntryLines::of(kept);
+        self.see_line(owner, lines.clearing);
+        self.see_line(owner, lines.returning);
+    }
 }
 
 // Compares a line that an import applied with a line of the book.
@@ -267,17 +282,14 @@ impl MatterRowSink for Likening {
     ghost taken = { λ lines row. lines };
 
     fn matter_row(&mut self, matter: MatterNo, row: MatterRow<'_>) -> Result<(), AllocError> {
-        if let MatterRow::Entry(entry, kept) = row {
-            let owner = Owner::Matter { matter, entry };
-            let lines = EntryLines::of(kept);
-            if let Some((line, amount)) = lines.clearing {
-                self.see(owner, line.bank_day, &line.bank_ref, amount);
-            }
-            if let Some((line, amount)) = lines.returning {
-                self.see(owner, line.bank_day, &line.bank_ref, amount);
+        match row {
+            MatterRow::Head(_head) => Ok(()),
+            MatterRow::Seat(_seat) => Ok(()),
+            MatterRow::Entry(number, entry) => {
+                self.see_entry(matter, number, entry);
+                Ok(())
             }
         }
-        Ok(())
     }
 }
 
