@@ -40,6 +40,8 @@ beside b known = record {
   lasts = b.lasts;
   leaves = b.leaves;
   refusals = b.refusals;
+  sound = λ stands. b.sound stands.0;
+  clean_is_sure = b.clean_is_sure;
 }
 
 -- what a call leaves of the book, and of what is known
