@@ -265,9 +265,12 @@ impl Likening {
     // Takes the lines that cleared an entry or took it back.
     fn see_entry(&mut self, matter: MatterNo, entry: EntryNo, kept: &Entry) {
         let owner = Owner::Matter { matter, entry };
-        let lines = EntryLines::of(kept);
-        self.see_line(owner, lines.clearing);
-        self.see_line(owner, lines.returning);
+        let EntryLines {
+            clearing,
+            returning,
+        } = EntryLines::of(kept);
+        self.see_line(owner, clearing);
+        self.see_line(owner, returning);
     }
 }
 
