@@ -237,7 +237,7 @@ impl Likening {
     }
 
     // Takes a line that the book has. The import's own are among those that it applied; any other is an earlier one.
-    fn see(&mut self, owner: Owner, date: Day, bank_ref: &BankText, amount: i64) {
+    fn see(&mut self, owner: &Owner, date: Day, bank_ref: &BankText, amount: i64) {
         let start = self.lines.partition_point(|one| {
             order_beside(&one.applied.line, date, bank_ref, amount) == Ordering::Less
         });
@@ -247,30 +247,24 @@ impl Likening {
         let Some(alike) = self.lines.as_mut_slice().get_mut(start..end) else {
             return;
         };
-        if alike.iter().any(|one| one.applied.line.owner == owner) {
+        if alike.iter().any(|one| one.applied.line.owner == *owner) {
             return;
         }
         for one in alike {
-            one.earlier = Some(owner);
-        }
-    }
-
-    // Takes a bank line of an entry with its amount, if there is one.
-    fn see_line(&mut self, owner: Owner, found: Option<(&Clearing, i64)>) {
-        if let Some((line, amount)) = found {
-            self.see(owner, line.bank_day, &line.bank_ref, amount);
+            one.earlier = Some(*owner);
         }
     }
 
     // Takes the lines that cleared an entry or took it back.
     fn see_entry(&mut self, matter: MatterNo, entry: EntryNo, kept: &Entry) {
         let owner = Owner::Matter { matter, entry };
-        let EntryLines {
-            clearing,
-            returning,
-        } = EntryLines::of(kept);
-        self.see_line(owner, clearing);
-        self.see_line(owner, returning);
+        let lines = EntryLines::of(kept);
+        if let Some((line, amount)) = lines.clearing {
+            self.see(&owner, line.bank_day, &line.bank_ref, amount);
+        }
+        if let Some((line, amount)) = lines.returning {
+            self.see(&owner, line.bank_day, &line.bank_ref, amount);
+        }
     }
 }
 
@@ -300,7 +294,7 @@ impl FirmLineSink for Likening {
     ghost lined = { λ lines line. lines };
 
     fn firm_line(&mut self, line: &FirmLine) -> Result<(), AllocError> {
-        self.see(Owner::Firm, line.date, &line.bank_ref, line.amount.get());
+        self.see(&Owner::Firm, line.date, &line.bank_ref, line.amount.get());
         Ok(())
     }
 }
