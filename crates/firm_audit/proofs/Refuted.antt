@@ -86,18 +86,18 @@ module _ (firm : Firm) (sound : FirmSound firm) where
 
 -- All rows.
 
-none-of_matters : (ks : List KeptMatter) (f : Flaw) → AreKeptWhole ks → IsMatterFlaw ks f → ⊥
-none-of_matters ks (flaw.Matter m) kept is = none-flawed ks m kept is
-none-of_matters ks (flaw.Entry m n) kept is = is
-none-of_matters ks (flaw.Journal m) kept is = is
-none-of_matters ks (flaw.Movement n) kept is = is
-none-of_matters ks flaw.OwnMovements kept is = is
-none-of_matters ks (flaw.FirmLine n) kept is = is
-none-of_matters ks (flaw.Exception n) kept is = is
-none-of_matters ks (flaw.Balance n) kept is = is
+pub none_of_matters : (ks : List KeptMatter) (f : Flaw) → AreKeptWhole ks → IsMatterFlaw ks f → ⊥
+none_of_matters ks (flaw.Matter m) kept is = none-flawed ks m kept is
+none_of_matters ks (flaw.Entry m n) kept is = is
+none_of_matters ks (flaw.Journal m) kept is = is
+none_of_matters ks (flaw.Movement n) kept is = is
+none_of_matters ks flaw.OwnMovements kept is = is
+none_of_matters ks (flaw.FirmLine n) kept is = is
+none_of_matters ks (flaw.Exception n) kept is = is
+none_of_matters ks (flaw.Balance n) kept is = is
 
 none-in : (rows : AllRows) (f : Flaw) → AreSound rows → IsFlawIn rows f → ⊥
-none-in rows f sound (inl is) = none-of_matters rows.matters.items f sound.matters is
+none-in rows f sound (inl is) = none_of_matters rows.matters.items f sound.matters is
 none-in rows f sound (inr is) = refuted (firm_of_all rows) sound.firm f is
 
 -- a flaw that is there is found exactly if the rows are not sound

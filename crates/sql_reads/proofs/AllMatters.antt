@@ -1,6 +1,10 @@
--- The matters of the numbers of all heads are those for which the tables stand.
+-- The matters of the numbers of all heads are those for which the tables stand, in order.
 use Rattle.sql_reads.proofs.Names.{◌≡◌, ℕ, ℤ, pos, List, [], ◌∷◌, map, find, Some, option_map, refl, ap₂, AllByRecursion, IsKeyedBy, all_both, Lists, is_head, kept_from, matter_from, matters_from, head_at, apart_below, int_eq-itself, numbered_at, AreNumbersOf, arith, ints, nat_tests}
+use Rattle.std.specs.Prelude.{◌<ℤ◌, ◌++◌}
+use Rattle.trust_store.specs.Kept.{Ascends, IsBefore, IsKeptWhole}
 use Rattle.sql_tables.specs.Rows as table
+use Rattle.matter_parts.specs.Audit.{IsSoundWhole}
+use Rattle.trust_store.specs.declared.plain.KeptMatter.{KeptMatter}
 
 abbrev key : table.Head → ℤ
 key h = h.no
@@ -9,6 +13,11 @@ key h = h.no
 own_heads : (hs : List table.Head) → IsKeyedBy key hs → AllByRecursion (λ (h : table.Head). find (is_head h.no) hs ≡ Some h) hs
 own_heads [] up = tt
 own_heads (x ∷ xs) up = grind (arith, ints, nat_tests, find, int_eq-itself, all_both, apart_below, (own_heads xs up.1))
+
+-- one matter more
+pub whole_more : (ks : List KeptMatter) (k : KeptMatter) → AllByRecursion IsKeptWhole ks → IsSoundWhole k.matter → AllByRecursion IsKeptWhole (ks ++ k ∷ [])
+whole_more [] k all sound = (record { whole = sound.whole; sound = sound.sound }, tt)
+whole_more (j ∷ ks) k all sound = (all.0, whole_more ks k all.1 sound)
 
 module _ (a : Lists) where
   one_matter : (h : table.Head) (n : ℕ) → pos n ≡ h.no → find (is_head h.no) a.heads ≡ Some h → numbered_at a n ≡ matter_from a h
@@ -26,3 +35,24 @@ module _ (a : Lists) where
 
   pub matters_read : IsKeyedBy key a.heads → (ns : List ℕ) → AreNumbersOf a.heads ns → map (numbered_at a) ns ≡ matters_from a
   matters_read up ns are = each_matter a.heads ns are (own_heads a.heads up)
+
+  -- Their order.
+
+  before-others : (h : table.Head) (n : ℕ) (hs : List table.Head) (ns : List ℕ) → pos n ≡ h.no → AllByRecursion (λ x. key h <ℤ key x) hs → AreNumbersOf hs ns → IsBefore n (map (numbered_at a) ns)
+  before-others h n [] [] own up are = tt
+  before-others h n [] (m ∷ ns) own up are = absurd (let e = are in cc)
+  before-others h n (x ∷ hs) [] own up are = absurd (let e = are in cc)
+  before-others h n (x ∷ hs) (m ∷ ns) own up are =
+      let number : pos m ≡ x.no = (let e = are in cc) in
+      let others : AreNumbersOf hs ns = (let e = are in cc) in
+      (omega (arith, ints, own, number, up.0), before-others h n hs ns own up.1 others)
+
+  -- matters by the numbers of heads, of which each is above those before it
+  pub matters_ascend : (hs : List table.Head) (ns : List ℕ) → IsKeyedBy key hs → AreNumbersOf hs ns → Ascends (map (numbered_at a) ns)
+  matters_ascend [] [] up are = tt
+  matters_ascend [] (n ∷ ns) up are = absurd (let e = are in cc)
+  matters_ascend (h ∷ hs) [] up are = absurd (let e = are in cc)
+  matters_ascend (h ∷ hs) (n ∷ ns) up are =
+      let number : pos n ≡ h.no = (let e = are in cc) in
+      let others : AreNumbersOf hs ns = (let e = are in cc) in
+      (before-others h n hs ns number up.0 others, matters_ascend hs ns up.1 others)

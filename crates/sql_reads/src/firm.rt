@@ -5,7 +5,7 @@ ghost use Rattle.sqlite.specs.Held.{state};
 ghost use Rattle.sqlite.specs.State.{HasCleanDisk};
 ghost use Rattle.firm_rows.specs.Firm.{empty_firm};
 ghost use Rattle.sql_schema.specs.declared.layout.Layout.{Layout};
-ghost use Rattle.trust_store.specs.Kept.{firm_of_all};
+ghost use Rattle.trust_store.specs.Kept.{AreKeptWhole, firm_of_all};
 ghost use Rattle.sql_tables.specs.Lists.{lists_in};
 ghost use Rattle.sql_tables.specs.Reading.{LeavesAll};
 ghost use Rattle.sql_tables.specs.Standing.{Stands};
@@ -25,6 +25,7 @@ use trust_base::{Line, StoreFault};
 use trust_store::{AllRows, KeptMatter};
 
 // Reads each matter that has a head, by number. Returns `Store` if one is not whole or not sound.
+#[tactic(auto, using(crate::proofs::AllMatters::whole_more))]
 fn all_matters<S: Alter>(
     conn: &mut Connection<S>,
     alloc: Global,
@@ -33,6 +34,8 @@ fn all_matters<S: Alter>(
     ensures mode { conn.new.in_transaction ≡ false }
     ensures read { (l : Layout) → HasCleanDisk (state S.Store conn.new) → Stands l (state S.Store conn.old).now
         → IfOk result (λ matters. matters.items ≡ matters_from (lists_in l (state S.Store conn.old).now.trees)) }
+    ensures whole { (l : Layout) → HasCleanDisk (state S.Store conn.new) → Stands l (state S.Store conn.old).now
+        → IfOk result (λ matters. AreKeptWhole matters.items) }
     ensures left { LeavesAll result (state S.Store conn.old) (state S.Store conn.new) }
 {
     let numbers = head_numbers(conn, alloc)?;
@@ -144,6 +147,8 @@ pub fn all_rows<S: Alter>(conn: &mut Connection<S>, alloc: Global) -> Result<All
     ensures mode { conn.new.in_transaction ≡ false }
     ensures read { (l : Layout) → HasCleanDisk (state S.Store conn.new) → Stands l (state S.Store conn.old).now
         → IfOk result (λ rows. firm_of_all rows ≡ firm_in l (state S.Store conn.old).now.trees) }
+    ensures whole { (l : Layout) → HasCleanDisk (state S.Store conn.new) → Stands l (state S.Store conn.old).now
+        → IfOk result (λ rows. AreKeptWhole rows.matters.items) }
     ensures left { LeavesAll result (state S.Store conn.old) (state S.Store conn.new) }
 {
     let matters = all_matters(conn, alloc)?;

@@ -23,7 +23,8 @@
 //!   all its entries: each a field of one part, which is whole (`head`, `seats`, `found`).
 //! - `firm_ledger`, `balance_at`: the firm's own lines; the balance of a kind and day (`found`).
 //! - `all_rows`: all rows at once, each matter whole: **of tables that stand for records, sound or not**, they are
-//!   those of the firm that the tables hold (`read`). A matter that is not the whole of sound rows is Store.
+//!   those of the firm that the tables hold (`read`), and each matter is the whole of sound rows, by number (`whole`).
+//!   A matter that is not is Store.
 //! - each of these: changes nothing, not even after a crash, whatever the tables hold (`left`), since its query is a
 //!   SELECT. That a row which stands for nothing is Store is promised of `sql_rows`; of these calls it is tested,
 //!   column by column (`worked_tables`, `cases/spoiled-books.txt`), and so is what is not noticed: a call that reads

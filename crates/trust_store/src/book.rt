@@ -10,7 +10,7 @@ ghost use Rattle.firm_rows.specs.FirmLines.{kept_balance};
 ghost use Rattle.firm_rows.specs.FirmSound.{IsVerdictOn, IsFirmVerdict, IsBalanceVerdict};
 ghost use Rattle.firm_rows.specs.Handing.{AreHanded};
 ghost use Rattle.trust_store.specs.Calls.{IsRead, IsWrite, IsWriteIf};
-ghost use Rattle.trust_store.specs.Kept.{firm_of_all};
+ghost use Rattle.trust_store.specs.Kept.{AreKeptWhole, firm_of_all};
 ghost use Rattle.trust_store.specs.Named.{IsPartFor};
 
 use crate::all_rows::AllRows;
@@ -70,11 +70,13 @@ pub trait Book {
             → IfOk result (λ kept. kept ≡ kept_balance kind day (seen self.old).firm.balances) }
         ensures read { IsRead result (seen self.old) (seen self.new) };
 
-    /// Returns all rows, each matter with all its entries. They need not be those of a sound firm, but a matter that is
-    /// not complete and sound makes the call return `Store`.
+    /// Returns all rows, each matter with all its entries, by number. They need not be those of a sound firm, but each
+    /// matter is complete and sound: one that is not makes the call return `Store`.
     fn all_rows(&mut self, alloc: Global) -> Result<AllRows, StoreFault>
         ensures found { (seen self.new).clean → (seen self.old).readable
             → IfOk result (λ rows. firm_of_all rows ≡ (seen self.old).firm) }
+        ensures whole { (seen self.new).clean → (seen self.old).readable
+            → IfOk result (λ rows. AreKeptWhole rows.matters.items) }
         ensures read { IsRead result (seen self.old) (seen self.new) };
 
     /// Passes each row to the sink, sorted by matter, and within a matter the head, then the seats by person, then the

@@ -1,4 +1,4 @@
-use Rattle.sql_reads.proofs.Names.{◌≡◌, false, map, take, state, HasCleanDisk, Layout, lists_in, heads_in, Stands, numbered_at, AreNumbersOf}
+use Rattle.sql_reads.proofs.Names.{◌≡◌, false, map, AllByRecursion, IsKeptWhole, take, state, HasCleanDisk, Layout, lists_in, heads_in, Stands, numbered_at, AreNumbersOf}
 use Rattle.sql_reads.proofs.Going.{AllLeft}
 use Rattle.sql_reads.proofs.firm.all_matters.Given as goal
 
@@ -12,4 +12,5 @@ invariant-each g l = record {
   read : (y : Layout) → HasCleanDisk (state g.S.Store l.conn) → Stands y (state g.S.Store l.fn.conn).now
       → l.matters.items
       ≡ map (numbered_at (lists_in y (state g.S.Store l.fn.conn).now.trees)) (take l.number-index l.number-items);
+  whole : AllByRecursion IsKeptWhole l.matters.items;
 }
