@@ -3,6 +3,8 @@ pub mod Refused
 pub mod ItemsApplied
 pub mod Beside
 pub mod Calls
+pub mod FlawsFound
+pub mod Counting
 pub mod Crashes
 pub mod MadeRows
 pub mod ItemsRead

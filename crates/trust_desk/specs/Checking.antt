@@ -1,12 +1,32 @@
 -- What a check of a book returns, and what a series of reads that may fail leaves of it.
-use Rattle.std.specs.Prelude.{◌≡◌, length}
-use Rattle.firm_rows.specs.Firm.{Firm}
+use Rattle.std.specs.Prelude.{◌≡◌, ◌-◌, ◌^◌, ℕ, Bool, true, false, List, count_by, length, min}
+use Rattle.firm_rows.specs.Firm.{EntryRow, Firm, HeadRow, Row, SeatRow}
 use Rattle.trust_store.specs.Crashes.{LeavesBefore}
 use Rattle.trust_store.specs.Seen.{Seen}
 use Rattle.trust_desk.specs.declared.checking.RowCounts.{RowCounts}
 
--- the firm has this many movements, lines of its own, exceptions and balances
+-- each matter that was ever opened has one head, also if it was purged
+abbrev pub is_head : Row → Bool
+is_head (HeadRow head) = true
+is_head (SeatRow seat) = false
+is_head (EntryRow number entry) = false
+
+abbrev pub is_entry : Row → Bool
+is_entry (HeadRow head) = false
+is_entry (SeatRow seat) = false
+is_entry (EntryRow number entry) = true
+
+abbrev pub matter_count : List (ℕ × Row) → ℕ
+matter_count rows = count_by (λ p. is_head p.1) rows
+
+abbrev pub entry_count : List (ℕ × Row) → ℕ
+entry_count rows = count_by (λ p. is_entry p.1) rows
+
+-- the firm has this many matters, entries (up to the greatest 64-bit number), movements, lines of its own, exceptions
+-- and balances
 pub record AreCountsOf (firm : Firm) (counts : RowCounts) : Type 0 where
+  pub matters : counts.matters ≡ matter_count firm.rows
+  pub entries : counts.entries ≡ min (entry_count firm.rows) (2 ^ 64 - 1)
   pub movements : counts.movements ≡ length firm.movements
   pub firm_lines : counts.firm_lines ≡ length firm.firm_lines
   pub exceptions : counts.exceptions ≡ length firm.exceptions

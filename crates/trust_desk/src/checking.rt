@@ -1,10 +1,11 @@
 //! Whether a book's rows are those of a sound firm.
 
-ghost use Rattle.std.specs.Prelude.{◌≡◌, IfOk, None};
+ghost use Rattle.std.specs.Prelude.{◌≡◌, ◌↔◌, ◌-◌, ◌^◌, IfOk, IfSome, None, min};
+ghost use Rattle.firm_audit.specs.Flaws.{IsFlawOf};
 ghost use Rattle.firm_rows.specs.FirmSound.{FirmSound};
-ghost use Rattle.trust_desk.specs.Checking.{AreCountsOf};
+ghost use Rattle.trust_desk.specs.Checking.{AreCountsOf, entry_count, matter_count};
 ghost use Rattle.trust_store.specs.Calls.{IsRead};
-ghost use Rattle.trust_store.specs.Kept.{firm_of_all};
+ghost use Rattle.trust_store.specs.Kept.{firm_of_all, joined};
 
 use crate::desk::Desk;
 use firm_audit::{Flaw, audit};
@@ -15,9 +16,9 @@ use trust_store::{AllRows, Book, KeptMatter};
 /// How many rows of each kind a book has.
 #[derive(Clone, Copy, Debug, PartialEq, Eq)]
 pub struct RowCounts {
-    /// The number of matters.
+    /// The number of matters that were opened, purged ones too.
     pub matters: u64,
-    /// The number of entries of all matters.
+    /// The number of entries of all matters, up to 2^64 - 1.
     pub entries: u64,
     /// The number of movements in the journal.
     pub movements: u64,
@@ -38,8 +39,23 @@ pub struct Checked {
     pub counts: RowCounts,
 }
 
-// How many entries these matters have.
-fn entries_of(matters: &[KeptMatter]) -> u64 {
+// How many of these matters were opened.
+fn opened_of(matters: &[KeptMatter]) -> u64
+    ensures { result ≡ matter_count (joined matters.now) }
+{
+    let mut count = 0u64;
+    for kept in matters {
+        if kept.matter.head().is_some() {
+            count += 1;
+        }
+    }
+    count
+}
+
+// How many entries these matters have, up to 2^64 - 1.
+fn entries_of(matters: &[KeptMatter]) -> u64
+    ensures { result ≡ min (entry_count (joined matters.now)) (2 ^ 64 - 1) }
+{
     let mut count = 0u64;
     for kept in matters {
         count = count.saturating_add(kept.matter.kept().len() as u64);
@@ -52,7 +68,7 @@ fn counts_of(rows: &AllRows) -> RowCounts
     ensures { AreCountsOf (firm_of_all rows.now) result }
 {
     RowCounts {
-        matters: rows.matters.len() as u64,
+        matters: opened_of(&rows.matters),
         entries: entries_of(&rows.matters),
         movements: rows.movements.len() as u64,
         firm_lines: rows.firm_lines.len() as u64,
@@ -63,14 +79,17 @@ fn counts_of(rows: &AllRows) -> RowCounts
 
 impl<B: Book> Desk<B> {
     /// Reads all rows of the book, and returns how many there are and what is not sound in them. The store may hold
-    /// anything that can be read as rows. If no flaw is returned, the rows are those of a sound firm. The book is
+    /// anything that can be read as rows. No flaw is returned exactly if the rows are those of a sound firm, and one
+    /// that is returned is there. It is never `Flaw::Matter`, since a book returns whole matters only. The book is
     /// unchanged.
     ///
     /// Returns `Store` if the book's store failed, if a row is invalid, or if a matter is not the whole of sound rows;
     /// `find_unread` then returns which. Returns `Memory` if memory ran out.
     pub fn check(&mut self, alloc: Global) -> Result<Checked, StoreFault>
         ensures sound { (B.seen self.new).clean → (B.seen self.old).readable
-            → IfOk result (λ c. c.flaw ≡ None → FirmSound (B.seen self.old).firm) }
+            → IfOk result (λ c. c.flaw ≡ None ↔ FirmSound (B.seen self.old).firm) }
+        ensures flaw { (B.seen self.new).clean → (B.seen self.old).readable
+            → IfOk result (λ c. IfSome c.flaw (IsFlawOf (B.seen self.old).firm)) }
         ensures counts { (B.seen self.new).clean → (B.seen self.old).readable
             → IfOk result (λ c. AreCountsOf (B.seen self.old).firm c.counts) }
         ensures read { IsRead result (B.seen self.old) (B.seen self.new) }

@@ -33,10 +33,10 @@
 //! - `Desk::match_statement`: over every book: a statement whose references may be empty is refused as an import of it
 //!   would be, or becomes the two texts that the definition gives for the day and the firm's rows (`matched`); the firm
 //!   stays as it is (`same`), also after a crash (`crash`).
-//! - `Desk::check`: over every book whose store can be read as rows, **sound or not: if it finds no flaw, the rows are
-//!   those of a sound firm** (`sound`); there are as many movements, lines of the firm's own, exceptions and balances
-//!   as it says (`counts`); the book stays as it is, after a crash too (`read`). That it finds no flaw in a sound firm,
-//!   and how many matters and entries there are, is tested.
+//! - `Desk::check`: over every book whose store can be read as rows, **sound or not: it finds no flaw exactly if the
+//!   rows are those of a sound firm** (`sound`), and a flaw that it finds is there (`flaw`); there are as many matters,
+//!   entries, movements, lines of the firm's own, exceptions and balances as it says (`counts`); the book stays as it
+//!   is, after a crash too (`read`). An error wants no cause.
 //! - `Desk::find_unread`: it reads, and any of its reads may fail: the book stays as it is, also after a crash if the
 //!   store still serves (`reads`), as it does after an Ok (`serves`). No clause says what it finds.
 //! - `Desk::tell_exceptions`, `tell_rows`: the book stays as it is, after a crash too (`read`). No clause says what is
