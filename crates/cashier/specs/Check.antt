@@ -5,6 +5,7 @@ use Rattle.std.specs.Io.KnownBytes.{Appends}
 use Rattle.trust_base.specs.Refusals.{refused_by}
 use Rattle.trust_base.specs.Texts.{entry_text, matter_text}
 use Rattle.trust_base.specs.declared.refusal.StoreFault.{StoreFault}
+use Rattle.firm_audit.specs.Flaws.{IsFlawOf}
 use Rattle.firm_audit.specs.declared.flaw.Flaw.{Flaw}
 use Rattle.firm_audit.specs.declared.flaw.Flaw.TheVariants as flaws
 use Rattle.firm_rows.specs.Firm.{Firm}
@@ -93,11 +94,18 @@ pub record CheckEnds (before after : Firm) (old new : Option (List ℕ)) (told :
   pub found : Result CheckFound StoreFault
   pub prints : PrintsCheck found old new told
 
--- what is said to be sound is sound, and has this many rows
+-- what is said to be sound is sound, and has this many rows; a flaw is one that the firm has. Of a row that the book
+-- refused to read the firm's rows say nothing
 abbrev pub IsTrueOf : Firm → CheckFound → Type 0
 IsTrueOf firm (found.Sound counts) = FirmSound firm × AreCountsOf firm counts
-IsTrueOf firm (found.Flawed flaw) = ⊤
+IsTrueOf firm (found.Flawed flaw) = IsFlawOf firm flaw
 IsTrueOf firm (found.Unreadable row) = ⊤
+
+-- the same, and it is not that the firm is sound
+abbrev pub IsUnsoundBy : Firm → CheckFound → Type 0
+IsUnsoundBy firm (found.Sound counts) = ⊥
+IsUnsoundBy firm (found.Flawed flaw) = IsFlawOf firm flaw
+IsUnsoundBy firm (found.Unreadable row) = ⊤
 
 -- it was found sound, and this was printed
 pub record IsSaid (told : Result CheckFound StoreFault) (old new : Option (List ℕ)) : Type 0 where
@@ -105,9 +113,27 @@ pub record IsSaid (told : Result CheckFound StoreFault) (old new : Option (List 
   pub is : told ≡ Ok (found.Sound counts)
   pub printed : Appends old new (check_text (found.Sound counts))
 
+-- it was found not to be sound, or not to be readable, and this was printed
+pub record IsSaidRefused (told : Result CheckFound StoreFault) (old new : Option (List ℕ)) : Type 0 where
+  pub found : CheckFound
+  pub is : told ≡ Ok found
+  pub refused : found_outcome found ≡ outcome.Refused
+  pub printed : Appends old new (check_text found)
+
 -- the firm was said to be sound, and is
 pub record IsSaidSound (firm : Firm) (old new : Option (List ℕ)) : Type 0 where
   pub counts : RowCounts
   pub printed : Appends old new (check_text (found.Sound counts))
   pub sound : FirmSound firm
   pub are : AreCountsOf firm counts
+
+-- a flaw was printed, which the firm has, or a row that the book refused to read
+pub record IsSaidUnsound (firm : Firm) (old new : Option (List ℕ)) : Type 0 where
+  pub found : CheckFound
+  pub printed : Appends old new (check_text found)
+  pub unsound : IsUnsoundBy firm found
+
+-- what a check that ended so printed is true of the firm
+pub record IsCheckTrue (firm : Firm) (old new : Option (List ℕ)) (ended : Outcome) : Type 0 where
+  pub sound : ended ≡ outcome.Done → IsSaidSound firm old new
+  pub unsound : ended ≡ outcome.Refused → IsSaidUnsound firm old new

@@ -10,7 +10,7 @@ use Rattle.portal_http.specs.Clients.{Ports}
 use Rattle.command_line.specs.Program.{Means, MeansCheck, MeansNothing, db_of}
 use Rattle.command_line.specs.declared.command.Task.{Task}
 use Rattle.cashier.specs.Calls.{CountsStoreIn, LeavesBook}
-use Rattle.cashier.specs.Check.{IsSaidSound}
+use Rattle.cashier.specs.Check.{IsCheckTrue}
 use Rattle.cashier.specs.Crashes.{LeavesRun}
 use Rattle.cashier.specs.Outcome.{HasBegun, Ran, put_outcome, store_outcome}
 use Rattle.cashier.specs.declared.outcome.Outcome.{Outcome}
@@ -49,8 +49,8 @@ module _ {B W : Type 0} (seen : B → Seen) where
         → Ran words input known opens ports (seen before).firm (seen after).firm old new ended
     pub crash : (seen after).sure → (seen before).stands
         → LeavesRun seen words input known opens ports old new before after ended
-    pub checked : (seen after).clean → (seen before).readable → MeansCheck words → ended ≡ outcome.Done
-        → IsSaidSound (seen before).firm old new
+    pub checked : (seen after).clean → (seen before).readable → MeansCheck words
+        → IsCheckTrue (seen before).firm old new ended
     -- the book after it was read once more for what a person is told; this is the one that was put back
     pub shown : B
     pub read : AreReads (seen after) (seen shown)

@@ -1,10 +1,11 @@
 // Checks the book's rows.
 
-ghost use Rattle.std.specs.Prelude.{◌≡◌, ◌≢◌, ◌⊎◌, IfOk, OnOk, Ok, Err, None, Some};
+ghost use Rattle.std.specs.Prelude.{◌≡◌, ◌≢◌, ◌⊎◌, ◌↔◌, IfOk, IfSome, OnOk, Ok, Err, None, Some};
 ghost use Rattle.std.specs.Io.KnownBytes.{Appends};
 ghost use Rattle.cashier.specs.Calls.{IsAny, LeavesBook};
-ghost use Rattle.cashier.specs.Check.{CheckEnds, IsSaid, IsSaidSound, IsTrueOf, PrintsCheck, check_text};
+ghost use Rattle.cashier.specs.Check.{CheckEnds, IsCheckTrue, IsSaid, IsSaidRefused, IsTrueOf, PrintsCheck, check_text};
 ghost use Rattle.cashier.specs.Check.{counts_text, flaw_text, found_outcome, unread_text};
+ghost use Rattle.firm_audit.specs.Flaws.{IsFlawOf};
 ghost use Rattle.firm_rows.specs.Firm.{Firm};
 ghost use Rattle.firm_rows.specs.FirmSound.{FirmSound};
 ghost use Rattle.trust_desk.specs.Checking.{AreCountsOf, AreReads};
@@ -130,8 +131,8 @@ impl fmt::Display for CheckFound {
 
 // The result of a check in which all rows could be read.
 fn found_of(checked: Checked) -> CheckFound
-    ensures { (firm : Firm) → (checked.flaw ≡ None → FirmSound firm) → AreCountsOf firm checked.counts
-        → IsTrueOf firm result }
+    ensures { (firm : Firm) → (checked.flaw ≡ None ↔ FirmSound firm) → IfSome checked.flaw (IsFlawOf firm)
+        → AreCountsOf firm checked.counts → IsTrueOf firm result }
 {
     match checked.flaw {
         Some(flaw) => CheckFound::Flawed(flaw),
@@ -176,6 +177,7 @@ fn print_fault<W: Write>(writer: &mut W, fault: StoreFault) -> Outcome
     ensures began { result ≢ Outcome.CommandLine }
     ensures prints { PrintsCheck (Err fault) (W.contents writer.old) (W.contents writer.new) result }
     ensures unsaid { result ≢ Outcome.Done }
+    ensures unrefused { result ≢ Outcome.Refused }
 {
     let refusal = Refusal::from(fault);
     let Ok(()) = write_refusal(writer, &refusal) else {
@@ -190,6 +192,8 @@ fn print_told<W: Write>(alloc: Global, writer: &mut W, told: &CheckFound) -> Out
     ensures prints { PrintsCheck (Ok told.now) (W.contents writer.old) (W.contents writer.new) result
         ⊎ PrintsCheck (Err StoreFault.Memory) (W.contents writer.old) (W.contents writer.new) result }
     ensures said { result ≡ Outcome.Done → IsSaid (Ok told.now) (W.contents writer.old) (W.contents writer.new) }
+    ensures refused { result ≡ Outcome.Refused
+        → IsSaidRefused (Ok told.now) (W.contents writer.old) (W.contents writer.new) }
 {
     let Ok(text) = format!(in alloc; "{told}") else {
         return print_fault(writer, StoreFault::Memory);
@@ -210,6 +214,8 @@ fn print_found<W: Write>(
     ensures prints { PrintsCheck found.now (W.contents writer.old) (W.contents writer.new) result
         ⊎ PrintsCheck (Err StoreFault.Memory) (W.contents writer.old) (W.contents writer.new) result }
     ensures said { result ≡ Outcome.Done → IsSaid found.now (W.contents writer.old) (W.contents writer.new) }
+    ensures refused { result ≡ Outcome.Refused
+        → IsSaidRefused found.now (W.contents writer.old) (W.contents writer.new) }
 {
     match found {
         Ok(told) => print_told(alloc, writer, told),
@@ -228,7 +234,8 @@ fn tell_found<M: Remarks>(remarks: &M, found: &Result<CheckFound, StoreFault>) {
 
 /// Checks all rows of a desk's book, and prints that they are those of a sound firm and how many there are, or what is
 /// not sound in them. Remarks tell a person more. The store may hold anything that can be read as rows. If the outcome
-/// is `Done`, the rows are those of a sound firm. The book is unchanged.
+/// is `Done`, the rows are those of a sound firm; if it is `Refused`, the flaw that is printed is there, or the book
+/// refused to read the row that is. The book is unchanged.
 ///
 /// The outcome is `Done` if the rows are sound, and `Refused` if they are not, or a row is invalid. If the book could
 /// not be read or memory ran out, the line of that refusal was printed, and the outcome is `StoreFault` or
@@ -240,8 +247,8 @@ pub fn run_check<M: Remarks, W: Write, B: Book>(
     desk: &mut Desk<B>,
     today: Day,
 ) -> Outcome
-    ensures sound { (B.seen desk.new).clean → (B.seen desk.old).readable → result ≡ Outcome.Done
-        → IsSaidSound (B.seen desk.old).firm (W.contents writer.old) (W.contents writer.new) }
+    ensures sound { (B.seen desk.new).clean → (B.seen desk.old).readable
+        → IsCheckTrue (B.seen desk.old).firm (W.contents writer.old) (W.contents writer.new) result }
     ensures began { result ≢ Outcome.CommandLine }
     ensures ends { (B.seen desk.new).clean → (B.seen desk.old).stands
         → CheckEnds (B.seen desk.old).firm (B.seen desk.new).firm (W.contents writer.old) (W.contents writer.new)

@@ -32,12 +32,14 @@
 //!   written is its text alone or its refusal's line; the outcome is that of the reply, as `StoreFault` for Store, or
 //!   `OutputFault` if a write failed and a proper prefix was written (`ends`); `StoreFault` only if a call of the book
 //!   answered Store (`kept`). A crash may leave what it might have left before, or these same rows (`crash`).
-//! - `run_check`: over every book: **if it ends by `Done`, and the store's rows can be read, sound or not, they are
-//!   those of a sound firm, and `SOUND` with so many movements, lines, exceptions and balances was printed** (`sound`).
-//!   The firm stays; what was found was printed, or the line of the fault, or a proper prefix of it if a write failed,
-//!   and the outcome is that (`ends`). A book that stood for a sound firm still does (`kept`). If the store still
-//!   serves, as it does after `Done` (`serves`), a crash may leave what it might have left before, or these same rows
-//!   (`crash`). No clause says how many faults of the store it counted, nor what standard error says.
+//! - `run_check`: over every book whose store's rows can be read, sound or not: **if it ends by `Done`, they are those
+//!   of a sound firm, and `SOUND` was printed with their counts, matters and entries among them; if it ends by
+//!   `Refused`, the flaw that was printed is there**, so that the firm is not sound, or it was a row that the book
+//!   refused to read (`sound`). The firm stays; what was found was printed, or the line of the fault, or a proper
+//!   prefix of it if a write failed, and the outcome is that (`ends`). A book that stood for a sound firm still does
+//!   (`kept`). If the store still serves, as it does after `Done` (`serves`), a crash may leave what it might have left
+//!   before, or these same rows (`crash`). No clause says how many faults of the store it counted, nor what standard
+//!   error says.
 //! - `run_serve`: over every book, clock and network: the port could not be had, and nothing was served or written
 //!   (`NetworkFault`); or its clients were served in turn, each over the firm that the one before left, with what a
 //!   stream promises of its messages, replies and rows, the replies sent to that client, and a line for each end was
@@ -59,9 +61,10 @@
 //!   left is sound. If they name one, either no book could be opened there, and nothing was read or written
 //!   (`StoreFault`, or `MemoryFault`); or a book was opened that the store finds there (`finds`) and that serves. Then
 //!   what is said of the run holds if the book stood and its store is clean at the end (of a crash: even if a fault has
-//!   shut the store), and the firm that is left is sound. **If the words mean a check that ends by `Done`, the rows are
-//!   those of a sound firm, whatever the store kept that can be read as rows** (`checked`). The book that the run left
-//!   was put back (`puts`); if that failed and the run had ended by no fault, the outcome is one of these two (`ran`).
+//!   shut the store), and the firm that is left is sound. **If the words mean a check, what it printed is true of the
+//!   rows, as `run_check` says it, whatever the store kept that can be read as rows** (`checked`). The book that the
+//!   run left was put back (`puts`); if that failed and the run had ended by no fault, the outcome is one of these two
+//!   (`ran`).
 //! - `exit_of`: the exit status of each outcome.
 #![tactic(auto)]
 

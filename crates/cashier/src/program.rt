@@ -4,7 +4,7 @@ ghost use Rattle.std.specs.Prelude.{◌≡◌, ◌≢◌, ◌⊎◌, ℕ, IfErr,
 ghost use Rattle.std.specs.String.{string_bytes};
 ghost use Rattle.clap.specs.Words.{Text};
 ghost use Rattle.cashier.specs.Calls.{CountsStore, CountsStoreIn, LeavesBook};
-ghost use Rattle.cashier.specs.Check.{IsSaidSound};
+ghost use Rattle.cashier.specs.Check.{IsCheckTrue};
 ghost use Rattle.cashier.specs.Crashes.{LeavesClients, LeavesItems, LeavesRun};
 ghost use Rattle.cashier.specs.Outcome.{FileEnds, Ran, words_outcome};
 ghost use Rattle.cashier.specs.Runs.{HadNoBook, HasRun, RanAtPath, RanInMemory};
@@ -155,8 +155,7 @@ fn run_plan<R: Read, F: Folder, C: Clock + Drop, N: Network, M: Remarks, W: Writ
         (N.refuses around.entry.network.now)) (B.seen desk.old).firm (B.seen desk.new).firm
         (W.contents writer.old) (W.contents writer.new) result }
     ensures sound { (B.seen desk.new).clean → (B.seen desk.old).readable → plan.now.task ≡ Task.Check
-        → result ≡ Outcome.Done
-        → IsSaidSound (B.seen desk.old).firm (W.contents writer.old) (W.contents writer.new) }
+        → IsCheckTrue (B.seen desk.old).firm (W.contents writer.old) (W.contents writer.new) result }
     ensures kept { (words : List Text) → Means words plan.now.today plan.now.task
         → LeavesBook (CountsStoreIn words result) (B.seen desk.old) (B.seen desk.new) }
     ensures crash { (words : List Text) → Means words plan.now.today plan.now.task

@@ -1,5 +1,5 @@
 use Rattle.cashier.proofs.Names.{inl, arith, ints, nat_tests}
-use Rattle.cashier.proofs.CheckFacts.{check-ends, reads-leave, said-ok, said-sound}
+use Rattle.cashier.proofs.CheckFacts.{check-ends, reads-leave, said-ok, check-true}
 use Rattle.cashier.proofs.check.run_check.Goals as goal
 
 pub returns-clause-ends : goal.returns-clause-ends
@@ -7,7 +7,8 @@ returns-clause-ends g c = λ clean stands.
     check-ends _ _ _ _ _ _ (c.find_flaw-found.ensures.reads.same clean stands) c.print_found.ensures.prints
 
 pub returns-clause-sound : goal.returns-clause-sound
-returns-clause-sound g c = grind (arith, ints, nat_tests, said-sound)
+returns-clause-sound g c = λ clean readable.
+    check-true _ _ _ _ _ (c.find_flaw-found.ensures.sound clean readable) c.print_found.ensures.said c.print_found.ensures.refused
 
 pub returns-clause-kept : goal.returns-clause-kept
 returns-clause-kept g c = reads-leave c.find_flaw-found.ensures.reads
