@@ -1,6 +1,5 @@
 -- What is alike has one number.
-use Rattle.statement_lines.proofs.Names.{◌≡◌, ℕ, ◌==◌, true, false, List, [], Some, None, unsigned_abs, int_eq, bytes_eq, and_parts, eqb-true, eq-eqb, bytes_eq-Decides, Line, amount_key, booking_key, claim_key, line_key, text_key, waiting_key, claimed_reference, exception_reference, is_named_like, is_open, is_open_fit, is_open_like, fits, Waiting, arith, refl}
-use Rattle.std.specs.Prelude.{find}
+use Rattle.statement_lines.proofs.Names.{◌≡◌, ℕ, ◌==◌, true, false, List, unsigned_abs, int_eq, bytes_eq, and_parts, eqb-true, eq-eqb, bytes_eq-Decides, Line, amount_key, booking_key, claim_key, line_key, text_key, waiting_key, is_named_like, is_open, is_open_fit, is_open_like, fits, Waiting, arith, refl}
 use Rattle.statement_lines.specs.declared.booking.Booking.{Booking}
 use Rattle.statement_lines.specs.Bookings.{booking_of, is_beside, is_same_booking}
 use Rattle.statement_lines.proofs.Found.{Narrows}
@@ -39,22 +38,6 @@ fits_narrows today line w is = grind (arith, eq-eqb, unsigned_abs, fit_key)
 pub open_fit_narrows : (today : ℕ) (w : Waiting) → Narrows (is_open_fit today w) (λ x. amount_key x == waiting_key w)
 open_fit_narrows today w x is = grind (arith, eq-eqb, unsigned_abs, fit_key, and_parts)
 
-pub claims_narrows : (exceptions : List Line) (reference : List ℕ)
-    → Narrows (λ x. bytes_eq (claimed_reference exceptions x) reference)
-    (λ x. claim_key exceptions x == text_key 0 reference)
-claims_narrows exceptions reference x is = grind (arith, eq-eqb, bytes_eq-Decides)
-
--- the reference that a record has by itself, where its exception is found
-pub claimed_closed : (exceptions : List Line) (line : Line) → is_open line ≡ false
-    → claimed_reference exceptions line ≡ line.reference
-claimed_closed exceptions line closed = rw closed refl
-
-pub claimed_named : (exceptions : List Line) (line x : Line) → is_open line ≡ true
-    → find (is_named_like line) exceptions ≡ Some x → claimed_reference exceptions line ≡ x.reference
-unfolding exception_reference
-claimed_named exceptions line x opened found = rw (opened, found) refl
-
-pub claimed_none : (exceptions : List Line) (line : Line) → is_open line ≡ true
-    → find (is_named_like line) exceptions ≡ None → claimed_reference exceptions line ≡ []
-unfolding exception_reference
-claimed_none exceptions line opened found = rw (opened, found) refl
+pub claims_narrows : (reference : List ℕ)
+    → Narrows (λ x. bytes_eq x.reference reference) (λ x. claim_key x == text_key 0 reference)
+claims_narrows reference x is = grind (arith, eq-eqb, bytes_eq-Decides)

@@ -24,8 +24,7 @@ pub use Rattle.statement_lines.specs.Marks.{entry_marks, is_shown, line_marks, m
 unfoldable pub use Rattle.statement_lines.specs.Marks.{marks_from, window_marks}
 pub use Rattle.statement_lines.specs.Numbers.{is_among, without_zeros}
 unfoldable pub use Rattle.statement_lines.specs.Numbers.{is_number, is_telling, line_numbers, telling_after}
-pub use Rattle.statement_lines.specs.OpenLines.{claimed_reference, is_named_like, is_open, is_open_fit, is_open_like}
-unfoldable pub use Rattle.statement_lines.specs.OpenLines.{exception_reference}
+pub use Rattle.statement_lines.specs.OpenLines.{is_named_like, is_open, is_open_fit, is_open_like}
 pub use Rattle.statement_lines.specs.Records.{Records, Rows, line_at, lines_from, no_records, rows_of, with_record}
 unfoldable pub use Rattle.statement_lines.specs.Records.{numbers_from, records_of}
 pub use Rattle.statement_lines.specs.RowsLeft.{Adds, HasLeft, Holds, left_of, outcome_if}

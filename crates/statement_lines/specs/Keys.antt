@@ -6,7 +6,6 @@ use Rattle.statement_lines.specs.declared.book_entry.BookEntry.{BookEntry}
 use Rattle.statement_lines.specs.declared.booking.Booking.{Booking}
 use Rattle.statement_lines.specs.Bookings.{booking_of}
 use Rattle.statement_lines.specs.Waiting.{Waiting}
-use Rattle.statement_lines.specs.OpenLines.{claimed_reference}
 
 -- the key after one more byte
 abbrev pub next_key : ℕ → ℕ → ℕ
@@ -30,9 +29,9 @@ waiting_key w = unsigned_abs w.amount
 abbrev pub amount_key : Line → ℕ
 amount_key line = unsigned_abs line.amount
 
--- the key of the reference that a record claims
-abbrev pub claim_key : List Line → Line → ℕ
-claim_key exceptions line = text_key 0 (claimed_reference exceptions line)
+-- the key of a line's reference
+abbrev pub claim_key : Line → ℕ
+claim_key line = text_key 0 line.reference
 
 -- the key of a deposit's or payment's amount without its sign, in cents
 abbrev pub entry_key : BookEntry → ℕ

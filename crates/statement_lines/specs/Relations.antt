@@ -4,6 +4,7 @@ use Rattle.std.specs.List.{count_by, filter, list_any}
 use Rattle.std.specs.Ordering.{int_eq}
 use Rattle.std.specs.Str.{bytes_eq}
 use Rattle.trust_base.specs.declared.line.Line.{Line}
+use Rattle.statement_lines.specs.Bookings.{booking_of, is_same_booking}
 use Rattle.statement_lines.specs.Showing.{fits, is_out, shows}
 use Rattle.statement_lines.specs.EntryStates.{is_cleared, is_held_on, is_waiting}
 use Rattle.statement_lines.specs.Known.{Known}
@@ -27,6 +28,10 @@ may_be_returned line e = has_amount_back line e && is_cleared e.state
 abbrev pub names : Line → BookEntry → Bool
 names line e = bytes_eq line.reference e.entry.reference
 
+-- the line is in the book for the entry already
+abbrev pub is_booked_for : Line → BookEntry → Bool
+is_booked_for line e = list_any (is_same_booking (booking_of line)) e.bookings
+
 -- no line of this amount belongs to the entry: neither one that clears it, nor one that takes a deposit back
 abbrev pub is_of_no_amount : Line → BookEntry → Bool
 is_of_no_amount line e = not (has_its_amount line e) && not (has_amount_back line e)
@@ -43,6 +48,7 @@ stands relation.OfAnotherAmount today line e =
 stands relation.OfItsAmount today line e = is_waiting e.state && has_its_amount line e
 stands relation.MaybeReturned today line e = may_be_returned line e
 stands relation.Named today line e = names line e
+stands relation.NamedAgain today line e = names line e && is_booked_for line e
 stands relation.NamedOfAnotherAmount today line e = names line e && is_of_no_amount line e
 stands (relation.HeldOn day) today line e = is_held_on day e
 

@@ -15,10 +15,9 @@ pub record Sides : Type 0 where
 -- the elements of both can be looked up
 pub record AreLookedUp
     (held : Held) (lines : List Line) (waiting : List (ℕ × Bor Waiting)) (bookings : List (ℕ × Bor Booking))
-    (exceptions : List Line) (beside amounts claims : List (ℕ × Bor Line)) : Type 0 where
+    (beside amounts claims : List (ℕ × Bor Line)) : Type 0 where
   pub waiting_found : IsLookup waiting_key held.waiting waiting
   pub bookings_found : IsLookup booking_key held.bookings bookings
-  pub same_exceptions : exceptions ≡ held.exceptions
   pub beside_found : IsLookup line_key lines beside
   pub amounts_found : IsLookup amount_key lines amounts
-  pub claims_found : IsLookup (claim_key held.exceptions) lines claims
+  pub claims_found : IsLookup claim_key lines claims

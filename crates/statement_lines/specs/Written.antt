@@ -18,7 +18,6 @@ abbrev pub row_as : List (List ℕ) → Option Outcome → Rows
 row_as fields None = fields ∷ []
 row_as fields (Some outcome.AsItIs) = fields ∷ []
 row_as fields (Some outcome.InBook) = []
-row_as fields (Some (outcome.Retried reference)) = named_row reference fields ∷ []
 row_as fields (Some outcome.Doubled) = []
 row_as fields (Some (outcome.Filled reference)) = named_row reference fields ∷ []
 row_as fields (Some outcome.Left) = []

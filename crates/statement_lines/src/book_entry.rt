@@ -3,6 +3,7 @@
 ghost use Rattle.std.specs.Prelude.{◌≡◌, IfOk};
 ghost use Rattle.statement_lines.specs.Waiting.{waiting_deposit, waiting_payment};
 
+use crate::booking::BookedLines;
 use crate::number::{Number, numbers_of, telling_of};
 use byte_streams::OwnedBytes;
 use std::alloc::{AllocError, Global};
@@ -104,6 +105,8 @@ pub struct BookEntry {
     pub bank_ref: OwnedBytes,
     /// The source of a deposit, or the payee of a payment.
     pub party: Label,
+    /// The bank lines that the book has for it.
+    pub bookings: BookedLines,
 }
 
 impl Drop for BookEntry {
@@ -114,6 +117,7 @@ impl Drop for BookEntry {
             day: _,
             bank_ref: _,
             party: _,
+            bookings: _,
         } = self;
     }
 }

@@ -6,11 +6,10 @@ ghost use Rattle.std.specs.Str.{bytes_eq};
 ghost use Rattle.statement_lines.specs.Keys.{amount_key, booking_key};
 ghost use Rattle.statement_lines.specs.Keys.{line_key as key_of_line, waiting_key};
 ghost use Rattle.statement_lines.specs.Lookups.{elements};
-ghost use Rattle.statement_lines.specs.OpenLines.{claimed_reference, is_claimed as is_claimed_reference};
+ghost use Rattle.statement_lines.specs.OpenLines.{is_claimed as is_claimed_reference};
 
 use crate::book_entry::WaitingEntry;
 use crate::booking::Booking;
-use crate::exceptions::Exceptions;
 use crate::key::{line_key, text_key};
 use crate::known::Held;
 use crate::lookup::Lookup;
@@ -29,7 +28,6 @@ pub struct Index<'a> {
     lines: &'a [StatementLine],
     waiting: Lookup<'a, WaitingEntry>,
     bookings: Lookup<'a, Booking>,
-    exceptions: Exceptions<'a>,
     beside: Lookup<'a, StatementLine>,
     amounts: Lookup<'a, StatementLine>,
     claims: Lookup<'a, StatementLine>,
@@ -43,20 +41,16 @@ impl<'a> Model for Index<'a> {
     ghost view = { λ i. record { held = i.held.now; lines = i.lines.now } };
 
     ghost invariant = { λ i. AreLookedUp i.held.now i.lines.now i.waiting.sorted.items i.bookings.sorted.items
-        i.exceptions i.beside.sorted.items i.amounts.sorted.items i.claims.sorted.items };
+        i.beside.sorted.items i.amounts.sorted.items i.claims.sorted.items };
 }
 
-// Whether one of the given lines claims this reference.
-fn is_claimed_among(
-    found: &[(u64, &StatementLine)],
-    exceptions: &Exceptions,
-    reference: &BankText,
-) -> bool
-    ensures { result ≡ list_any (λ e. bytes_eq (claimed_reference exceptions.now e.1.now) reference.now) found.now }
+// Whether one of the given lines has this reference.
+fn is_claimed_among(found: &[(u64, &StatementLine)], reference: &BankText) -> bool
+    ensures { result ≡ list_any (λ e. bytes_eq e.1.now.reference reference.now) found.now }
 {
     found
         .iter()
-        .any(|entry| exceptions.is_claimed_by(entry.1, reference))
+        .any(|entry| entry.1.line().reference.is_same(reference))
 }
 
 impl<'a> Index<'a> {
@@ -68,7 +62,6 @@ impl<'a> Index<'a> {
     ) -> Result<Index<'a>, AllocError>
         ensures { IfOk result (λ index. index ≡ record { held = held.now; lines = lines.now }) }
     {
-        let exceptions = Exceptions::of(alloc, &held.exceptions)?;
         let waiting = Lookup::of(alloc, &held.waiting, |entry| entry.amount.unsigned_abs())?;
         let bookings = Lookup::of(alloc, &held.bookings, |booking| booking.key())?;
         let beside = Lookup::of(alloc, lines, |line| line_key(line.line()))?;
@@ -76,14 +69,13 @@ impl<'a> Index<'a> {
         let claims = Lookup::of(
             alloc,
             lines,
-            |line| text_key(0, exceptions.claimed_reference(line)),
+            |line| text_key(0, line.line().reference.as_slice()),
         )?;
         Ok(Index {
             held,
             lines,
             waiting,
             bookings,
-            exceptions,
             beside,
             amounts,
             claims,
@@ -111,13 +103,6 @@ impl<'a> Index<'a> {
         self.bookings.at(line_key(line))
     }
 
-    /// The exceptions.
-    pub fn exceptions(&self) -> &Exceptions<'a>
-        ensures { result.now ≡ self.now.held.exceptions }
-    {
-        &self.exceptions
-    }
-
     /// The lines of the statement that may have the line's date and bank reference.
     pub fn lines_of(&self, line: &Line) -> &[(u64, &'a StatementLine)]
         ensures { elements result.now ≡ filter (λ x. key_of_line x == key_of_line line.now) self.now.lines }
@@ -132,11 +117,10 @@ impl<'a> Index<'a> {
         self.amounts.at(entry.amount.unsigned_abs())
     }
 
-    /// Whether a record claims this reference.
+    /// Whether a record has this reference.
     pub fn is_claimed(&self, reference: &BankText) -> bool
-        ensures { result ≡ is_claimed_reference self.now.held.exceptions self.now.lines reference.now }
+        ensures { result ≡ is_claimed_reference self.now.lines reference.now }
     {
-        let found = self.claims.at(text_key(0, reference.as_slice()));
-        is_claimed_among(found, &self.exceptions, reference)
+        is_claimed_among(self.claims.at(text_key(0, reference.as_slice())), reference)
     }
 }

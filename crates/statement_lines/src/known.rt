@@ -7,15 +7,14 @@ use crate::booking::Booking;
 use std::marker::Model;
 use trust_base::Line;
 
-/// What the lines of a statement are compared with in a book: the entries that wait for the bank, the bank lines that
-/// are booked, and the exceptions.
+/// What the lines of a statement are compared with in a book: the entries that wait for the bank, and the bank lines
+/// that are booked.
 ///
-/// Contracts see it as these three lists.
+/// Contracts see it as these two lists.
 #[derive(Drop)]
 pub struct Held {
     pub(crate) waiting: Vec<WaitingEntry>,
     pub(crate) bookings: Vec<Booking>,
-    pub(crate) exceptions: Vec<Line>,
 }
 
 impl Model for Held {
@@ -26,33 +25,28 @@ impl Model for Held {
     ghost view = { λ h. record {
       waiting = h.waiting.items;
       bookings = h.bookings.items;
-      exceptions = h.exceptions.items;
     } };
 }
 
 impl Held {
-    /// Makes it from the three lists. Allocates nothing.
-    pub fn new(waiting: Vec<WaitingEntry>, bookings: Vec<Booking>, exceptions: Vec<Line>) -> Held
+    /// Makes it from the two lists. Allocates nothing.
+    pub fn new(waiting: Vec<WaitingEntry>, bookings: Vec<Booking>) -> Held
         ensures waiting { result.waiting ≡ waiting.items }
         ensures bookings { result.bookings ≡ bookings.items }
-        ensures exceptions { result.exceptions ≡ exceptions.items }
     {
-        Held {
-            waiting,
-            bookings,
-            exceptions,
-        }
+        Held { waiting, bookings }
     }
 }
 
-/// What the lines of a statement are compared with in a book, and all its deposits and payments, which are reported to
-/// a person.
+/// What the lines of a statement are compared with in a book, and all its deposits, payments and exceptions, which are
+/// reported to a person.
 ///
-/// Contracts see it as both.
+/// Contracts see it as these three.
 #[derive(Drop)]
 pub struct Known {
     pub held: Held,
     pub entries: Vec<BookEntry>,
+    pub exceptions: Vec<Line>,
 }
 
 impl Model for Known {
@@ -60,5 +54,5 @@ impl Model for Known {
 
     ghost Value = { Known };
 
-    ghost view = { λ k. record { held = k.held; entries = k.entries.items } };
+    ghost view = { λ k. record { held = k.held; entries = k.entries.items; exceptions = k.exceptions.items } };
 }

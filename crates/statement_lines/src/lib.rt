@@ -20,7 +20,7 @@ mod words;
 mod writing;
 
 pub use book_entry::{BookEntry, EntryState, WaitingEntry};
-pub use booking::Booking;
+pub use booking::{BookedLines, Booking};
 pub use exceptions::Exceptions;
 pub use index::Index;
 pub use key::text_key;

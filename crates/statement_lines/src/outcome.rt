@@ -9,8 +9,6 @@ pub enum Outcome {
     AsItIs,
     /// It has no reference, and is in the book already. It is left out.
     InBook,
-    /// It has no reference, and is an exception under this one. It is written again with this reference.
-    Retried(BankText),
     /// It has no reference, and another such line, or a line of the book, has the same date, bank reference and amount.
     /// It is left.
     Doubled,

@@ -3,11 +3,12 @@
 ghost use Rattle.std.specs.Prelude.{◌≡◌};
 ghost use Rattle.statement_lines.specs.EntryStates.{is_cleared as is_cleared_state, is_held as is_held_state};
 ghost use Rattle.statement_lines.specs.EntryStates.{is_held_on as is_held_on_day, is_waiting as is_waiting_state};
-ghost use Rattle.statement_lines.specs.Relations.{has_amount_back as has_amount_back_of, names, stands as stands_so};
+ghost use Rattle.statement_lines.specs.Relations.{has_amount_back as has_amount_back_of, has_its_amount};
+ghost use Rattle.statement_lines.specs.Relations.{may_be_returned, names, stands as stands_so};
 
 use crate::book_entry::{BookEntry, EntryState};
 use crate::statement_line::StatementLine;
-use trust_base::Day;
+use trust_base::{Day, Line};
 
 /// A relation of a deposit or a payment to a line.
 #[derive(Clone, Copy, PartialEq, Eq, Debug)]
@@ -26,6 +27,8 @@ pub enum Relation {
     MaybeReturned,
     /// The line has its reference.
     Named,
+    /// The line has its reference, and is in the book for it already.
+    NamedAgain,
     /// The line has its reference, and an amount that no line for it has.
     NamedOfAnotherAmount,
     /// It is a waiting deposit that was booked on the day with this number.
@@ -34,7 +37,7 @@ pub enum Relation {
 
 impl EntryState {
     /// Whether it is the state of an entry that waits for the bank.
-    pub(crate) fn is_waiting(self) -> bool
+    pub fn is_waiting(self) -> bool
         ensures { result ≡ is_waiting_state self }
     {
         match self {
@@ -88,22 +91,37 @@ impl BookEntry {
     {
         self.state.is_held() && self.day.get() == day
     }
+
+    /// Whether a line has its reference.
+    pub fn is_named_by(&self, line: &Line) -> bool
+        ensures { result ≡ names line.now self.now }
+    {
+        line.reference.is_same(&self.entry.reference)
+    }
+
+    /// Whether a line has the amount of the line that clears it.
+    pub fn has_amount_of(&self, line: &Line) -> bool
+        ensures { result ≡ has_its_amount line.now self.now }
+    {
+        line.amount.get() == self.entry.amount
+    }
+
+    // Whether its amount, as a deposit, went out with a line.
+    fn has_amount_back(&self, line: &Line) -> bool
+        ensures { result ≡ has_amount_back_of line.now self.now }
+    {
+        let amount = line.amount.get();
+        amount < 0 && -amount == self.entry.amount
+    }
+
+    /// Whether it is a cleared deposit whose amount went out with a line.
+    pub fn may_be_returned_by(&self, line: &Line) -> bool
+        ensures { result ≡ may_be_returned line.now self.now }
+    {
+        self.has_amount_back(line) && self.state.is_cleared()
+    }
 }
 
-// Whether the amount of the entry went out with the line.
-fn has_amount_back(line: &StatementLine, entry: &BookEntry) -> bool
-    ensures { result ≡ has_amount_back_of line.now entry.now }
-{
-    let amount = line.line().amount.get();
-    amount < 0 && -amount == entry.entry.amount
-}
-
-// Whether the line has the entry's reference.
-fn is_named(line: &StatementLine, entry: &BookEntry) -> bool
-    ensures { result ≡ names line.now entry.now }
-{
-    line.line().reference.is_same(&entry.entry.reference)
-}
 
 impl Relation {
     #[tactic(auto, unfolding(crate::specs::Relations::stands))]
@@ -112,24 +130,26 @@ impl Relation {
         ensures { result ≡ stands_so self today line.now entry.now }
     {
         let waits = entry.state.is_waiting();
-        let has_amount = line.line().amount.get() == entry.entry.amount;
+        let plain = line.line();
+        let has_amount = entry.has_amount_of(plain);
         match self {
             Relation::Fitted => waits && line.fits(today, &entry.entry),
             Relation::NotWaiting => !waits && has_amount && line.shows(&entry.entry),
             Relation::IssuedAfter => {
                 waits
                     && has_amount
-                    && line.line().date.get() < entry.entry.since
+                    && plain.date.get() < entry.entry.since
                     && line.shows(&entry.entry)
             }
             Relation::OfAnotherAmount => waits && !has_amount && line.shows(&entry.entry),
             Relation::OfItsAmount => waits && has_amount,
-            Relation::MaybeReturned => { has_amount_back(line, entry) && entry.state.is_cleared() }
-            Relation::Named => is_named(line, entry),
-            Relation::HeldOn(day) => entry.is_held_on(day),
+            Relation::MaybeReturned => entry.may_be_returned_by(plain),
+            Relation::Named => entry.is_named_by(plain),
+            Relation::NamedAgain => entry.is_named_by(plain) && entry.bookings.has(plain),
             Relation::NamedOfAnotherAmount => {
-                is_named(line, entry) && (!has_amount && !has_amount_back(line, entry))
+                entry.is_named_by(plain) && (!has_amount && !entry.has_amount_back(plain))
             }
+            Relation::HeldOn(day) => entry.is_held_on(day),
         }
     }
 }

@@ -163,7 +163,7 @@ impl StatementLine {
     }
 
     /// Whether an exception is this line with a reference.
-    pub(crate) fn is_named_like(&self, exception: &Line) -> bool
+    pub fn is_named_like(&self, exception: &Line) -> bool
         ensures { result ≡ is_named_like self.now exception.now }
     {
         self.line.date.get() == exception.date.get()

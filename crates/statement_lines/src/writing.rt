@@ -68,9 +68,7 @@ fn write_line<W: Write + Drop>(
 {
     match outcome {
         Outcome::AsItIs => write_same(writer, row),
-        Outcome::Retried(reference) | Outcome::Filled(reference) => {
-            write_named(writer, row, reference)
-        }
+        Outcome::Filled(reference) => write_named(writer, row, reference),
         Outcome::InBook | Outcome::Doubled | Outcome::Left => Ok(()),
     }
 }
@@ -177,8 +175,7 @@ fn text_in(writer: Writer<Vec<u8>>) -> Result<Vec<u8>, AllocError>
 
 /// Returns the statement for the import: the header, and the records in their order. Each line has an outcome. A record
 /// with a reference, and one that is not a line, is written unchanged. One without a reference is written only if it is
-/// filled or is an exception under a reference, and then with that reference. A line feed ends each record. The only
-/// error is out of memory.
+/// filled, and then with that reference. A line feed ends each record. The only error is out of memory.
 pub fn write_statement(
     alloc: Global,
     statement: &[u8],

@@ -15,7 +15,7 @@ its_amount line e is = grind (arith, ints, nat_tests, eq-eqb, entry_key, amount_
 back_amount : (line : Line) (e : BookEntry) → has_amount_back line e ≡ true → (entry_key e == amount_key line) ≡ true
 back_amount line e is = grind (arith, ints, nat_tests, and_parts, eq-eqb, unsigned_abs, unsigned_abs-neg)
 
-named_alike : (line : Line) (e : BookEntry) → names line e ≡ true
+pub named_alike : (line : Line) (e : BookEntry) → names line e ≡ true
     → (reference_key e == text_key 0 line.reference) ≡ true
 named_alike line e is = grind (arith, ints, nat_tests, eq-eqb, reference_key, text_key, bytes_eq-Decides)
 
@@ -25,6 +25,7 @@ abbrev among : Relation → Line → BookEntry → Bool
 among relation.OfItsAmount line e = entry_key e == amount_key line
 among relation.MaybeReturned line e = entry_key e == amount_key line
 among relation.Named line e = reference_key e == text_key 0 line.reference
+among relation.NamedAgain line e = reference_key e == text_key 0 line.reference
 among relation.NamedOfAnotherAmount line e = reference_key e == text_key 0 line.reference
 among (relation.HeldOn day) line e = day_key e == day
 among _ line e = is_shown line e
@@ -48,9 +49,10 @@ module _ (r : Relation) (today : ℕ) (line : Line) (entries : List BookEntry) (
       → elements found ≡ filter (λ e. entry_key e == amount_key line) entries → Kept
   amount_kept is same = kept (elim is [ inl a ↦ rw a same | inr a ↦ rw a same ])
 
-  pub named_kept : (r ≡ relation.Named) ⊎ (r ≡ relation.NamedOfAnotherAmount)
+  pub named_kept : (r ≡ relation.Named) ⊎ ((r ≡ relation.NamedAgain) ⊎ (r ≡ relation.NamedOfAnotherAmount))
       → elements found ≡ filter (λ e. reference_key e == text_key 0 line.reference) entries → Kept
-  named_kept is same = kept (elim is [ inl a ↦ rw a same | inr a ↦ rw a same ])
+  named_kept is same =
+      kept (elim is [ inl a ↦ rw a same | inr b ↦ elim b [ inl a ↦ rw a same | inr a ↦ rw a same ] ])
 
   pub shown_kept : (r ≡ relation.Fitted) ⊎ ((r ≡ relation.NotWaiting) ⊎ ((r ≡ relation.IssuedAfter)
       ⊎ (r ≡ relation.OfAnotherAmount)))

@@ -1,5 +1,5 @@
 -- When a line is filled.
-use Rattle.statement_match.proofs.Names.{◌≡◌, ℕ, Bool, true, false, not, cond, List, Option, Some, None, arith, count_by, find, and_parts, eqb-true, Line, Waiting, fits, Held, is_claimed, is_open, is_open_fit, Outcome, becomes, fill, filled_with, unless_exception, IsSure, FillsWhatIsSure, FillsWithWaiting, TwoEntriesAreLeft, TwoLinesAreLeft, ints, nat_tests, not-false, not-true}
+use Rattle.statement_match.proofs.Names.{◌≡◌, ℕ, Bool, true, false, not, cond, List, Option, Some, None, arith, count_by, find, and_parts, eqb-true, Line, Waiting, fits, Held, is_claimed, is_open, is_open_fit, Outcome, becomes, fill, filled_with, IsSure, FillsWhatIsSure, FillsWithWaiting, TwoEntriesAreLeft, TwoLinesAreLeft, ints, nat_tests, not-false, not-true}
 use Rattle.statement_lines.specs.declared.outcome.Outcome.TheVariants as outcome
 use Rattle.statement_match.proofs.Picks.{found_is_there, found_passes, is_the_one}
 
@@ -13,16 +13,11 @@ first_gave b x y z not e = grind (arith, ints, nat_tests)
 
 -- What becomes of a line, by its cases.
 
-no_exception : (found : Option (List ℕ)) (other : Outcome) (reference : List ℕ)
-    → unless_exception found other ≡ outcome.Filled reference
-    → (found ≡ None) × (other ≡ outcome.Filled reference)
-no_exception found other reference e = grind (arith, ints, nat_tests)
-
 -- an entry was found and filled
 filled_entry : (today : ℕ) (held : Held) (lines : List Line) (found : Option Waiting) (reference : List ℕ)
     → filled_with today held lines found ≡ outcome.Filled reference
     → (w : Waiting) × (found ≡ Some w) × (count_by (is_open_fit today w) lines ≡ 1)
-    × (is_claimed held.exceptions lines w.reference ≡ false) × (reference ≡ w.reference)
+    × (is_claimed lines w.reference ≡ false) × (reference ≡ w.reference)
 filled_entry today held lines None reference e = absurd (cc)
 filled_entry today held lines (Some w) reference e =
     grind (arith, ints, nat_tests, first_gave, and_parts, eqb-true, not-true)
@@ -33,7 +28,7 @@ pub sure_of : (today : ℕ) (held : Held) (lines : List Line) (line : Line) (ref
     → (w : Waiting) × IsSure today held lines line w × (reference ≡ w.reference)
 unfolding becomes fill
 sure_of today held lines line reference e =
-    grind (arith, ints, nat_tests, second_gave, is_open, no_exception, first_gave, and_parts, filled_entry, find, not-false, not-true, eqb-true)
+    grind (arith, ints, nat_tests, second_gave, is_open, first_gave, and_parts, filled_entry, find, not-false, not-true, eqb-true)
 
 -- a line that is sure of an entry is filled with it
 pub filled_if_sure : (today : ℕ) (held : Held) (lines : List Line) (line : Line) (w : Waiting)

@@ -1,5 +1,5 @@
 -- What becomes of a line where less is held.
-use Rattle.statement_match.proofs.Names.{◌≡◌, ℕ, zero, suc, ◌≤◌, Bool, true, false, cond, List, arith, nat_lt, Contains, count_by, list_any, and_left, and_right, leb-false, lt-leb, or_from, or_parts, Line, booking_of, is_beside, is_same_booking, Waiting, fits, Held, exception_reference, is_claimed, is_open_like, find_has, later, is_beside_booked, is_doubled, is_in_book, HasLess, IsPart, IsSure, MoreOnlyTakesAway, NoneOf, With, Without, ints, nat_tests, sum_by-cons}
+use Rattle.statement_match.proofs.Names.{◌≡◌, ℕ, zero, suc, ◌≤◌, Bool, true, false, cond, List, arith, nat_lt, Contains, count_by, list_any, and_left, and_right, leb-false, lt-leb, or_from, or_parts, Line, booking_of, is_beside, is_same_booking, Waiting, fits, Held, is_claimed, is_open_like, find_has, later, is_beside_booked, is_doubled, is_in_book, HasLess, IsPart, IsSure, MoreOnlyTakesAway, NoneOf, With, Without, ints, nat_tests, sum_by-cons}
 use Rattle.statement_lines.specs.declared.outcome.Outcome.TheVariants as outcome
 use Rattle.statement_match.proofs.Filling.{filled_if_sure, sure_of}
 use Rattle.statement_match.proofs.Picks.{found_is_there, found_passes, is_counted, is_the_one}
@@ -63,7 +63,7 @@ less_sure today less more lines line w v part there fit sure =
     (part_has less.waiting more.waiting found.0 part.waiting
     (found_is_there (fits today line) less.waiting found.0 found.1))
     (found_passes (fits today line) less.waiting found.0 found.1) in
-    grind (arith, ints, nat_tests, less_new, exception_reference, less_single, is_claimed)
+    grind (arith, ints, nat_tests, less_new, less_single, is_claimed)
 
 pub more_only_takes_away : MoreOnlyTakesAway
 more_only_takes_away today less more lines line reference w part there fit e =

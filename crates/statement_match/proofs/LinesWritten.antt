@@ -1,5 +1,5 @@
 -- The lines of the records that are written are what is written of the lines.
-use Rattle.statement_match.proofs.Names.{◌≡◌, ◌∙◌, ap, subst, ℕ, ◌+◌, true, List, [], ◌∷◌, ◌++◌, drop, Option, Some, None, refl, find, Line, item_of, item_of_line, items_from, line_in, Rows, line_at, lines_from, records_of, rows_of, Held, exception_reference, is_named_like, is_open, named_row, row_as, rows_by, Outcome, with_reference, written_as, written_of, becomes, HasLinesWritten, HasReferences, IsReference, arith, ints, nat_tests}
+use Rattle.statement_match.proofs.Names.{◌≡◌, ◌∙◌, ap, subst, ℕ, ◌+◌, true, List, [], ◌∷◌, ◌++◌, drop, Option, Some, None, refl, Line, item_of, item_of_line, items_from, line_in, Rows, line_at, lines_from, records_of, rows_of, Held, is_open, named_row, row_as, rows_by, Outcome, with_reference, written_as, written_of, becomes, HasLinesWritten, HasReferences, IsReference, arith, ints, nat_tests}
 use Rattle.std.proofs.Common.{option_map, option_to_list}
 use Rattle.std.specs.Prelude.{unwrap_or}
 use Rattle.statement_csv.specs.Lines.{line_of, line_of_texts}
@@ -7,9 +7,8 @@ use Rattle.statement_csv.specs.declared.item.Item.TheVariants as item
 use Rattle.statement_csv.proofs.ItemFacts.{known_line, open_line, same_line}
 use Rattle.statement_lines.specs.declared.outcome.Outcome.TheVariants as outcome
 use Rattle.statement_match.proofs.Filling.{fills_with_waiting}
-use Rattle.statement_match.proofs.Picks.{found_is_there}
 use Rattle.statement_match.proofs.ReadBack.{reads_back}
-use Rattle.statement_match.proofs.Writing.{HasOpenness, openness, retried_of}
+use Rattle.statement_match.proofs.Writing.{HasOpenness, openness}
 
 -- A line with another reference.
 
@@ -45,20 +44,7 @@ named_at n m fields line other is e opened = by (line_of fields) refl e
 
 -- What is written.
 
--- the references under which lines are written are those of a record
-retried_reference : (today : ℕ) (held : Held) (all : List Line) (line : Line) (r : List ℕ) → HasReferences held
-    → becomes today held all line ≡ outcome.Retried r → IsReference r
-unfolding exception_reference
-retried_reference today held all line r ok e =
-    by (find (is_named_like line) held.exceptions) refl (retried_of today held all line r e)
-  where
-    by : (o : Option Line) → find (is_named_like line) held.exceptions ≡ o
-        → option_map (λ (x : Line). x.reference) o ≡ Some r → IsReference r
-    by None found is = cc
-    by (Some x) found is =
-        let same : x.reference ≡ r = cc in
-        subst IsReference same (ok.exceptions x (found_is_there (is_named_like line) held.exceptions x found))
-
+-- the reference with which a line is filled is one of a record
 filled_reference : (today : ℕ) (held : Held) (all : List Line) (line : Line) (r : List ℕ) → HasReferences held
     → becomes today held all line ≡ outcome.Filled r → IsReference r
 filled_reference today held all line r ok e = grind (arith, ints, nat_tests, fills_with_waiting)
@@ -66,12 +52,11 @@ filled_reference today held all line r ok e = grind (arith, ints, nat_tests, fil
 -- the lines of what is written of a record, and of the records behind it
 one_written : (m : ℕ) (fields : List (List ℕ)) (line : Line) (o : Outcome) (rows : Rows) (out : List Line)
     → line_at m fields ≡ Some line
-    → ((r : List ℕ) → o ≡ outcome.Retried r → line_at m (named_row r fields) ≡ Some (with_reference r line))
     → ((r : List ℕ) → o ≡ outcome.Filled r → line_at m (named_row r fields) ≡ Some (with_reference r line))
     → ((k : ℕ) → lines_from k rows ≡ out)
     → lines_from m (row_as fields (Some o) ++ rows) ≡ written_as line o ++ out
 unfolding items_from
-one_written m fields line o rows out is retried filled rest = grind (arith, ints, nat_tests)
+one_written m fields line o rows out is filled rest = grind (arith, ints, nat_tests)
 
 lines_written : (today : ℕ) (held : Held) (all : List Line) → HasReferences held → (n m : ℕ) (rows : Rows)
     → lines_from m (rows_by (becomes today held all) n rows) ≡ written_of today held all (lines_from n rows)
@@ -92,8 +77,6 @@ lines_written today held all ok n m (fields ∷ rest) =
     by None is more = rw (is, same_line m n fields ∙ is) (more (m + 1))
     by (Some line) is more =
         rw is (one_written m fields line (becomes today held all line) rows out (same_line m n fields ∙ is)
-        (λ r e. named_at n m fields line r (retried_reference today held all line r ok e) is
-        (subst (HasOpenness line) e (openness today held all line)))
         (λ r e. named_at n m fields line r (filled_reference today held all line r ok e) is
         (subst (HasOpenness line) e (openness today held all line)))
         more)

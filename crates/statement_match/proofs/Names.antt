@@ -8,7 +8,7 @@ pub use Rattle.statement_csv.specs.Items.{item_of_line, items_after_header, line
 unfoldable pub use Rattle.statement_csv.specs.Items.{item_of, items_from}
 pub use Rattle.statement_csv.specs.References.{named, reference_text}
 unfoldable pub use Rattle.statement_csv.specs.References.{entry_named}
-pub use Rattle.statement_lines.proofs.Alike.{beside_narrows, claimed_closed, fits_narrows, line_beside_narrows, open_fit_narrows, open_like_narrows, same_narrows}
+pub use Rattle.statement_lines.proofs.Alike.{beside_narrows, fits_narrows, line_beside_narrows, open_fit_narrows, open_like_narrows, same_narrows}
 pub use Rattle.statement_lines.proofs.Found.{Narrows, any_found, any_kept, counted, counted_kept, filter_among, filter_both, filtered, filtered_kept, find_both, find_elements, first_found, first_kept, find_among}
 pub use Rattle.statement_lines.proofs.Members.{filter_from, filter_has, find_has, flat_map_from, flat_map_has, later, map_from}
 pub use Rattle.statement_lines.specs.Bookings.{amount_if, booking_of, is_beside, is_same_booking, total_of}
@@ -19,8 +19,7 @@ unfoldable pub use Rattle.statement_lines.specs.Keys.{text_key}
 pub use Rattle.statement_lines.specs.Known.{Known}
 pub use Rattle.statement_lines.specs.Lookups.{elements}
 pub use Rattle.statement_lines.specs.Marks.{is_shown, mark_of}
-pub use Rattle.statement_lines.specs.OpenLines.{claimed_reference, is_claimed, is_named_like, is_open, is_open_fit, is_open_like}
-unfoldable pub use Rattle.statement_lines.specs.OpenLines.{exception_reference}
+pub use Rattle.statement_lines.specs.OpenLines.{is_claimed, is_named_like, is_open, is_open_fit, is_open_like}
 pub use Rattle.statement_lines.specs.Places.{places_with}
 pub use Rattle.statement_lines.specs.Records.{Records, Rows, line_at, lines_from, rows_of}
 unfoldable pub use Rattle.statement_lines.specs.Records.{records_of}
@@ -44,7 +43,7 @@ pub use Rattle.std.proofs.lemmas.List.Filters.{dedup_is}
 pub use Rattle.std.proofs.lemmas.List.Folds.{list_all-append, list_any_at, find_at, list_any_none}
 pub use Rattle.std.proofs.lemmas.List.Kept.{AllPairs-from_increasing, Contains-dedup_nat, Contains-from_dedup}
 pub use Rattle.std.proofs.lemmas.List.Sorted.{Contains-permutation, IsPermutation-sym}
-pub use Rattle.std.proofs.lemmas.List.Sums.{length-filter, fails_before_first, get_or-le-sum_by, passes_at_first, sum_by-cons, sum_by_more_le}
+pub use Rattle.std.proofs.lemmas.List.Sums.{fold_more, length-filter, fails_before_first, get_or-le-sum_by, passes_at_first, sum_by-cons, sum_by_more_le}
 pub use Rattle.std.proofs.lemmas.Map.Keys.{IsStrictlyIncreasing-dedup}
 pub use Rattle.std.proofs.lemmas.Option.{same_Some, slice_get_past, slice_get_read, get_or_from_slice_get, slice_get_within}
 pub use Rattle.std.proofs.lemmas.Slice.Eq.{bytes_eq-Decides}
@@ -66,11 +65,13 @@ unfoldable pub use Rattle.statement_match.specs.Entries.{known_of}
 pub use Rattle.statement_match.specs.FirmLaws.{FilledWaits, HasMatterNumbers, IsHeldRow, IsIssuedRow, NoneIsNamedTwiceByFirms, OtherMattersOnlyTakeAway, WaitApart}
 pub use Rattle.statement_match.specs.Grounds.{numbered_key, plain_pairs}
 unfoldable pub use Rattle.statement_match.specs.Grounds.{numbered}
-pub use Rattle.statement_match.specs.Laws.{AreNamedApart, AreWritten, FillsWhatIsSure, FillsWithWaiting, HasLess, IsPart, IsSure, Kept, LeftOut, MoreOnlyTakesAway, Named, NoneIsNamedTwice, NoneOf, None_left, OnlyReferencesChange, TwoEntriesAreLeft, TwoLinesAreLeft, With, Without, with_reference, written, written_as, written_of}
+pub use Rattle.statement_match.specs.Laws.{AreNamedApart, AreWritten, FillsWhatIsSure, FillsWithWaiting, HasLess, IsPart, IsSure, Kept, LeftOut, MoreOnlyTakesAway, Named, NoneIsNamedTwice, NoneOf, None_left, OnlyReferencesChange, TwoEntriesAreLeft, TwoLinesAreLeft, With, Without, WritesWhatIsSure, with_reference, written, written_as, written_of}
+pub use Rattle.statement_match.specs.Misfits.{entry_of}
+pub use Rattle.statement_match.specs.OwnLines.{own_before, own_with}
 pub use Rattle.statement_match.specs.ReasonTexts.{after_comma, after_semicolon, related_entry_text, text_if}
-unfoldable pub use Rattle.statement_match.specs.ReasonTexts.{fit_numbers}
+unfoldable pub use Rattle.statement_match.specs.ReasonTexts.{exception_text, fit_numbers}
 unfoldable pub use Rattle.statement_match.specs.Reasons.{reason_for}
-pub use Rattle.statement_match.specs.Rule.{filled_with, is_beside_booked, outcomes, unless_exception}
+pub use Rattle.statement_match.specs.Rule.{filled_with, is_beside_booked, outcomes}
 unfoldable pub use Rattle.statement_match.specs.Rule.{becomes, fill, is_doubled, is_in_book}
 pub use Rattle.statement_match.specs.StatementLaws.{HasLinesWritten, HasReferences, IsImported, IsReference, ReadsBack}
 pub use Rattle.statement_match.specs.Statements.{written_rows}

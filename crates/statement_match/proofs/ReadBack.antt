@@ -81,7 +81,6 @@ written_as_fields : (fields : List (List ℕ)) (found : Option Outcome) (rest : 
 written_as_fields fields None rest full h = More fields rest full h
 written_as_fields fields (Some outcome.AsItIs) rest full h = More fields rest full h
 written_as_fields fields (Some outcome.InBook) rest full h = h
-written_as_fields fields (Some (outcome.Retried r)) rest full h = More (named_row r fields) rest (λ e. cc) h
 written_as_fields fields (Some outcome.Doubled) rest full h = h
 written_as_fields fields (Some (outcome.Filled r)) rest full h = More (named_row r fields) rest (λ e. cc) h
 written_as_fields fields (Some outcome.Left) rest full h = h

@@ -1,7 +1,7 @@
 -- What is written of the lines of a statement.
-use Rattle.statement_match.proofs.Names.{◌≡◌, ◌≢◌, ◌∙◌, ap, subst, ℕ, ◌<◌, Bool, true, false, not, cond, List, [], ◌∷◌, ◌++◌, length, get_or, Option, Some, None, refl, Contains, find, unwrap_or, bytes_eq, and_from, list_any_at, bytes_eq-Decides, Line, Waiting, Held, claimed_reference, exception_reference, is_claimed, is_open, is_open_fit, Outcome, claimed_closed, becomes, fill, is_doubled, is_in_book, unless_exception, AreWritten, None_left, Kept, Named, LeftOut, AreNamedApart, IsSure, NoneIsNamedTwice, OnlyReferencesChange, with_reference, written_as, written_of, arith, ints, nat_tests}
+use Rattle.statement_match.proofs.Names.{◌≡◌, ◌≢◌, ◌∙◌, sym, ap, subst, ℕ, ◌<◌, Bool, true, false, not, cond, List, [], ◌∷◌, ◌++◌, length, get_or, refl, Contains, find, bytes_eq, false≢true, and_from, list_any_at, bytes_eq-Decides, Line, Waiting, Held, is_claimed, is_open, is_open_fit, Outcome, becomes, fill, is_doubled, is_in_book, AreWritten, None_left, Kept, Named, LeftOut, AreNamedApart, IsSure, NoneIsNamedTwice, OnlyReferencesChange, WritesWhatIsSure, with_reference, written_as, written_of, arith, ints, nat_tests}
 use Rattle.statement_lines.specs.declared.outcome.Outcome.TheVariants as outcome
-use Rattle.statement_match.proofs.Filling.{second_gave, sure_of}
+use Rattle.statement_match.proofs.Filling.{filled_if_sure, sure_of}
 use Rattle.statement_match.proofs.Picks.{found_is_there, found_passes, one_place}
 use Rattle.statement_match.proofs.Waits.{none_there, the_one}
 
@@ -34,72 +34,78 @@ pub openness : (today : ℕ) (held : Held) (lines : List Line) (line : Line)
 unfolding becomes
 openness today held lines line = by (is_open line) refl
   where
-    unless : (found : Option (List ℕ)) → is_open line ≡ true → HasOpenness line
-        (unless_exception found (cond (is_doubled held lines line) outcome.Doubled (fill today held lines line)))
-    unless None e = by_last (HasOpenness line) today held lines line e e (λ r. e)
-    unless (Some r) e = e
-
     by : (b : Bool) → is_open line ≡ b → HasOpenness line (cond (not b) outcome.AsItIs
-        (cond (is_in_book held lines line) outcome.InBook (unless_exception (exception_reference held.exceptions line)
-        (cond (is_doubled held lines line) outcome.Doubled (fill today held lines line)))))
+        (cond (is_in_book held lines line) outcome.InBook
+        (cond (is_doubled held lines line) outcome.Doubled (fill today held lines line))))
     by true e =
         chosen (HasOpenness line) (is_in_book held lines line) outcome.InBook _ e
-        (unless (exception_reference held.exceptions line) e)
+        (by_last (HasOpenness line) today held lines line e e (λ r. e))
     by false e = e
 
 -- Nothing but references changes.
 
-one_more : (line : Line) (lines out : List Line) (o : Outcome) → HasOpenness line o → AreWritten lines out
-    → AreWritten (line ∷ lines) (written_as line o ++ out)
-one_more line lines out outcome.AsItIs e rest = Kept line lines out e rest
-one_more line lines out outcome.InBook e rest = LeftOut line lines out e rest
-one_more line lines out (outcome.Retried r) e rest = Named r line lines out e rest
-one_more line lines out outcome.Doubled e rest = LeftOut line lines out e rest
-one_more line lines out (outcome.Filled r) e rest = Named r line lines out e rest
-one_more line lines out outcome.Left e rest = LeftOut line lines out e rest
+module _ (today : ℕ) (held : Held) (all : List Line) where
+  -- a line that became something else than filled is sure of no entry
+  unsure : (line : Line) (o : Outcome) → becomes today held all line ≡ o → ((r : List ℕ) → o ≢ outcome.Filled r)
+      → (w : Waiting) → IsSure today held all line w → ⊥
+  unsure line o is other w sure = other w.reference (sym is ∙ filled_if_sure today held all line w sure)
 
-written_by : (today : ℕ) (held : Held) (all lines : List Line) → AreWritten lines (written_of today held all lines)
-written_by today held all [] = None_left
-written_by today held all (line ∷ lines) =
-    one_more line lines (written_of today held all lines) (becomes today held all line) (openness today held all line)
-    (written_by today held all lines)
+  one_more : (line : Line) (lines out : List Line) (o : Outcome) → becomes today held all line ≡ o
+      → HasOpenness line o → AreWritten today held all lines out
+      → AreWritten today held all (line ∷ lines) (written_as line o ++ out)
+  one_more line lines out outcome.AsItIs is e rest = Kept line lines out e rest
+  one_more line lines out outcome.InBook is e rest =
+      LeftOut line lines out e (unsure line outcome.InBook is (λ r clash. cc)) rest
+  one_more line lines out outcome.Doubled is e rest =
+      LeftOut line lines out e (unsure line outcome.Doubled is (λ r clash. cc)) rest
+  one_more line lines out (outcome.Filled r) is e rest =
+      let found = sure_of today held all line r is in
+      subst (λ (q : List ℕ). AreWritten today held all (line ∷ lines) (with_reference q line ∷ out)) (sym found.2)
+      (Named found.0 line lines out found.1 rest)
+  one_more line lines out outcome.Left is e rest =
+      LeftOut line lines out e (unsure line outcome.Left is (λ r clash. cc)) rest
+
+  written_by : (lines : List Line) → AreWritten today held all lines (written_of today held all lines)
+  written_by [] = None_left
+  written_by (line ∷ lines) =
+      one_more line lines (written_of today held all lines) (becomes today held all line) refl
+      (openness today held all line) (written_by lines)
 
 pub only_references_change : OnlyReferencesChange
 only_references_change today held lines = written_by today held lines lines
 
--- A reference that a record has by itself.
+-- What is written of a line without a reference.
 
-claimed_open : (exceptions : List Line) (line : Line) (reference : List ℕ) → is_open line ≡ true
-    → exception_reference exceptions line ≡ Some reference → claimed_reference exceptions line ≡ reference
-claimed_open exceptions line reference e found = grind (arith, ints, nat_tests, unwrap_or, exception_reference)
+of_open : (line x : Line) (o : Outcome) → HasOpenness line o → is_open line ≡ true → Contains (written_as line o) x
+    → (r : List ℕ) × (o ≡ outcome.Filled r) × (with_reference r line ≡ x)
+of_open line x outcome.AsItIs e opened there = absurd (false≢true (sym e ∙ opened))
+of_open line x outcome.InBook e opened there = absurd (none_there x there)
+of_open line x outcome.Doubled e opened there = absurd (none_there x there)
+of_open line x (outcome.Filled r) e opened there = (r, refl, the_one (with_reference r line) x there)
+of_open line x outcome.Left e opened there = absurd (none_there x there)
 
--- an outcome that is no exception's
-IsNoRetry : Outcome → Type 0
-IsNoRetry (outcome.Retried r) = ⊥
-IsNoRetry _ = Unit {0}
+-- what is written of a line without a reference is the line as it is filled
+pub written_is_filled : (today : ℕ) (held : Held) (lines : List Line) (line x : Line) → is_open line ≡ true
+    → Contains (written_as line (becomes today held lines line)) x
+    → (r : List ℕ) × (becomes today held lines line ≡ outcome.Filled r) × (with_reference r line ≡ x)
+written_is_filled today held lines line x opened there =
+    of_open line x (becomes today held lines line) (openness today held lines line) opened there
 
-retried_by : (found : Option (List ℕ)) (other : Outcome) (reference : List ℕ) → IsNoRetry other
-    → unless_exception found other ≡ outcome.Retried reference → found ≡ Some reference
-unfolding IsNoRetry
-retried_by found other reference h e = grind (arith, ints, nat_tests)
-
--- the exception of a line that is written again
-pub retried_of : (today : ℕ) (held : Held) (lines : List Line) (line : Line) (reference : List ℕ)
-    → becomes today held lines line ≡ outcome.Retried reference
-    → exception_reference held.exceptions line ≡ Some reference
-unfolding IsNoRetry becomes
-retried_of today held lines line reference e =
-    let again = outcome.Retried reference in
-    let opened = second_gave (not (is_open line)) outcome.AsItIs _ again (λ clash. cc) e in
-    let new = second_gave (is_in_book held lines line) outcome.InBook _ again (λ clash. cc) opened.1 in
-    retried_by (exception_reference held.exceptions line) _ reference
-    (by_last IsNoRetry today held lines line tt tt (λ r. tt)) new.1
+pub writes_what_is_sure : WritesWhatIsSure
+writes_what_is_sure today held lines line x opened = (
+  λ there.
+      let wrote = written_is_filled today held lines line x opened there in
+      let found = sure_of today held lines line wrote.0 wrote.1 in
+      (found.0, found.1, sym wrote.2 ∙ ap (λ r. with_reference r line) found.2),
+  λ sure.
+      let filled = filled_if_sure today held lines line sure.0 sure.1 in
+      subst (λ (o : Outcome). Contains (written_as line o) x) (sym filled) (0, omega arith, sym sure.2),
+)
 
 -- a record with the reference makes that claimed
-claims : (exceptions lines : List Line) (k : ℕ) (d : Line) (reference : List ℕ) → k < length lines
-    → claimed_reference exceptions (get_or lines k d) ≡ reference → is_claimed exceptions lines reference ≡ true
-claims exceptions lines k d reference lt e =
-    grind (arith, ints, nat_tests, list_any_at, bytes_eq, claimed_reference, bytes_eq-Decides, get_or)
+claims : (lines : List Line) (k : ℕ) (d : Line) (reference : List ℕ) → k < length lines
+    → (get_or lines k d).reference ≡ reference → is_claimed lines reference ≡ true
+claims lines k d reference lt e = grind (arith, ints, nat_tests, list_any_at, bytes_eq, bytes_eq-Decides, get_or)
 
 -- No entry is named twice.
 
@@ -117,14 +123,10 @@ clash_by : (today : ℕ) (held : Held) (lines : List Line) (i k : ℕ) (d x : Li
     → becomes today held lines (get_or lines k d) ≡ o → Contains (written_as (get_or lines k d) o) x
     → x.reference ≡ w.reference → ⊥
 clash_by today held lines i k d x w outcome.AsItIs apart li lk differ sure e there is =
-    let closed = subst (HasOpenness (get_or lines k d)) e (openness today held lines (get_or lines k d)) in
     let same = the_one (get_or lines k d) x there in
-    let claimed = claims held.exceptions lines k d w.reference lk
-    (claimed_closed held.exceptions (get_or lines k d) closed ∙ ap (λ (y : Line). y.reference) same ∙ is) in
+    let claimed = claims lines k d w.reference lk (ap (λ (y : Line). y.reference) same ∙ is) in
     let free = sure.unclaimed in cc
 clash_by today held lines i k d x w outcome.InBook apart li lk differ sure e there is = none_there x there
-clash_by today held lines i k d x w (outcome.Retried r) apart li lk differ sure e there is =
-    grind (arith, ints, nat_tests, openness, the_one, claims, claimed_open, retried_of)
 clash_by today held lines i k d x w outcome.Doubled apart li lk differ sure e there is = none_there x there
 clash_by today held lines i k d x w (outcome.Filled r) apart li lk differ sure e there is =
     grind (arith, ints, nat_tests, sure_of, get_or, the_one, with_reference, not_both)

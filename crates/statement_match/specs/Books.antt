@@ -1,7 +1,6 @@
 -- What the lines of a statement are compared with in a firm's rows.
 use Rattle.std.specs.Prelude.{ℕ, ℤ, pos, ◌-ℤ◌, Bool, List, [], ◌∷◌, ◌++◌, map}
 use Rattle.std.specs.List.{filter, flat_map}
-use Rattle.trust_base.specs.declared.line.Line.{Line}
 use Rattle.matter_rows.specs.declared.clearing.Clearing.{Clearing}
 use Rattle.matter_rows.specs.declared.deposit.Deposit.{Deposit}
 use Rattle.matter_rows.specs.declared.deposit.DepositState.{DepositState}
@@ -92,7 +91,6 @@ unfoldable pub held_of : Firm → Held
 held_of firm = record {
   waiting = flat_map row_waiting firm.rows;
   bookings = flat_map row_bookings firm.rows ++ map own_booking firm.firm_lines;
-  exceptions = firm.exceptions;
 }
 
 -- the firm with only the rows of the matters that pass the test
@@ -102,7 +100,7 @@ with_matters is_kept firm = record firm { rows = filter (λ p. is_kept p.0) firm
 -- What is collected from rows that are passed one at a time.
 
 abbrev pub none_held : Held
-none_held = record { waiting = []; bookings = []; exceptions = [] }
+none_held = record { waiting = []; bookings = [] }
 
 abbrev pub with_row : Held → ℕ × Row → Held
 with_row held row = record held {
@@ -112,6 +110,3 @@ with_row held row = record held {
 
 abbrev pub with_own_line : Held → FirmLine → Held
 with_own_line held l = record held { bookings = held.bookings ++ own_booking l ∷ [] }
-
-abbrev pub with_exception : Held → Line → Held
-with_exception held line = record held { exceptions = held.exceptions ++ line ∷ [] }

@@ -1,12 +1,12 @@
 -- Laws of the outcomes for the lines of a statement.
 use Rattle.std.specs.Prelude.{◌≡◌, ◌≢◌, ◌↔◌, ℕ, ◌<◌, ◌≤◌, true, false, List, [], ◌∷◌, ◌++◌, length}
-use Rattle.std.specs.Prelude.{slice_index_or, Some, None, find}
+use Rattle.std.specs.Prelude.{slice_index_or, Some, find, ⊥}
 use Rattle.std.specs.List.{Contains, count_by}
 use Rattle.trust_base.specs.declared.line.Line.{Line}
 use Rattle.statement_lines.specs.Waiting.{Waiting}
 use Rattle.statement_lines.specs.Showing.{fits}
 use Rattle.statement_lines.specs.Held.{Held}
-use Rattle.statement_lines.specs.OpenLines.{exception_reference, is_claimed, is_open, is_open_fit}
+use Rattle.statement_lines.specs.OpenLines.{is_claimed, is_open, is_open_fit}
 use Rattle.statement_lines.specs.declared.outcome.Outcome.{Outcome}
 use Rattle.statement_lines.specs.declared.outcome.Outcome.TheVariants as outcome
 use Rattle.statement_match.specs.Rule.{becomes, is_beside_booked, is_doubled, is_in_book}
@@ -21,7 +21,6 @@ with_reference reference line = record line { reference = reference }
 abbrev pub written_as : Line → Outcome → List Line
 written_as line outcome.AsItIs = line ∷ []
 written_as line outcome.InBook = []
-written_as line (outcome.Retried reference) = with_reference reference line ∷ []
 written_as line outcome.Doubled = []
 written_as line (outcome.Filled reference) = with_reference reference line ∷ []
 written_as line outcome.Left = []
@@ -35,21 +34,6 @@ written_of today held all (line ∷ lines) =
 abbrev pub written : ℕ → Held → List Line → List Line
 written today held lines = written_of today held lines lines
 
--- the output has the lines with a reference, each unchanged, and some of those without one, each with a reference; in
--- order
-pub data AreWritten : List Line → List Line → Type 0 where
-  None_left : AreWritten [] []
-  Kept : (line : Line) (lines out : List Line) → is_open line ≡ false → AreWritten lines out
-      → AreWritten (line ∷ lines) (line ∷ out)
-  Named : (reference : List ℕ) (line : Line) (lines out : List Line) → is_open line ≡ true → AreWritten lines out
-      → AreWritten (line ∷ lines) (with_reference reference line ∷ out)
-  LeftOut : (line : Line) (lines out : List Line) → is_open line ≡ true → AreWritten lines out
-      → AreWritten (line ∷ lines) out
-
--- only references change
-abbrev pub OnlyReferencesChange : Type 0
-OnlyReferencesChange = (today : ℕ) (held : Held) (lines : List Line) → AreWritten lines (written today held lines)
-
 -- When a line is filled.
 
 -- the line has no reference, none of the earlier cases applies, the book has no line beside it, it fits this entry and
@@ -57,13 +41,12 @@ OnlyReferencesChange = (today : ℕ) (held : Held) (lines : List Line) → AreWr
 pub record IsSure (today : ℕ) (held : Held) (lines : List Line) (line : Line) (w : Waiting) : Type 0 where
   pub nameless : is_open line ≡ true
   pub new : is_in_book held lines line ≡ false
-  pub unnamed : exception_reference held.exceptions line ≡ None
   pub single : is_doubled held lines line ≡ false
   pub apart : is_beside_booked held line ≡ false
   pub fits_one : count_by (fits today line) held.waiting ≡ 1
   pub fits_it : find (fits today line) held.waiting ≡ Some w
   pub fitted_once : count_by (is_open_fit today w) lines ≡ 1
-  pub unclaimed : is_claimed held.exceptions lines w.reference ≡ false
+  pub unclaimed : is_claimed lines w.reference ≡ false
 
 -- a line is filled with an entry exactly if it is sure of the entry
 abbrev pub FillsWhatIsSure : Type 0
@@ -71,6 +54,31 @@ FillsWhatIsSure =
     (today : ℕ) (held : Held) (lines : List Line) (line : Line) (reference : List ℕ)
     → (becomes today held lines line ≡ outcome.Filled reference)
     ↔ ((w : Waiting) × IsSure today held lines line w × (reference ≡ w.reference))
+
+-- the output has the lines with a reference, each unchanged, and those without one that are sure of an entry, each with
+-- the reference of that entry; in order. The whole statement is `all`.
+pub data AreWritten (today : ℕ) (held : Held) (all : List Line) : List Line → List Line → Type 0 where
+  None_left : AreWritten today held all [] []
+  Kept : (line : Line) (lines out : List Line) → is_open line ≡ false → AreWritten today held all lines out
+      → AreWritten today held all (line ∷ lines) (line ∷ out)
+  Named : (w : Waiting) (line : Line) (lines out : List Line) → IsSure today held all line w
+      → AreWritten today held all lines out
+      → AreWritten today held all (line ∷ lines) (with_reference w.reference line ∷ out)
+  LeftOut : (line : Line) (lines out : List Line) → is_open line ≡ true
+      → ((w : Waiting) → IsSure today held all line w → ⊥) → AreWritten today held all lines out
+      → AreWritten today held all (line ∷ lines) out
+
+-- only references change, and only where a line is sure of an entry
+abbrev pub OnlyReferencesChange : Type 0
+OnlyReferencesChange =
+    (today : ℕ) (held : Held) (lines : List Line) → AreWritten today held lines lines (written today held lines)
+
+-- a line without a reference of its own is written exactly if it is sure of an entry, and with the reference of that
+abbrev pub WritesWhatIsSure : Type 0
+WritesWhatIsSure =
+    (today : ℕ) (held : Held) (lines : List Line) (line x : Line) → is_open line ≡ true
+    → Contains (written_as line (becomes today held lines line)) x
+    ↔ ((w : Waiting) × IsSure today held lines line w × (x ≡ with_reference w.reference line))
 
 -- a line is filled with an entry that waits and that the line fits
 abbrev pub FillsWithWaiting : Type 0
@@ -118,11 +126,10 @@ pub data IsPart {A : Type 0} : List A → List A → Type 0 where
   With : (x : A) (some all : List A) → IsPart some all → IsPart (x ∷ some) (x ∷ all)
   Without : (x : A) (some all : List A) → IsPart some all → IsPart some (x ∷ all)
 
--- some of the waiting entries, some of the booked lines, and all exceptions
+-- some of the waiting entries, and some of the booked lines
 pub record HasLess (less more : Held) : Type 0 where
   pub waiting : IsPart less.waiting more.waiting
   pub bookings : IsPart less.bookings more.bookings
-  pub exceptions : less.exceptions ≡ more.exceptions
 
 -- if a line is filled, and fits one of the waiting entries of `less`, it is filled with the same reference over `less`
 abbrev pub MoreOnlyTakesAway : Type 0

@@ -4,6 +4,8 @@ pub mod Entries
 pub mod FirmLaws
 pub mod Laws
 pub mod Matched
+pub mod Misfits
+pub mod OwnLines
 pub mod Phrases
 pub mod ReasonTexts
 pub mod Reasons

@@ -1,6 +1,6 @@
 -- Texts that say why records of a statement have to be looked at.
-use Rattle.std.specs.Prelude.{ℕ, Bool, cond, ◌+◌, ◌-◌, nat_lt, List, [], ◌∷◌, ◌++◌, codes, length, map, take, flat_map}
-use Rattle.std.specs.Prelude.{slice_index, Option, Some, None, find, if◌then◌else◌}
+use Rattle.std.specs.Prelude.{ℕ, ℤ, Bool, cond, ◌+◌, ◌-◌, nat_lt, List, [], ◌∷◌, ◌++◌, codes, length, map, take, flat_map}
+use Rattle.std.specs.Prelude.{slice_index, Option, Some, None, if◌then◌else◌}
 use Rattle.std.specs.List.{count_by}
 use Rattle.std.specs.Fmt.{decimal}
 use Rattle.trust_base.specs.Texts.{day_text, signed_text}
@@ -17,7 +17,11 @@ use Rattle.statement_lines.specs.declared.book_entry.EntryState.{EntryState}
 use Rattle.statement_lines.specs.declared.book_entry.EntryState.TheVariants as state
 use Rattle.statement_lines.specs.declared.relation.Relation.{Relation}
 use Rattle.statement_lines.specs.declared.relation.Relation.TheVariants as relation
+use Rattle.statement_match.specs.Misfits.{entry_of, exceptions_of, misfit_of}
 use Rattle.statement_match.specs.Phrases.{phrase_text}
+use Rattle.statement_match.specs.declared.misfit.Misfit.{Misfit}
+use Rattle.statement_match.specs.declared.misfit.Misfit.TheVariants as misfit
+use Rattle.statement_match.specs.declared.phrase.Phrase.{Phrase}
 use Rattle.statement_match.specs.declared.phrase.Phrase.TheVariants as phrase
 use Rattle.statement_match.specs.declared.reason.Reason.{Reason}
 use Rattle.statement_match.specs.declared.reason.Reason.TheVariants as reason
@@ -43,14 +47,17 @@ abbrev pub further_if_any : List ℕ → List ℕ
 further_if_any [] = []
 further_if_any (b ∷ bs) = further (b ∷ bs)
 
--- its reference, its state, the day of the state, the bank's reference if there is one, and the source or payee
-unfoldable pub entry_text : BookEntry → List ℕ
-entry_text e =
-    e.entry.reference
-    ++ (further (state_word e.state)
+-- its state, the day of the state, the bank's reference if there is one, and the source or payee
+unfoldable pub state_text : BookEntry → List ℕ
+state_text e =
+    further (state_word e.state)
     ++ (further (day_text e.day)
     ++ (further_if_any e.bank_ref
-    ++ further e.party)))
+    ++ further e.party))
+
+-- its reference, and these
+abbrev pub entry_text : BookEntry → List ℕ
+entry_text e = e.entry.reference ++ state_text e
 
 -- the amount of the line that clears it, if the line has another amount
 abbrev pub amount_part : Relation → BookEntry → List ℕ
@@ -61,6 +68,7 @@ amount_part relation.OfAnotherAmount e = further (signed_text e.entry.amount)
 amount_part relation.OfItsAmount e = []
 amount_part relation.MaybeReturned e = []
 amount_part relation.Named e = []
+amount_part relation.NamedAgain e = []
 amount_part relation.NamedOfAnotherAmount e = further (signed_text e.entry.amount)
 amount_part (relation.HeldOn day) e = []
 
@@ -136,6 +144,7 @@ words_of relation.OfAnotherAmount = codes "it shows an entry of another amount: 
 words_of relation.OfItsAmount = codes "nothing in its words tells which entry; of its amount: "
 words_of relation.MaybeReturned = codes "no payment of its amount; it may be a return of "
 words_of relation.Named = codes "its reference is that of an entry: "
+words_of relation.NamedAgain = codes "it is in the book already: "
 words_of relation.NamedOfAnotherAmount = codes "its reference is that of an entry of another amount: "
 words_of (relation.HeldOn day) = codes "deposits were booked on the day: "
 
@@ -162,11 +171,6 @@ shared_part today records (Some e) =
     numbers_text (fit_numbers today e.entry records.numbers 0 records.lines)
     ++ (phrase_text phrase.Show ++ e.entry.reference)
 
--- the reference under which it is an exception
-abbrev pub exception_part : Option Line → List ℕ
-exception_part None = []
-exception_part (Some x) = x.reference
-
 abbrev pub doubled_text : Known → Records → Line → List ℕ
 doubled_text known records line =
     decimal (count_by (is_open_like line) records.lines)
@@ -182,21 +186,65 @@ abbrev pub claimed_text : ℕ → Known → Line → List ℕ
 claimed_text today known line =
     phrase_text phrase.Shows ++ (fitted_part (fitted today known line) ++ phrase_text phrase.AnotherNames)
 
--- how many references it is an exception under
-unfoldable pub exceptions_part : List Line → Line → List ℕ
-exceptions_part exceptions line =
-    phrase_text phrase.ExceptionUnder ++ decimal (count_by (is_named_like line) exceptions)
+-- the entries of its amount, if any wait
+abbrev pub its_amount_part : ℕ → Known → Line → List ℕ
+its_amount_part today known line =
+    if is_related relation.OfItsAmount today known line
+    then phrase_text phrase.OfItsAmount ++ related_text relation.OfItsAmount today known line
+    else []
 
-abbrev pub several_exceptions_text : List Line → Line → List ℕ
-several_exceptions_text exceptions line =
-    exceptions_part exceptions line
-    ++ (phrase_text phrase.WrittenUnder ++ exception_part (find (is_named_like line) exceptions))
+-- the words of an exception that does not fit an entry
+abbrev pub misfit_words : Misfit → Phrase
+misfit_words misfit.NoEntry = phrase.NoneHasIt
+misfit_words misfit.OfNoEntry = phrase.OfNoEntry
+misfit_words misfit.Again = phrase.HasItAlready
+misfit_words misfit.DatedAfter = phrase.DatedAfter
+misfit_words misfit.TakesBack = phrase.TakesBack
+misfit_words misfit.NotWaiting = phrase.NotWaiting
+misfit_words misfit.OfAnotherAmount = phrase.OfAnotherAmount
+misfit_words misfit.Fits = phrase.WouldApply
 
-abbrev pub fits_another_text : ℕ → Known → Line → List ℕ
-fits_another_text today known line =
+abbrev pub states_text : Option BookEntry → List ℕ
+states_text None = []
+states_text (Some e) = state_text e
+
+abbrev pub amounts_text : Option BookEntry → List ℕ
+amounts_text None = []
+amounts_text (Some e) = further (signed_text e.entry.amount)
+
+-- what stands behind these words: the business day, or the entry of the reference
+abbrev pub misfit_part : ℕ → Misfit → Option BookEntry → List ℕ
+misfit_part today misfit.NoEntry found = []
+misfit_part today misfit.OfNoEntry found = []
+misfit_part today misfit.Again found = []
+misfit_part today misfit.DatedAfter found = day_text today
+misfit_part today misfit.TakesBack found = states_text found
+misfit_part today misfit.NotWaiting found = states_text found
+misfit_part today misfit.OfAnotherAmount found = states_text found ++ amounts_text found
+misfit_part today misfit.Fits found = states_text found
+
+-- why an exception matches nothing, with the entry of its reference
+unfoldable pub misfit_text : ℕ → Misfit → Option BookEntry → List ℕ
+misfit_text today m found = phrase_text (misfit_words m) ++ misfit_part today m found
+
+-- an exception: its reference, and why it matches nothing
+unfoldable pub exception_text : ℕ → Known → Line → List ℕ
+exception_text today known x =
+    x.reference
+    ++ (codes " ("
+    ++ (misfit_text today (misfit_of today x (entry_of known x)) (entry_of known x) ++ codes ")"))
+
+-- the texts of the first exceptions that are the line
+abbrev pub exception_texts : ℕ → Known → Line → List (List ℕ)
+exception_texts today known line = take most_told (map (exception_text today known) (exceptions_of known line))
+
+-- the exceptions that are the line, what takes them away, and the entries of its amount
+unfoldable pub exceptions_text : ℕ → Known → Line → List ℕ
+exceptions_text today known line =
     phrase_text phrase.ExceptionUnder
-    ++ (exception_part (find (is_named_like line) known.held.exceptions)
-    ++ (phrase_text phrase.AndFits ++ related_text relation.Fitted today known line))
+    ++ (parted_by_semicolons (exception_texts today known line)
+    ++ (more_text (count_by (is_named_like line) known.exceptions)
+    ++ (phrase_text phrase.Dismiss ++ its_amount_part today known line)))
 
 -- the deposits of a day
 abbrev pub together_text : ℕ → Known → Line → ℕ → List ℕ
@@ -205,6 +253,10 @@ together_text today known line day =
     ++ (phrase_text phrase.DepositsOf
     ++ (day_text day
     ++ (phrase_text phrase.AreTogether ++ related_text (relation.HeldOn day) today known line)))
+
+-- what the firm's own money would be with the line
+abbrev pub own_money_text : ℤ → List ℕ
+own_money_text sum = phrase_text phrase.OwnWouldBe ++ (signed_text sum ++ phrase_text phrase.OwnStays)
 
 unfoldable pub reason_text : ℕ → Known → Records → Line → Reason → List ℕ
 reason_text today known records line reason.DatedAfter = phrase_text phrase.DatedAfter ++ day_text today
@@ -220,7 +272,8 @@ reason_text today known records line reason.OtherBusiness =
 reason_text today known records line (reason.Related r) = words_of r ++ related_text r today known line
 reason_text today known records line reason.NoneOfItsAmount = phrase_text phrase.NoneOfItsAmount
 reason_text today known records line (reason.Together day) = together_text today known line day
-reason_text today known records line reason.SeveralExceptions = several_exceptions_text known.held.exceptions line
-reason_text today known records line reason.FitsAnother = fits_another_text today known line
+reason_text today known records line reason.IsException = exceptions_text today known line
+reason_text today known records line (reason.OwnMoney sum) = own_money_text sum
+reason_text today known records line reason.MovesNothing = phrase_text phrase.MovesNothing
 reason_text today known records line reason.NamesNone =
     phrase_text phrase.NamesNone

@@ -2,20 +2,20 @@
 use Rattle.std.specs.Prelude.{ℕ, Bool, true, false, ◌&&◌, not, nat_lt, List, [], ◌∷◌, Option, Some, None, is_some}
 use Rattle.std.specs.Prelude.{if◌then◌else◌}
 use Rattle.std.specs.List.{count_by, list_any}
-use Rattle.std.specs.Str.{bytes_eq}
 use Rattle.trust_base.specs.declared.line.Line.{Line}
+use Rattle.firm_rows.specs.declared.ledger.FirmLine.{FirmLine}
 use Rattle.statement_csv.specs.References.{entry_named}
 use Rattle.statement_lines.specs.Showing.{is_other_business}
-use Rattle.statement_lines.specs.Held.{Held}
 use Rattle.statement_lines.specs.OpenLines.{is_claimed, is_named_like, is_open_fit}
 use Rattle.statement_lines.specs.Known.{Known}
-use Rattle.statement_lines.specs.Relations.{count_related, fitted, is_related, stands}
+use Rattle.statement_lines.specs.Relations.{count_related, fitted, is_related}
 use Rattle.statement_lines.specs.declared.book_entry.BookEntry.{BookEntry}
 use Rattle.statement_lines.specs.declared.outcome.Outcome.{Outcome}
 use Rattle.statement_lines.specs.declared.outcome.Outcome.TheVariants as outcome
 use Rattle.statement_lines.specs.declared.relation.Relation.TheVariants as relation
 use Rattle.statement_match.specs.Rule.{is_beside_booked}
 use Rattle.statement_match.specs.DaySums.{first_day}
+use Rattle.statement_match.specs.OwnLines.{is_own, own_reason}
 use Rattle.statement_match.specs.declared.reason.Reason.{Reason}
 use Rattle.statement_match.specs.declared.reason.Reason.TheVariants as reason
 
@@ -31,19 +31,22 @@ first_if_any (c ∷ cs) = if c.0 then Some c.1 else first_if_any cs
 
 -- A line that is left.
 
+-- it is an exception under a reference
+abbrev pub is_exception : Known → Line → Bool
+is_exception known line = list_any (is_named_like line) known.exceptions
+
 -- another open line, or a line of the book, has its date, bank reference and amount
 abbrev pub is_doubled_outcome : Outcome → Bool
 is_doubled_outcome outcome.AsItIs = false
 is_doubled_outcome outcome.InBook = false
-is_doubled_outcome (outcome.Retried reference) = false
 is_doubled_outcome outcome.Doubled = true
 is_doubled_outcome (outcome.Filled reference) = false
 is_doubled_outcome outcome.Left = false
 
 -- a record has the reference of the entry that the line fits
-abbrev pub is_claimed_fit : Held → List Line → Option BookEntry → Bool
-is_claimed_fit held lines None = false
-is_claimed_fit held lines (Some e) = is_claimed held.exceptions lines e.entry.reference
+abbrev pub is_claimed_fit : List Line → Option BookEntry → Bool
+is_claimed_fit lines None = false
+is_claimed_fit lines (Some e) = is_claimed lines e.entry.reference
 
 -- several open lines fit the entry that the line fits
 abbrev pub is_shared_fit : ℕ → List Line → Option BookEntry → Bool
@@ -70,34 +73,22 @@ entry_reason today known line =
 unfoldable pub left_reason : ℕ → Known → List Line → Line → Outcome → Reason
 left_reason today known lines line o =
     first_of
-    ((nat_lt today line.date, reason.DatedAfter)
+    ((is_exception known line, reason.IsException)
+    ∷ (nat_lt today line.date, reason.DatedAfter)
     ∷ (is_doubled_outcome o, reason.Doubled)
     ∷ (is_beside_booked known.held line, reason.BesideBooked)
     ∷ (nat_lt 1 (count_related relation.Fitted today known line), reason.FitsSeveral)
-    ∷ (is_claimed_fit known.held lines (fitted today known line), reason.Claimed)
+    ∷ (is_claimed_fit lines (fitted today known line), reason.Claimed)
     ∷ (is_shared_fit today lines (fitted today known line), reason.Shared)
     ∷ []) (entry_reason today known line)
 
--- A line that is an exception under a reference, and is written with it.
-
--- it fits an entry with another reference
-abbrev pub fits_other : ℕ → Known → Line → List ℕ → Bool
-fits_other today known line reference =
-    list_any (λ e. stands relation.Fitted today line e && not (bytes_eq reference e.entry.reference)) known.entries
-
-unfoldable pub retried_reason : ℕ → Known → Line → List ℕ → Option Reason
-retried_reason today known line reference =
-    first_if_any
-    ((nat_lt 1 (count_by (is_named_like line) known.held.exceptions), reason.SeveralExceptions)
-    ∷ (fits_other today known line reference, reason.FitsAnother)
-    ∷ [])
-
 -- A line with a reference, which is written unchanged.
 
--- the reason for a line whose reference names an entry, whatever other lines do: it cannot belong to that entry
+-- the reason for a line whose reference names an entry, whatever other lines do: it cannot belong to that entry. There
+-- is none for a line that the book has for that entry already, on whatever business day.
 unfoldable pub named_reason : ℕ → Known → Line → Option Reason
 named_reason today known line =
-    if is_some (entry_named line.reference)
+    if is_some (entry_named line.reference) && not (is_related relation.NamedAgain today known line)
     then first_if_any
     ((nat_lt today line.date, reason.DatedAfter)
     ∷ (not (is_related relation.Named today known line), reason.NamesNone)
@@ -105,12 +96,16 @@ named_reason today known line =
     ∷ [])
     else None
 
--- Why a line with this outcome has to be looked at.
+-- the reason for a line with a reference: one of the firm's own is tried on the firm's own ledger as it is then
+abbrev pub kept_reason : ℕ → Known → List FirmLine → Line → Option Reason
+kept_reason today known own line =
+    if is_own line then own_reason today own line else named_reason today known line
 
-unfoldable pub reason_for : ℕ → Known → List Line → Line → Outcome → Option Reason
-reason_for today known lines line outcome.AsItIs = named_reason today known line
-reason_for today known lines line outcome.InBook = None
-reason_for today known lines line (outcome.Retried reference) = retried_reason today known line reference
-reason_for today known lines line outcome.Doubled = Some (left_reason today known lines line outcome.Doubled)
-reason_for today known lines line (outcome.Filled reference) = None
-reason_for today known lines line outcome.Left = Some (left_reason today known lines line outcome.Left)
+-- Why a line with this outcome has to be looked at; `own` is the firm's own ledger after an import of the lines before.
+
+unfoldable pub reason_for : ℕ → Known → List FirmLine → List Line → Line → Outcome → Option Reason
+reason_for today known own lines line outcome.AsItIs = kept_reason today known own line
+reason_for today known own lines line outcome.InBook = None
+reason_for today known own lines line outcome.Doubled = Some (left_reason today known lines line outcome.Doubled)
+reason_for today known own lines line (outcome.Filled reference) = None
+reason_for today known own lines line outcome.Left = Some (left_reason today known lines line outcome.Left)

@@ -11,7 +11,7 @@ use Rattle.statement_lines.specs.Showing.{fits}
 use Rattle.statement_lines.specs.Waiting.{Waiting}
 use Rattle.statement_lines.specs.declared.outcome.Outcome.{Outcome}
 use Rattle.statement_lines.specs.declared.outcome.Outcome.TheVariants as outcome
-pub use Rattle.statement_lines.specs.OpenLines.{exception_reference, is_open}
+pub use Rattle.statement_lines.specs.OpenLines.{is_open}
 
 -- 1. In the book already.
 
@@ -34,16 +34,14 @@ is_booked_in_parts held lines line =
 unfoldable pub is_in_book : Held → List Line → Line → Bool
 is_in_book held lines line = is_booked held lines line || is_booked_in_parts held lines line
 
--- 2. An exception under a reference: one that `exception_reference` finds.
-
--- 3. Doubled.
+-- 2. Doubled.
 
 -- another open line, or a line of the book, has its date, bank reference and amount
 unfoldable pub is_doubled : Held → List Line → Line → Bool
 is_doubled held lines line =
     nat_lt 1 (count_by (is_open_like line) lines) || list_any (is_same_booking (booking_of line)) held.bookings
 
--- 4. Filled.
+-- 3. Filled.
 
 -- exactly one open line fits the entry
 abbrev pub is_fitted_once : ℕ → List Line → Waiting → Bool
@@ -54,7 +52,7 @@ is_fitted_once today lines w = count_by (is_open_fit today w) lines == 1
 abbrev pub filled_with : ℕ → Held → List Line → Option Waiting → Outcome
 filled_with today held lines None = outcome.Left
 filled_with today held lines (Some w) =
-    if is_fitted_once today lines w && not (is_claimed held.exceptions lines w.reference)
+    if is_fitted_once today lines w && not (is_claimed lines w.reference)
     then outcome.Filled w.reference
     else outcome.Left
 
@@ -68,16 +66,12 @@ fill today held lines line =
 
 -- The outcome for a line: the first case that holds.
 
-abbrev pub unless_exception : Option (List ℕ) → Outcome → Outcome
-unless_exception (Some reference) other = outcome.Retried reference
-unless_exception None other = other
-
 unfoldable pub becomes : ℕ → Held → List Line → Line → Outcome
 becomes today held lines line =
     if not (is_open line) then outcome.AsItIs
     else if is_in_book held lines line then outcome.InBook
-    else unless_exception (exception_reference held.exceptions line)
-    (if is_doubled held lines line then outcome.Doubled else fill today held lines line)
+    else if is_doubled held lines line then outcome.Doubled
+    else fill today held lines line
 
 -- the outcome for each line of a statement
 abbrev pub outcomes : ℕ → Held → List Line → List Outcome

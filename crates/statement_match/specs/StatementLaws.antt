@@ -29,10 +29,9 @@ IsImported =
 abbrev pub IsReference : List ℕ → Type 0
 IsReference reference = bank_text_of reference ≡ Some reference
 
--- the references of what a book has are ones that a record can have
-pub record HasReferences (held : Held) : Type 0 where
-  pub waiting : (w : Waiting) → Contains held.waiting w → IsReference w.reference
-  pub exceptions : (x : Line) → Contains held.exceptions x → IsReference x.reference
+-- the references of what waits in a book are ones that a record can have
+abbrev pub HasReferences : Held → Type 0
+HasReferences held = (w : Waiting) → Contains held.waiting w → IsReference w.reference
 
 -- the lines of the written text are what is written of each line
 abbrev pub HasLinesWritten : Type 0

@@ -5,12 +5,14 @@ use Rattle.std.specs.List.{count_by}
 use Rattle.std.specs.Fmt.{decimal}
 use Rattle.trust_base.specs.Texts.{day_text, signed_text}
 use Rattle.trust_base.specs.declared.line.Line.{Line}
+use Rattle.firm_rows.specs.declared.ledger.FirmLine.{FirmLine}
 use Rattle.statement_lines.specs.Records.{Records}
 use Rattle.statement_lines.specs.Known.{Known}
 use Rattle.statement_lines.specs.Words.{further, words_part}
 use Rattle.statement_lines.specs.declared.outcome.Outcome.{Outcome}
 use Rattle.statement_lines.specs.declared.outcome.Outcome.TheVariants as outcome
 use Rattle.statement_match.specs.Rule.{becomes, outcomes}
+use Rattle.statement_match.specs.OwnLines.{own_before}
 use Rattle.statement_match.specs.Reasons.{reason_for}
 use Rattle.statement_match.specs.ReasonTexts.{reason_text}
 use Rattle.statement_match.specs.declared.reason.Reason.{Reason}
@@ -44,10 +46,11 @@ told_by today known records number line None = []
 told_by today known records number line (Some why) =
     record_line number line (reason_text today known records line why) ∷ []
 
-abbrev pub told_of_line : ℕ → Known → Records → ℕ → Line → List (List ℕ)
-told_of_line today known records number line =
+-- `own` is the firm's own ledger after an import of the lines before
+abbrev pub told_of_line : ℕ → Known → List FirmLine → Records → ℕ → Line → List (List ℕ)
+told_of_line today known own records number line =
     told_by today known records number line
-    (reason_for today known records.lines line (becomes today known.held records.lines line))
+    (reason_for today known own records.lines line (becomes today known.held records.lines line))
 
 -- this many unreadable records, after the record with this number
 unfoldable pub told_unreadable : ℕ → ℕ → List (List ℕ)
@@ -55,16 +58,17 @@ told_unreadable before zero = []
 told_unreadable before (suc k) = unreadable_line (before + 1) ∷ told_unreadable (before + 1) k
 
 -- The records after number `before`, in order: these lines, the first of which has this place, and between them the
--- unreadable records, whose numbers belong to no line.
-unfoldable pub told_from : ℕ → Known → Records → ℕ → ℕ → List Line → List (List ℕ)
-told_from today known records before place [] = told_unreadable before (records.count - before)
-told_from today known records before place (line ∷ lines) =
+-- unreadable records, whose numbers belong to no line. `own` is the firm's own ledger in the book.
+unfoldable pub told_from : ℕ → Known → List FirmLine → Records → ℕ → ℕ → List Line → List (List ℕ)
+told_from today known own records before place [] = told_unreadable before (records.count - before)
+told_from today known own records before place (line ∷ lines) =
     told_unreadable before (slice_index records.numbers place - 1 - before)
-    ++ (told_of_line today known records (slice_index records.numbers place) line
-    ++ told_from today known records (slice_index records.numbers place) (place + 1) lines)
+    ++ (told_of_line today known (own_before today own records.lines place) records (slice_index records.numbers place)
+    line
+    ++ told_from today known own records (slice_index records.numbers place) (place + 1) lines)
 
-abbrev pub told : ℕ → Known → Records → List (List ℕ)
-told today known records = told_from today known records 0 0 records.lines
+abbrev pub told : ℕ → Known → List FirmLine → Records → List (List ℕ)
+told today known own records = told_from today known own records 0 0 records.lines
 
 -- The counts.
 
@@ -72,7 +76,6 @@ told today known records = told_from today known records 0 0 records.lines
 abbrev pub is_written : Outcome → Bool
 is_written outcome.AsItIs = true
 is_written outcome.InBook = false
-is_written (outcome.Retried reference) = true
 is_written outcome.Doubled = false
 is_written (outcome.Filled reference) = true
 is_written outcome.Left = false
@@ -81,7 +84,6 @@ is_written outcome.Left = false
 abbrev pub is_left_out : Outcome → Bool
 is_left_out outcome.AsItIs = false
 is_left_out outcome.InBook = true
-is_left_out (outcome.Retried reference) = false
 is_left_out outcome.Doubled = false
 is_left_out (outcome.Filled reference) = false
 is_left_out outcome.Left = false
@@ -100,10 +102,10 @@ counts_line written booked left =
 abbrev pub same_text : List ℕ → List ℕ
 same_text text = text
 
-unfoldable pub unmatched : ℕ → Known → Records → Unmatched
-unmatched today known records = record {
-  text = flat_map same_text (told today known records)
+unfoldable pub unmatched : ℕ → Known → List FirmLine → Records → Unmatched
+unmatched today known own records = record {
+  text = flat_map same_text (told today known own records)
       ++ counts_line (written_count records (outcomes today known.held records.lines))
-      (count_by is_left_out (outcomes today known.held records.lines)) (length (told today known records));
-  left = length (told today known records);
+      (count_by is_left_out (outcomes today known.held records.lines)) (length (told today known own records));
+  left = length (told today known own records);
 }

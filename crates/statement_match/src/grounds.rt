@@ -1,23 +1,26 @@
 // What the reasons for the lines of a statement are based on.
 
-ghost use Rattle.std.specs.Prelude.{◌≡◌, ◌==◌, ℕ, IfOk};
+ghost use Rattle.std.specs.Prelude.{◌≡◌, ◌==◌, ℕ, IfOk, find, option_copied, option_map};
 ghost use Rattle.std.specs.List.{filter};
 ghost use Rattle.statement_lines.specs.Keys.{amount_key, day_key, waiting_key};
 ghost use Rattle.statement_lines.specs.Lookups.{elements};
 ghost use Rattle.statement_lines.specs.Marks.{marks_from};
+ghost use Rattle.statement_lines.specs.OpenLines.{is_named_like};
+ghost use Rattle.statement_lines.specs.Relations.{names};
 ghost use Rattle.statement_match.specs.DaySums.{first_day as first_day_of};
 ghost use Rattle.statement_match.specs.Grounds.{AreCandidates, AreNumbered, numbered as with_numbers};
 ghost use Rattle.statement_match.specs.Grounds.{plain_pairs};
+ghost use Rattle.statement_match.specs.Misfits.{entry_of as entry_of_line};
 
 use crate::day_sums::{DaySum, day_of_sum};
 use crate::entry_index::EntryIndex;
 use statement_lines::{
-    BookEntry, Index, Known, Lookup, Mark, Records, Relation, StatementLine, WaitingEntry, line_at,
+    BookEntry, Exceptions, Index, Known, Lookup, Mark, Records, Relation, StatementLine, WaitingEntry, line_at,
     line_count, number_of,
 };
 use std::alloc::{AllocError, Global};
 use std::marker::Model;
-use trust_base::Day;
+use trust_base::{Day, Line};
 
 /// A line, with the number of its record.
 pub(crate) type Numbered<'a> = (u64, &'a StatementLine);
@@ -32,6 +35,7 @@ pub(crate) struct Grounds<'a, 'b> {
     records: &'a Records,
     index: &'b Index<'a>,
     entries: EntryIndex<'a, 'b>,
+    exceptions: Exceptions<'a>,
     numbered: &'b [Numbered<'a>],
     amounts: Lookup<'b, Numbered<'a>>,
     sums: Vec<DaySum>,
@@ -45,8 +49,8 @@ impl<'a, 'b> Model for Grounds<'a, 'b> {
 
     ghost view = { λ g. record { known = g.known.now; records = g.records.now } };
 
-    ghost invariant = { λ g. AreGrounds g.known.now g.records.now g.index.now g.entries g.numbered.now
-        g.amounts.sorted.items g.sums.items };
+    ghost invariant = { λ g. AreGrounds g.known.now g.records.now g.index.now g.entries g.exceptions
+        g.numbered.now g.amounts.sorted.items g.sums.items };
 }
 
 /// What the reasons for one line are based on, looked up once for all of them.
@@ -91,6 +95,16 @@ pub(crate) fn numbered_lines<'a>(
     Ok(found)
 }
 
+// Returns the first of the given entries that has a line's reference.
+fn first_named<'a>(found: &[(u64, &'a BookEntry)], line: &Line) -> Option<&'a BookEntry>
+    ensures { option_copied result ≡ option_map (λ e. e.1.now) (find (λ e. names line.now e.1.now) found.now) }
+{
+    found
+        .iter()
+        .find(|entry| entry.1.is_named_by(line))
+        .map(|entry| entry.1)
+}
+
 impl<'a, 'b> Grounds<'a, 'b> {
     /// Makes the grounds from what is known of a book, the records, the index of the rule, the numbered lines, and the
     /// marks of the entries. The only error is out of memory.
@@ -108,6 +122,7 @@ impl<'a, 'b> Grounds<'a, 'b> {
         ensures { IfOk result (λ grounds. grounds ≡ record { known = known.now; records = records.now }) }
     {
         let entries = EntryIndex::of(alloc, &known.entries, marks)?;
+        let exceptions = Exceptions::of(alloc, &known.exceptions)?;
         let amounts = Lookup::of(
             alloc,
             numbered,
@@ -119,6 +134,7 @@ impl<'a, 'b> Grounds<'a, 'b> {
             records,
             index,
             entries,
+            exceptions,
             numbered,
             amounts,
             sums,
@@ -147,6 +163,21 @@ impl<'a, 'b> Grounds<'a, 'b> {
         ensures { elements result.now ≡ filter (λ e. day_key e == day) self.now.known.entries }
     {
         self.entries.of_day(day)
+    }
+
+    // The exceptions that may be the line with a reference. They include all that are, in their order.
+    fn exceptions_like(&self, line: &StatementLine) -> &[(u64, &'a Line)]
+        ensures { filter (is_named_like line.now) (elements result.now)
+            ≡ filter (is_named_like line.now) self.now.known.exceptions }
+    {
+        self.exceptions.like(line)
+    }
+
+    // Returns the deposit or payment that has a line's reference.
+    fn entry_of(&self, line: &Line) -> Option<&'a BookEntry>
+        ensures { option_copied result ≡ entry_of_line self.now.known line.now }
+    {
+        first_named(self.entries.named_by(line), line)
     }
 
     // The lines whose amount is the entry's or its negative, each with its number.
@@ -210,9 +241,24 @@ impl<'a, 'b, 'c> LineGrounds<'a, 'b, 'c> {
             | Relation::IssuedAfter
             | Relation::OfAnotherAmount => &self.shown,
             Relation::OfItsAmount | Relation::MaybeReturned => self.of_amount,
-            Relation::Named | Relation::NamedOfAnotherAmount => self.named,
+            Relation::Named | Relation::NamedAgain | Relation::NamedOfAnotherAmount => self.named,
             Relation::HeldOn(day) => self.grounds.of_day(day),
         }
+    }
+
+    /// The exceptions that may be the line with a reference. They include all that are, in their order.
+    pub(crate) fn exceptions(&self) -> &[(u64, &'a Line)]
+        ensures { filter (is_named_like self.now.line) (elements result.now)
+            ≡ filter (is_named_like self.now.line) self.now.known.exceptions }
+    {
+        self.grounds.exceptions_like(self.line)
+    }
+
+    /// Returns the deposit or payment that has an exception's reference.
+    pub(crate) fn entry_of(&self, exception: &Line) -> Option<&'a BookEntry>
+        ensures { option_copied result ≡ entry_of_line self.now.known exception.now }
+    {
+        self.grounds.entry_of(exception)
     }
 
     /// The lines whose amount is the entry's or its negative, each with its number.

@@ -1,10 +1,11 @@
 // Collects what is known of a book, row by row.
 
-ghost use Rattle.std.specs.Prelude.{◌≡◌, ◌++◌, IfOk, OnOk, OnErr, option_copied, unwrap_or, []};
+ghost use Rattle.std.specs.Prelude.{◌≡◌, ◌++◌, List, IfOk, OnOk, OnErr, option_copied, unwrap_or, []};
 ghost use Rattle.firm_rows.specs.Firm.{EntryRow};
 ghost use Rattle.trust_store.specs.Calls.{IsRead};
 ghost use Rattle.statement_csv.specs.References.{reference_text};
 ghost use Rattle.statement_lines.specs.Waiting.{Waiting, waiting_deposit, waiting_payment};
+ghost use Rattle.statement_lines.specs.declared.booking.Booking.{Booking};
 ghost use Rattle.statement_match.specs.Books.{booked_by, entry_bookings, entry_waiting};
 ghost use Rattle.statement_match.specs.Entries.{book_entry, deposit_in, know_exception, know_own_line, know_row};
 ghost use Rattle.statement_match.specs.Entries.{known_of, none_known, payment_in, since_of as since_day};
@@ -13,7 +14,7 @@ ghost use Rattle.statement_match.specs.Entries.{told_entries as entries_told};
 use byte_streams::OwnedBytes;
 use firm_rows::{ExceptionSink, FirmLine, FirmLineSink, MatterRow, MatterRowSink};
 use matter_rows::{Clearing, Deposit, DepositState, Entry, Payment, PaymentState};
-use statement_lines::{BookEntry, Booking, EntryState, Held, Known, WaitingEntry};
+use statement_lines::{BookEntry, BookedLines, Booking, EntryState, Held, Known, WaitingEntry};
 use std::alloc::{AllocError, Global};
 use std::marker::Model;
 use trust_base::{BankText, Day, EntryNo, Label, Line, MatterNo, StoreFault};
@@ -146,9 +147,9 @@ fn bookings_of(alloc: Global, entry: &Entry) -> Result<Vec<Booking>, AllocError>
 type StateOf<'a> = (EntryState, Day, Option<&'a BankText>);
 
 fn deposit_state(d: &Deposit) -> StateOf<'_>
-    ensures { (w : Waiting)
-        → book_entry w result.0 result.1 (unwrap_or (option_copied result.2) []) d.now.source
-        ≡ deposit_in w d.now d.now.state }
+    ensures { (w : Waiting) (bookings : List Booking)
+        → book_entry w result.0 result.1 (unwrap_or (option_copied result.2) []) d.now.source bookings
+        ≡ deposit_in w d.now d.now.state bookings }
 {
     match &d.state {
         DepositState::Held => (EntryState::Held, d.book, None),
@@ -174,9 +175,9 @@ fn since_of(p: &Payment) -> Day
 }
 
 fn payment_state(p: &Payment) -> StateOf<'_>
-    ensures { (w : Waiting)
-        → book_entry w result.0 result.1 (unwrap_or (option_copied result.2) []) p.now.payee
-        ≡ payment_in w p.now p.now.state }
+    ensures { (w : Waiting) (bookings : List Booking)
+        → book_entry w result.0 result.1 (unwrap_or (option_copied result.2) []) p.now.payee bookings
+        ≡ payment_in w p.now p.now.state bookings }
 {
     match &p.state {
         PaymentState::Issued(day) => (EntryState::Issued, *day, None),
@@ -190,15 +191,16 @@ fn payment_state(p: &Payment) -> StateOf<'_>
     }
 }
 
-// Returns an entry with its state, and its source or payee.
+// Returns an entry with its state, its source or payee, and the bank lines that are booked for it.
 fn told(
     alloc: Global,
     entry: WaitingEntry,
     now: StateOf<'_>,
     party: &Label,
+    bookings: BookedLines,
 ) -> Result<BookEntry, AllocError>
     ensures { IfOk result (λ e. e
-        ≡ book_entry entry now.entry.0 now.entry.1 (unwrap_or (option_copied now.entry.2) []) party.now) }
+        ≡ book_entry entry now.entry.0 now.entry.1 (unwrap_or (option_copied now.entry.2) []) party.now bookings) }
 {
     let (state, day, reported) = now;
     let bank_ref = match reported {
@@ -211,6 +213,7 @@ fn told(
         day,
         bank_ref: OwnedBytes::new(bank_ref),
         party: party.copied()?,
+        bookings,
     })
 }
 
@@ -224,15 +227,16 @@ fn told_entries(
     ensures { IfOk result (λ found. found.items ≡ entries_told matter number entry.now) }
 {
     let mut found = Vec::new(alloc);
+    let bookings = BookedLines::new(bookings_of(alloc, entry)?);
     match entry {
         Entry::Fee(_) | Entry::Claim(_) => {}
         Entry::Deposit(d) => {
             let waiting = deposit_waiting(alloc, d, matter, number)?;
-            found.push(told(alloc, waiting, deposit_state(d), &d.source)?)?;
+            found.push(told(alloc, waiting, deposit_state(d), &d.source, bookings)?)?;
         }
         Entry::Payment(p) => {
             let waiting = payment_waiting(alloc, p, since_of(p), matter, number)?;
-            found.push(told(alloc, waiting, payment_state(p), &p.payee)?)?;
+            found.push(told(alloc, waiting, payment_state(p), &p.payee, bookings)?)?;
         }
     }
     Ok(found)
@@ -256,8 +260,9 @@ impl Model for KnownCollector {
     ghost Value = { Known };
 
     ghost view = { λ c. record {
-      held = record { waiting = c.waiting.items; bookings = c.bookings.items; exceptions = c.exceptions.items };
+      held = record { waiting = c.waiting.items; bookings = c.bookings.items };
       entries = c.entries.items;
+      exceptions = c.exceptions.items;
     } };
 }
 
@@ -307,8 +312,9 @@ impl KnownCollector {
         ensures { result ≡ self }
     {
         Known {
-            held: Held::new(self.waiting, self.bookings, self.exceptions),
+            held: Held::new(self.waiting, self.bookings),
             entries: self.entries,
+            exceptions: self.exceptions,
         }
     }
 }

@@ -3,14 +3,15 @@
 ghost use Rattle.statement_match.specs.FirmLaws.{FilledWaits, NoneIsNamedTwiceByFirms, OtherMattersOnlyTakeAway};
 ghost use Rattle.statement_match.specs.FirmLaws.{WaitApart};
 ghost use Rattle.statement_match.specs.Laws.{FillsWhatIsSure, FillsWithWaiting, MoreOnlyTakesAway, NoneIsNamedTwice};
-ghost use Rattle.statement_match.specs.Laws.{OnlyReferencesChange, TwoEntriesAreLeft, TwoLinesAreLeft};
+ghost use Rattle.statement_match.specs.Laws.{OnlyReferencesChange, TwoEntriesAreLeft, TwoLinesAreLeft, WritesWhatIsSure};
 ghost use Rattle.statement_match.specs.StatementLaws.{HasLinesWritten, IsImported, ReadsBack};
 
-/// A line is filled with an entry exactly if it is sure: the line has no reference, is not in the book already, is not
-/// an exception under a reference and is not doubled; the book has no line beside it; it fits that entry and no other;
-/// no other open line fits the entry; and no record has the entry's reference.
+/// A line is filled with an entry exactly if it is sure: the line has no reference, is not in the book already and is
+/// not doubled; the book has no line beside it; it fits that entry and no other; no other open line fits the entry; and
+/// no record has the entry's reference. Of a line without a reference nothing else is ever written.
 pub fn what_is_sure_is_filled()
-    ensures { FillsWhatIsSure }
+    ensures filled { FillsWhatIsSure }
+    ensures written { WritesWhatIsSure }
 {}
 
 /// A line is only filled with an entry that waits for the bank and that the line fits.
@@ -25,8 +26,8 @@ pub fn two_alike_are_left()
     ensures lines { TwoLinesAreLeft }
 {}
 
-/// The output has the lines with a reference, each unchanged, and some of those without one, each with a reference and
-/// otherwise unchanged. They keep their order.
+/// The output has the lines with a reference, each unchanged, and those without one that are sure of an entry, each
+/// with the reference of that entry and otherwise unchanged. They keep their order.
 pub fn only_references_change()
     ensures { OnlyReferencesChange }
 {}
@@ -41,8 +42,8 @@ pub fn none_is_named_twice()
 {}
 
 /// Suppose a line is filled, and fits an entry among a part of the waiting entries. Then it is filled with the same
-/// reference if only that part waits, only a part of the booked lines is booked, and the exceptions are the same. So
-/// what others have can only take a filling away.
+/// reference if only that part waits, and only a part of the booked lines is booked. So what others have can only take
+/// a filling away.
 pub fn more_only_takes_away()
     ensures { MoreOnlyTakesAway }
 {}
@@ -66,8 +67,8 @@ pub fn what_is_written_is_read()
     ensures items { IsImported }
 {}
 
-/// The lines of the written statement are what is written of each line, in order, if every reference of the book is one
-/// that a record can have.
+/// The lines of the written statement are what is written of each line, in order, if the reference of each entry that
+/// waits is one that a record can have.
 pub fn lines_are_written()
     ensures { HasLinesWritten }
 {}

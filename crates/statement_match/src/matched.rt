@@ -11,6 +11,7 @@ ghost use Rattle.statement_match.specs.Statements.{statement_text};
 use crate::knowing::known_in;
 use crate::rule::outcomes_by;
 use crate::unmatched::unmatched_of;
+use firm_rows::FirmLedger;
 use statement_lines::{Index, Known, Outcome, Records, records_in, write_statement};
 use std::alloc::{AllocError, Global};
 use std::marker::Model;
@@ -54,21 +55,22 @@ fn statement_of(
     write_statement(alloc, statement, records, outcomes)
 }
 
-// Matches a statement with these records against what is known of a book.
+// Matches a statement with these records against what is known of a book, and the firm's own ledger in it.
 fn matched_by(
     alloc: Global,
     today: Day,
     known: &Known,
+    own: FirmLedger,
     statement: &[u8],
     records: &Records,
 ) -> Result<Matched, AllocError>
     requires { records.now ≡ records_of statement.now }
-    ensures { IfOk result (λ found. found ≡ matched_by_known today known.now statement.now) }
+    ensures { IfOk result (λ found. found ≡ matched_by_known today known.now own statement.now) }
 {
     let index = Index::of(alloc, &known.held, &records.lines)?;
     let outcomes = outcomes_by(alloc, today, &index)?;
     let text = statement_of(alloc, records, &outcomes, statement)?;
-    let told = unmatched_of(alloc, today, known, records, index, &outcomes)?;
+    let told = unmatched_of(alloc, today, known, own, records, index, &outcomes)?;
     Ok(Matched {
         statement: text,
         is_left: 0 < told.left,
@@ -92,7 +94,8 @@ pub fn match_statement<B: Book>(
     ensures read { IsRead result (B.seen book.old) (B.seen book.new) }
 {
     let known = known_in(alloc, book)?;
+    let own = book.firm(alloc)?;
     let records = records_in(alloc, statement)?;
-    let found = matched_by(alloc, today, &known, statement, &records)?;
+    let found = matched_by(alloc, today, &known, own, statement, &records)?;
     Ok(found)
 }

@@ -1,27 +1,31 @@
 // Why records of a statement have to be looked at.
 
-ghost use Rattle.std.specs.Prelude.{◌≡◌, ◌&&◌, find, is_some, nat_lt, not, option_copied, option_map};
-ghost use Rattle.std.specs.List.{count_by, list_any};
-ghost use Rattle.std.specs.Str.{bytes_eq};
+ghost use Rattle.std.specs.Prelude.{◌≡◌, find, is_some, nat_lt, option_copied, option_map};
+ghost use Rattle.std.specs.List.{count_by};
 ghost use Rattle.statement_csv.specs.References.{entry_named};
 ghost use Rattle.statement_lines.specs.OpenLines.{is_named_like, is_open_fit};
 ghost use Rattle.statement_lines.specs.Relations.{count_related as count_of_related, fitted as fitted_entry};
 ghost use Rattle.statement_lines.specs.Relations.{is_related as is_related_so, stands};
 ghost use Rattle.statement_lines.specs.declared.relation.Relation.TheVariants.{Fitted};
-ghost use Rattle.statement_match.specs.Reasons.{entry_reason as entry_reason_told, fits_other as fits_other_entry};
+ghost use Rattle.statement_match.specs.Reasons.{entry_reason as entry_reason_told};
 ghost use Rattle.statement_match.specs.Reasons.{is_claimed_fit as is_claimed_fit_of, is_doubled_outcome};
+ghost use Rattle.statement_match.specs.Reasons.{is_exception as is_exception_so};
 ghost use Rattle.statement_match.specs.Reasons.{is_shared_fit as is_shared_fit_of, left_reason as left_reason_told};
+ghost use Rattle.statement_match.specs.Reasons.{kept_reason as kept_reason_told};
 ghost use Rattle.statement_match.specs.Reasons.{named_reason as named_reason_told, reason_for as reason_told};
-ghost use Rattle.statement_match.specs.Reasons.{retried_reason as retried_reason_told};
 
 use crate::grounds::LineGrounds;
+use crate::own_lines::{is_own, own_reason};
 use crate::rule::is_beside_booked;
+use firm_rows::FirmLedger;
 use statement_lines::{BookEntry, Index, Outcome, Relation, StatementLine, WaitingEntry};
-use trust_base::{BankText, Day, EntryNo, MatterNo};
+use trust_base::{Day, EntryNo, Line, MatterNo};
 
 /// Why a record has to be looked at.
 #[derive(Clone, Copy, PartialEq, Eq, Debug)]
 pub(crate) enum Reason {
+    /// It was imported under references, and is an exception under them.
+    IsException,
     /// It is dated after the business day.
     DatedAfter,
     /// Another open line, or a line of the book, has its date, bank reference and amount.
@@ -42,10 +46,11 @@ pub(crate) enum Reason {
     NoneOfItsAmount,
     /// The book has no entry of its amount, but the waiting deposits that were booked on this day add up to it.
     Together(Day),
-    /// It is an exception under several references.
-    SeveralExceptions,
-    /// It is an exception under the reference of one entry, and fits another.
-    FitsAnother,
+    /// It is a line of the firm's own with which the firm's own money would be this much, in cents: too little, or too
+    /// much.
+    OwnMoney(i64),
+    /// It is a line of the firm's own, and its amount is 0.00.
+    MovesNothing,
     /// No deposit or payment has its reference.
     NamesNone,
 }
@@ -126,7 +131,7 @@ fn is_shared(today: Day, index: &Index, entry: &WaitingEntry) -> bool
 
 // Whether the line fits an entry whose reference a record claims.
 fn is_claimed_fit(today: Day, grounds: &LineGrounds) -> bool
-    ensures { result ≡ is_claimed_fit_of grounds.now.known.held grounds.now.records.lines
+    ensures { result ≡ is_claimed_fit_of grounds.now.records.lines
         (fitted_entry today grounds.now.known grounds.now.line) }
 {
     match fitted(today, grounds) {
@@ -146,6 +151,30 @@ fn is_shared_fit(today: Day, grounds: &LineGrounds) -> bool
     }
 }
 
+// How many of the given exceptions are the line with a reference.
+fn count_exceptions_among(found: &[(u64, &Line)], line: &StatementLine) -> usize
+    ensures { result ≡ count_by (λ e. is_named_like line.now e.1.now) found.now }
+{
+    found
+        .iter()
+        .filter(|entry| line.is_named_like(entry.1))
+        .count()
+}
+
+/// How many exceptions are the line with a reference.
+pub(crate) fn count_exceptions(grounds: &LineGrounds) -> usize
+    ensures { result ≡ count_by (is_named_like grounds.now.line) grounds.now.known.exceptions }
+{
+    count_exceptions_among(grounds.exceptions(), grounds.line())
+}
+
+// Whether the line is an exception under a reference.
+fn is_exception(grounds: &LineGrounds) -> bool
+    ensures { result ≡ is_exception_so grounds.now.known grounds.now.line }
+{
+    0 < count_exceptions(grounds)
+}
+
 fn is_doubled(outcome: &Outcome) -> bool
     ensures { result ≡ is_doubled_outcome outcome.now }
 {
@@ -153,7 +182,6 @@ fn is_doubled(outcome: &Outcome) -> bool
         Outcome::Doubled => true,
         Outcome::AsItIs
         | Outcome::InBook
-        | Outcome::Retried(_)
         | Outcome::Filled(_)
         | Outcome::Left => false,
     }
@@ -194,6 +222,9 @@ fn left_reason(today: Day, grounds: &LineGrounds, outcome: &Outcome) -> Reason
     ensures { result ≡ left_reason_told today grounds.now.known grounds.now.records.lines grounds.now.line outcome.now }
 {
     let line = grounds.line().line();
+    if is_exception(grounds) {
+        return Reason::IsException;
+    }
     if today.get() < line.date.get() {
         return Reason::DatedAfter;
     }
@@ -215,57 +246,9 @@ fn left_reason(today: Day, grounds: &LineGrounds, outcome: &Outcome) -> Reason
     entry_reason(today, grounds)
 }
 
-/// How many exceptions are the line with a reference.
-pub(crate) fn exception_count(grounds: &LineGrounds) -> usize
-    ensures { result ≡ count_by (is_named_like grounds.now.line) grounds.now.known.held.exceptions }
-{
-    grounds
-        .index()
-        .exceptions()
-        .count_named_like(grounds.line())
-}
-
-// Whether a line fits one of the given entries with another reference.
-fn fits_other_among(
-    found: &[(u64, &BookEntry)],
-    today: Day,
-    line: &StatementLine,
-    reference: &BankText,
-) -> bool
-    ensures { result ≡ list_any
-        (λ e. stands Fitted today line.now e.1.now && not (bytes_eq reference.now e.1.now.entry.reference)) found.now }
-{
-    found.iter().any(|found| {
-        let entry = found.1;
-        Relation::Fitted.holds(today, line, entry) && !reference.is_same(&entry.entry.reference)
-    })
-}
-
-// Whether the line fits an entry with another reference.
-fn fits_other(today: Day, grounds: &LineGrounds, reference: &BankText) -> bool
-    ensures { result ≡ fits_other_entry today grounds.now.known grounds.now.line reference.now }
-{
-    let found = grounds.candidates(Relation::Fitted);
-    fits_other_among(found, today, grounds.line(), reference)
-}
-
-// Why a line that is an exception under a reference has to be looked at.
-#[tactic(auto, unfolding(crate::specs::Reasons::retried_reason))]
-fn retried_reason(today: Day, grounds: &LineGrounds, reference: &BankText) -> Option<Reason>
-    ensures { result ≡ retried_reason_told today grounds.now.known grounds.now.line reference.now }
-{
-    if 1 < exception_count(grounds) {
-        return Some(Reason::SeveralExceptions);
-    }
-    if fits_other(today, grounds, reference) {
-        return Some(Reason::FitsAnother);
-    }
-    None
-}
-
-// Whether a reference has the form of an entry's.
+/// Whether a reference has the form of an entry's.
 #[tactic(auto, unfolding(statement_csv::specs::References::entry_named))]
-fn names_entry(reference: &[u8]) -> bool
+pub(crate) fn names_entry(reference: &[u8]) -> bool
     ensures { result ≡ is_some (entry_named reference.now) }
 {
     if reference.len() != 12 || reference[0] != b'M' || reference[7] != b'-' {
@@ -283,7 +266,7 @@ fn named_reason(today: Day, grounds: &LineGrounds) -> Option<Reason>
     ensures { result ≡ named_reason_told today grounds.now.known grounds.now.line }
 {
     let line = grounds.line().line();
-    if !names_entry(line.reference.as_slice()) {
+    if !names_entry(line.reference.as_slice()) || is_related(Relation::NamedAgain, today, grounds) {
         return None;
     }
     if today.get() < line.date.get() {
@@ -298,15 +281,32 @@ fn named_reason(today: Day, grounds: &LineGrounds) -> Option<Reason>
     None
 }
 
-/// Why a line with this outcome has to be looked at; `None` if it does not.
+// Why a line with a reference has to be looked at. `own` is the firm's own ledger as it is then.
+fn kept_reason(today: Day, grounds: &LineGrounds, own: &FirmLedger) -> Option<Reason>
+    ensures { result ≡ kept_reason_told today grounds.now.known own.now grounds.now.line }
+{
+    let line = grounds.line().line();
+    if is_own(line) {
+        return own_reason(today, own, line);
+    }
+    named_reason(today, grounds)
+}
+
+/// Why a line with this outcome has to be looked at; `None` if it does not. `own` is the firm's own ledger after an
+/// import of the lines before.
 #[tactic(auto, unfolding(crate::specs::Reasons::reason_for))]
-pub(crate) fn reason_for(today: Day, grounds: &LineGrounds, outcome: &Outcome) -> Option<Reason>
-    ensures { result ≡ reason_told today grounds.now.known grounds.now.records.lines grounds.now.line outcome.now }
+pub(crate) fn reason_for(
+    today: Day,
+    grounds: &LineGrounds,
+    own: &FirmLedger,
+    outcome: &Outcome,
+) -> Option<Reason>
+    ensures { result
+        ≡ reason_told today grounds.now.known own.now grounds.now.records.lines grounds.now.line outcome.now }
 {
     match outcome {
-        Outcome::AsItIs => named_reason(today, grounds),
+        Outcome::AsItIs => kept_reason(today, grounds, own),
         Outcome::InBook | Outcome::Filled(_) => None,
-        Outcome::Retried(reference) => retried_reason(today, grounds, reference),
         Outcome::Doubled | Outcome::Left => Some(left_reason(today, grounds, outcome)),
     }
 }

@@ -1,6 +1,6 @@
 // Texts that say why records of a statement have to be looked at.
 
-ghost use Rattle.std.specs.Prelude.{◌≡◌, ◌++◌, ◌≤◌, find, length, map, take, flat_map, IfOk, OnOk};
+ghost use Rattle.std.specs.Prelude.{◌≡◌, ◌++◌, ◌≤◌, length, map, take, flat_map, option_copied, IfOk, OnOk};
 ghost use Rattle.std.specs.Fmt.{decimal};
 ghost use Rattle.std.specs.List.{count_by, filter};
 ghost use Rattle.trust_base.specs.Texts.{day_text, signed_text};
@@ -9,24 +9,28 @@ ghost use Rattle.statement_lines.specs.Lookups.{elements};
 ghost use Rattle.statement_lines.specs.OpenLines.{is_named_like, is_open_fit, is_open_like};
 ghost use Rattle.statement_lines.specs.Relations.{fitted as fitted_entry, stands};
 ghost use Rattle.statement_lines.specs.Words.{further};
-ghost use Rattle.statement_match.specs.ReasonTexts.{amount_part, after_comma, after_semicolon, booked_part};
-ghost use Rattle.statement_match.specs.ReasonTexts.{claimed_text, doubled_text, entry_text, exception_part};
-ghost use Rattle.statement_match.specs.ReasonTexts.{exceptions_part, fit_numbers as numbers_of_fits, fits_another_text};
-ghost use Rattle.statement_match.specs.ReasonTexts.{fitted_part, front_count, further_if_any, last_text, more_text};
-ghost use Rattle.statement_match.specs.ReasonTexts.{numbers_text, parted_by_commas, parted_by_semicolons, reason_text};
+ghost use Rattle.statement_match.specs.ReasonTexts.{after_comma, after_semicolon, amount_part, amounts_text};
+ghost use Rattle.statement_match.specs.ReasonTexts.{booked_part, claimed_text, doubled_text, entry_text};
+ghost use Rattle.statement_match.specs.ReasonTexts.{exception_text, exception_texts as texts_of_exceptions};
+ghost use Rattle.statement_match.specs.ReasonTexts.{exceptions_text, fit_numbers as numbers_of_fits, fitted_part};
+ghost use Rattle.statement_match.specs.ReasonTexts.{front_count, further_if_any, its_amount_part, last_text};
+ghost use Rattle.statement_match.specs.ReasonTexts.{misfit_part, misfit_text, misfit_words, more_text, numbers_text};
+ghost use Rattle.statement_match.specs.ReasonTexts.{own_money_text};
+ghost use Rattle.statement_match.specs.ReasonTexts.{parted_by_commas, parted_by_semicolons, reason_text};
 ghost use Rattle.statement_match.specs.ReasonTexts.{related_entry_text, related_text, related_texts as texts_related};
-ghost use Rattle.statement_match.specs.ReasonTexts.{return_part, several_exceptions_text, several_text, shared_part};
-ghost use Rattle.statement_match.specs.ReasonTexts.{state_word, text_if, together_text, words_of};
+ghost use Rattle.statement_match.specs.ReasonTexts.{return_part, several_text, shared_part, state_text, state_word};
+ghost use Rattle.statement_match.specs.ReasonTexts.{states_text, text_if, together_text, words_of};
 
 use crate::grounds::{LineGrounds, Numbered};
+use crate::misfit::{Misfit, misfit_of};
 use crate::phrase::{Phrase, push_phrase};
-use crate::reason::{Reason, count_related, exception_count, fitted, is_related};
+use crate::reason::{Reason, count_exceptions, count_related, fitted, is_related};
 use crate::rule::{booked_like, count_open_like};
 use byte_streams::OwnedBytes;
 use itoa::Buffer;
 use statement_lines::{BookEntry, EntryState, Relation, StatementLine, WaitingEntry, number_at};
 use std::alloc::{AllocError, Global};
-use trust_base::{Day, write_amount};
+use trust_base::{Day, Line, write_amount};
 
 // How many entries or records are listed at most.
 const MOST_TOLD: usize = 5;
@@ -93,15 +97,21 @@ fn word_of(state: EntryState) -> &'static str
     }
 }
 
-#[tactic(auto, unfolding(crate::specs::ReasonTexts::entry_text))]
-fn push_entry(out: &mut Vec<u8>, entry: &BookEntry) -> Result<(), AllocError>
-    ensures { OnOk result (out.new.items ≡ out.old.items ++ entry_text entry.now) }
+#[tactic(auto, unfolding(crate::specs::ReasonTexts::state_text))]
+fn push_state(out: &mut Vec<u8>, entry: &BookEntry) -> Result<(), AllocError>
+    ensures { OnOk result (out.new.items ≡ out.old.items ++ state_text entry.now) }
 {
-    out.extend_from_slice(entry.entry.reference.as_slice())?;
     push_further(out, word_of(entry.state).as_bytes())?;
     push_day(out, entry.day)?;
     push_if_any(out, entry.bank_ref.as_slice())?;
     push_further(out, entry.party.as_slice())
+}
+
+fn push_entry(out: &mut Vec<u8>, entry: &BookEntry) -> Result<(), AllocError>
+    ensures { OnOk result (out.new.items ≡ out.old.items ++ entry_text entry.now) }
+{
+    out.extend_from_slice(entry.entry.reference.as_slice())?;
+    push_state(out, entry)
 }
 
 // Appends the entry's amount if the line has another.
@@ -122,6 +132,7 @@ fn push_amount_of(
         | Relation::OfItsAmount
         | Relation::MaybeReturned
         | Relation::Named
+        | Relation::NamedAgain
         | Relation::HeldOn(_) => Ok(()),
     }
 }
@@ -350,6 +361,7 @@ fn words(relation: Relation) -> &'static str
         Relation::OfItsAmount => "nothing in its words tells which entry; of its amount: ",
         Relation::MaybeReturned => "no payment of its amount; it may be a return of ",
         Relation::Named => "its reference is that of an entry: ",
+        Relation::NamedAgain => "it is in the book already: ",
         Relation::NamedOfAnotherAmount => "its reference is that of an entry of another amount: ",
     }
 }
@@ -440,44 +452,169 @@ fn push_return(out: &mut Vec<u8>, today: Day, grounds: &LineGrounds) -> Result<(
     push_related(out, Relation::MaybeReturned, today, grounds)
 }
 
-// Appends the reference under which the line is an exception.
-fn push_exception(out: &mut Vec<u8>, grounds: &LineGrounds) -> Result<(), AllocError>
-    ensures { OnOk result (out.new.items ≡ out.old.items
-        ++ exception_part (find (is_named_like grounds.now.line) grounds.now.known.held.exceptions)) }
+// Appends the entries of the line's amount, if any wait.
+fn push_its_amount(out: &mut Vec<u8>, today: Day, grounds: &LineGrounds) -> Result<(), AllocError>
+    ensures { OnOk result (out.new.items
+        ≡ out.old.items ++ its_amount_part today grounds.now.known grounds.now.line) }
 {
-    match grounds.index().exceptions().named_like(grounds.line()) {
-        Some(exception) => out.extend_from_slice(exception.reference.as_slice()),
+    if !is_related(Relation::OfItsAmount, today, grounds) {
+        return Ok(());
+    }
+    push_phrase(out, Phrase::OfItsAmount)?;
+    push_related(out, Relation::OfItsAmount, today, grounds)
+}
+
+fn words_of_misfit(misfit: Misfit) -> Phrase
+    ensures { result ≡ misfit_words misfit }
+{
+    match misfit {
+        Misfit::NoEntry => Phrase::NoneHasIt,
+        Misfit::OfNoEntry => Phrase::OfNoEntry,
+        Misfit::Again => Phrase::HasItAlready,
+        Misfit::DatedAfter => Phrase::DatedAfter,
+        Misfit::TakesBack => Phrase::TakesBack,
+        Misfit::NotWaiting => Phrase::NotWaiting,
+        Misfit::OfAnotherAmount => Phrase::OfAnotherAmount,
+        Misfit::Fits => Phrase::WouldApply,
+    }
+}
+
+fn push_state_of(out: &mut Vec<u8>, entry: Option<&BookEntry>) -> Result<(), AllocError>
+    ensures { OnOk result (out.new.items ≡ out.old.items ++ states_text (option_copied entry.entry)) }
+{
+    match entry {
+        Some(entry) => push_state(out, entry),
         None => Ok(()),
     }
 }
 
-// Appends how many references the line is an exception under.
-#[tactic(auto, unfolding(crate::specs::ReasonTexts::exceptions_part))]
-fn push_exception_count(out: &mut Vec<u8>, grounds: &LineGrounds) -> Result<(), AllocError>
-    ensures { OnOk result (out.new.items
-        ≡ out.old.items ++ exceptions_part grounds.now.known.held.exceptions grounds.now.line) }
+fn push_amount_if_any(out: &mut Vec<u8>, entry: Option<&BookEntry>) -> Result<(), AllocError>
+    ensures { OnOk result (out.new.items ≡ out.old.items ++ amounts_text (option_copied entry.entry)) }
 {
-    push_phrase(out, Phrase::ExceptionUnder)?;
-    push_number(out, exception_count(grounds) as u64)
+    match entry {
+        Some(entry) => push_amount(out, entry.entry.amount),
+        None => Ok(()),
+    }
 }
 
-fn push_several_exceptions(out: &mut Vec<u8>, grounds: &LineGrounds) -> Result<(), AllocError>
-    ensures { OnOk result (out.new.items
-        ≡ out.old.items ++ several_exceptions_text grounds.now.known.held.exceptions grounds.now.line) }
+// Appends what stands behind the words: the business day, or the entry of the reference.
+fn push_misfit_part(
+    out: &mut Vec<u8>,
+    today: Day,
+    misfit: Misfit,
+    entry: Option<&BookEntry>,
+) -> Result<(), AllocError>
+    ensures { OnOk result (out.new.items ≡ out.old.items ++ misfit_part today misfit (option_copied entry.entry)) }
 {
-    push_exception_count(out, grounds)?;
-    push_phrase(out, Phrase::WrittenUnder)?;
-    push_exception(out, grounds)
+    match misfit {
+        Misfit::NoEntry | Misfit::OfNoEntry | Misfit::Again => Ok(()),
+        Misfit::DatedAfter => today.write_to(out),
+        Misfit::OfAnotherAmount => {
+            push_state_of(out, entry)?;
+            push_amount_if_any(out, entry)
+        }
+        Misfit::TakesBack | Misfit::NotWaiting | Misfit::Fits => push_state_of(out, entry),
+    }
 }
 
-fn push_fits_another(out: &mut Vec<u8>, today: Day, grounds: &LineGrounds) -> Result<(), AllocError>
-    ensures { OnOk result (out.new.items
-        ≡ out.old.items ++ fits_another_text today grounds.now.known grounds.now.line) }
+// Appends why an exception matches nothing, with the entry of its reference.
+#[tactic(auto, unfolding(crate::specs::ReasonTexts::misfit_text))]
+fn push_misfit(
+    out: &mut Vec<u8>,
+    today: Day,
+    misfit: Misfit,
+    entry: Option<&BookEntry>,
+) -> Result<(), AllocError>
+    ensures { OnOk result (out.new.items ≡ out.old.items ++ misfit_text today misfit (option_copied entry.entry)) }
 {
+    push_phrase(out, words_of_misfit(misfit))?;
+    push_misfit_part(out, today, misfit, entry)
+}
+
+// Returns an exception's reference, and why it matches nothing.
+#[tactic(auto, unfolding(crate::specs::ReasonTexts::exception_text))]
+fn told_exception(
+    alloc: Global,
+    today: Day,
+    grounds: &LineGrounds,
+    exception: &Line,
+) -> Result<OwnedBytes, AllocError>
+    ensures { IfOk result (λ text. text ≡ exception_text today grounds.now.known exception.now) }
+{
+    let entry = grounds.entry_of(exception);
+    let mut text = Vec::new(alloc);
+    text.extend_from_slice(exception.reference.as_slice())?;
+    push_words(&mut text, " (")?;
+    push_misfit(&mut text, today, misfit_of(today, exception, entry), entry)?;
+    push_words(&mut text, ")")?;
+    Ok(OwnedBytes::new(text))
+}
+
+// Adds the text of an exception if it is the line with a reference, unless the list is full.
+#[tactic(auto, using(crate::proofs::Listed::told_steps))]
+fn add_exception(
+    texts: &mut Vec<OwnedBytes>,
+    today: Day,
+    grounds: &LineGrounds,
+    exception: &Line,
+) -> Result<(), AllocError>
+    requires { length texts.old.items ≤ 5 }
+    ensures { OnOk result (texts.new.items ≡ take 5 (texts.old.items
+        ++ text_if (is_named_like grounds.now.line exception.now)
+        (exception_text today grounds.now.known exception.now))) }
+{
+    if MOST_TOLD <= texts.len() {
+        return Ok(());
+    }
+    if !grounds.line().is_named_like(exception) {
+        return Ok(());
+    }
+    let text = told_exception(*texts.allocator(), today, grounds, exception)?;
+    texts.push(text)?;
+    Ok(())
+}
+
+// Returns the texts of the first of the given exceptions that are the line with a reference.
+fn exception_texts_among(
+    alloc: Global,
+    today: Day,
+    grounds: &LineGrounds,
+    found: &[(u64, &Line)],
+) -> Result<Vec<OwnedBytes>, AllocError>
+    ensures { IfOk result (λ texts. texts.items ≡ take 5 (map (exception_text today grounds.now.known)
+        (filter (is_named_like grounds.now.line) (elements found.now)))) }
+{
+    let mut texts = Vec::new(alloc);
+    for exception in found {
+        add_exception(&mut texts, today, grounds, exception.1)?;
+    }
+    Ok(texts)
+}
+
+// Returns the texts of the first exceptions that are the line with a reference.
+fn exception_texts(
+    alloc: Global,
+    today: Day,
+    grounds: &LineGrounds,
+) -> Result<Vec<OwnedBytes>, AllocError>
+    ensures { IfOk result (λ texts. texts.items ≡ texts_of_exceptions today grounds.now.known grounds.now.line) }
+{
+    let texts = exception_texts_among(alloc, today, grounds, grounds.exceptions())?;
+    Ok(texts)
+}
+
+// Appends the exceptions that are the line, what takes them away, and the entries of its amount.
+#[tactic(auto, unfolding(crate::specs::ReasonTexts::exceptions_text))]
+fn push_exceptions(out: &mut Vec<u8>, today: Day, grounds: &LineGrounds) -> Result<(), AllocError>
+    ensures { OnOk result (out.new.items
+        ≡ out.old.items ++ exceptions_text today grounds.now.known grounds.now.line) }
+{
+    let texts = exception_texts(*out.allocator(), today, grounds)?;
     push_phrase(out, Phrase::ExceptionUnder)?;
-    push_exception(out, grounds)?;
-    push_phrase(out, Phrase::AndFits)?;
-    push_related(out, Relation::Fitted, today, grounds)
+    push_texts(out, &texts)?;
+    push_more(out, count_exceptions(grounds))?;
+    push_phrase(out, Phrase::Dismiss)?;
+    push_its_amount(out, today, grounds)
 }
 
 // Appends the deposits of a day.
@@ -497,6 +634,15 @@ fn push_together(
     push_related(out, Relation::HeldOn(day.get()), today, grounds)
 }
 
+// Appends what the firm's own money would be with the line, in cents.
+fn push_own_money(out: &mut Vec<u8>, sum: i64) -> Result<(), AllocError>
+    ensures { OnOk result (out.new.items ≡ out.old.items ++ own_money_text sum) }
+{
+    push_phrase(out, Phrase::OwnWouldBe)?;
+    write_amount(sum as i128, out)?;
+    push_phrase(out, Phrase::OwnStays)
+}
+
 /// Appends the text that says why the line has to be looked at.
 #[tactic(auto, unfolding(crate::specs::ReasonTexts::reason_text))]
 pub(crate) fn push_reason(
@@ -513,6 +659,7 @@ pub(crate) fn push_reason(
             push_phrase(out, Phrase::DatedAfter)?;
             today.write_to(out)
         }
+        Reason::IsException => push_exceptions(out, today, grounds),
         Reason::Doubled => push_doubled(out, grounds),
         Reason::BesideBooked => { push_phrase(out, Phrase::BesideBooked) }
         Reason::FitsSeveral => push_several(out, today, grounds),
@@ -531,8 +678,8 @@ pub(crate) fn push_reason(
         }
         Reason::NoneOfItsAmount => push_phrase(out, Phrase::NoneOfItsAmount),
         Reason::Together(day) => push_together(out, today, grounds, day),
-        Reason::SeveralExceptions => push_several_exceptions(out, grounds),
-        Reason::FitsAnother => push_fits_another(out, today, grounds),
+        Reason::OwnMoney(sum) => push_own_money(out, sum),
+        Reason::MovesNothing => push_phrase(out, Phrase::MovesNothing),
         Reason::NamesNone => push_phrase(out, Phrase::NamesNone),
     }
 }

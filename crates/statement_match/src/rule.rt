@@ -5,7 +5,7 @@ ghost use Rattle.std.specs.List.{count_by, filter, list_any};
 ghost use Rattle.statement_lines.specs.Bookings.{amount_if, booking_of, is_beside, is_same_booking, total_of};
 ghost use Rattle.statement_lines.specs.Lookups.{elements};
 ghost use Rattle.statement_lines.specs.Showing.{fits};
-ghost use Rattle.statement_lines.specs.OpenLines.{exception_reference, is_open_fit, is_open_like};
+ghost use Rattle.statement_lines.specs.OpenLines.{is_open_fit, is_open_like};
 ghost use Rattle.statement_match.specs.Rule.{becomes, fill, is_booked as is_booked_line};
 ghost use Rattle.statement_match.specs.Rule.{is_booked_in_parts as is_split_line, is_doubled as is_doubled_line};
 ghost use Rattle.statement_match.specs.Rule.{is_fitted_once as is_entry_fitted_once, is_in_book as is_booked_already};
@@ -13,7 +13,7 @@ ghost use Rattle.statement_match.specs.Rule.{outcomes};
 
 use statement_lines::{Booking, Index, Outcome, StatementLine, WaitingEntry};
 use std::alloc::{AllocError, Global};
-use trust_base::{BankText, Day, Line};
+use trust_base::{Day, Line};
 
 // Whether at most `most` of the given lines are open and have the date, bank reference and amount of a line.
 fn are_at_most_among(found: &[(u64, &StatementLine)], line: &StatementLine, most: usize) -> bool
@@ -164,20 +164,6 @@ fn is_in_book(index: &Index, line: &StatementLine) -> bool
     is_booked(index, line) || is_booked_in_parts(index, line)
 }
 
-// Returns the reference under which an open line is an exception.
-#[tactic(auto, unfolding(statement_lines::specs::OpenLines::exception_reference))]
-fn exception_reference_of(
-    index: &Index,
-    line: &StatementLine,
-) -> Result<Option<BankText>, AllocError>
-    ensures { IfOk result (λ found. found ≡ exception_reference index.now.held.exceptions line.now) }
-{
-    match index.exceptions().named_like(line) {
-        Some(exception) => Ok(Some(exception.reference.copied()?)),
-        None => Ok(None),
-    }
-}
-
 // Whether another open line, or a line of the book, has its date, bank reference and amount.
 #[tactic(auto, unfolding(crate::specs::Rule::is_doubled))]
 fn is_doubled(index: &Index, line: &StatementLine) -> bool
@@ -274,9 +260,6 @@ pub(crate) fn outcome_of(
     }
     if is_in_book(index, line) {
         return Ok(Outcome::InBook);
-    }
-    if let Some(reference) = exception_reference_of(index, line)? {
-        return Ok(Outcome::Retried(reference));
     }
     if is_doubled(index, line) {
         return Ok(Outcome::Doubled);

@@ -12,9 +12,11 @@ ghost use Rattle.statement_match.specs.Unmatched.{told_unreadable, unmatched, un
 ghost use Rattle.statement_match.specs.Unmatched.{written_count};
 
 use crate::grounds::{Grounds, numbered_lines};
+use crate::own_lines::add_own;
 use crate::reason::reason_for;
 use crate::reason_text::{push_amount, push_number, push_reason, push_words};
 use byte_streams::OwnedBytes;
+use firm_rows::FirmLedger;
 use statement_lines::{
     Index, Known, Outcome, Records, StatementLine, line_at, line_count, marks_of, number_of,
     push_line_words,
@@ -103,22 +105,24 @@ fn add_unreadable(lines: &mut Vec<OwnedBytes>, before: u64, last: u64) -> Result
     Ok(())
 }
 
-// Adds the line for a record, if it has to be looked at.
+// Adds the line for a record, if it has to be looked at. `own` is the firm's own ledger after an import of the lines
+// before.
 fn add_line(
     lines: &mut Vec<OwnedBytes>,
     today: Day,
     grounds: &Grounds,
+    own: &FirmLedger,
     number: u64,
     line: &StatementLine,
     outcome: &Outcome,
 ) -> Result<(), AllocError>
     ensures { OnOk result (lines.new.items ≡ lines.old.items
         ++ told_by today grounds.now.known grounds.now.records number line.now
-        (reason_told today grounds.now.known grounds.now.records.lines line.now outcome.now)) }
+        (reason_told today grounds.now.known own.now grounds.now.records.lines line.now outcome.now)) }
 {
     let alloc = *lines.allocator();
     let of_line = grounds.of_line(alloc, line)?;
-    let Some(reason) = reason_for(today, &of_line, outcome) else {
+    let Some(reason) = reason_for(today, &of_line, own, outcome) else {
         return Ok(());
     };
     let mut text = Vec::new(alloc);
@@ -132,6 +136,7 @@ fn add_record(
     lines: &mut Vec<OwnedBytes>,
     today: Day,
     grounds: &Grounds,
+    own: &FirmLedger,
     before: u64,
     number: u64,
     line: &StatementLine,
@@ -139,33 +144,37 @@ fn add_record(
 ) -> Result<(), AllocError>
     ensures { OnOk result (lines.new.items ≡ (lines.old.items ++ told_unreadable before (number - 1 - before))
         ++ told_by today grounds.now.known grounds.now.records number line.now
-        (reason_told today grounds.now.known grounds.now.records.lines line.now outcome.now)) }
+        (reason_told today grounds.now.known own.now grounds.now.records.lines line.now outcome.now)) }
 {
     add_unreadable(lines, before, number.saturating_sub(1))?;
-    add_line(lines, today, grounds, number, line, outcome)
+    add_line(lines, today, grounds, own, number, line, outcome)
 }
 
-// Returns the lines for all records that have to be looked at, according to the outcome of each line.
+// Returns the lines for all records that have to be looked at, according to the outcome of each line. `ledger` is the
+// firm's own in the book.
 #[tactic(auto, using(crate::proofs::Telling::told_done))]
 fn lines_told(
     alloc: Global,
     today: Day,
     records: &Records,
     grounds: &Grounds,
+    ledger: FirmLedger,
     outcomes: &[Outcome],
 ) -> Result<Vec<OwnedBytes>, AllocError>
     requires same { grounds.now.records ≡ records.now }
     requires outcomes { outcomes.now ≡ outcomes_told today grounds.now.known.held records.now.lines }
-    ensures { IfOk result (λ lines. lines.items ≡ told today grounds.now.known records.now) }
+    ensures { IfOk result (λ lines. lines.items ≡ told today grounds.now.known ledger records.now) }
 {
     let mut lines = Vec::new(alloc);
+    let mut own = ledger;
     let mut before = 0u64;
     let count = line_count(records);
     for place in 0..count {
         let number = number_of(records, place);
         let line = line_at(records, place);
         let outcome = &outcomes[place];
-        add_record(&mut lines, today, grounds, before, number, line, outcome)?;
+        add_record(&mut lines, today, grounds, &own, before, number, line, outcome)?;
+        add_own(&mut own, today, line.line())?;
         before = number;
     }
     add_unreadable(&mut lines, before, records.count)?;
@@ -176,7 +185,7 @@ fn is_written(outcome: &Outcome) -> bool
     ensures { result ≡ is_written_outcome outcome.now }
 {
     match outcome {
-        Outcome::AsItIs | Outcome::Retried(_) | Outcome::Filled(_) => true,
+        Outcome::AsItIs | Outcome::Filled(_) => true,
         Outcome::InBook | Outcome::Doubled | Outcome::Left => false,
     }
 }
@@ -186,11 +195,7 @@ fn is_left_out(outcome: &Outcome) -> bool
 {
     match outcome {
         Outcome::InBook => true,
-        Outcome::AsItIs
-        | Outcome::Retried(_)
-        | Outcome::Doubled
-        | Outcome::Filled(_)
-        | Outcome::Left => false,
+        Outcome::AsItIs | Outcome::Doubled | Outcome::Filled(_) | Outcome::Left => false,
     }
 }
 
@@ -248,24 +253,25 @@ fn joined(alloc: Global, lines: &[OwnedBytes]) -> Result<Vec<u8>, AllocError>
 }
 
 /// Reports on a business day the records of a statement that a person has to look at: a line for each of them, with its
-/// reason, and the counts. The only error is out of memory.
+/// reason, and the counts. `own` is the firm's own ledger in the book. The only error is out of memory.
 #[tactic(auto, unfolding(crate::specs::Unmatched::unmatched))]
 pub(crate) fn unmatched_of<'a>(
     alloc: Global,
     today: Day,
     known: &'a Known,
+    own: FirmLedger,
     records: &'a Records,
     index: Index<'a>,
     outcomes: &[Outcome],
 ) -> Result<Unmatched, AllocError>
     requires index { index ≡ record { held = known.now.held; lines = records.now.lines } }
     requires outcomes { outcomes.now ≡ outcomes_told today known.now.held records.now.lines }
-    ensures { IfOk result (λ found. found ≡ unmatched today known.now records.now) }
+    ensures { IfOk result (λ found. found ≡ unmatched today known.now own records.now) }
 {
     let numbered = numbered_lines(alloc, records)?;
     let marks = marks_of(alloc, &known.entries)?;
     let grounds = Grounds::of(alloc, known, records, &index, &numbered, &marks)?;
-    let lines = lines_told(alloc, today, records, &grounds, outcomes)?;
+    let lines = lines_told(alloc, today, records, &grounds, own, outcomes)?;
     let left = lines.len() as u64;
     let mut text = joined(alloc, &lines)?;
     let booked = count_left_out(outcomes) as u64;

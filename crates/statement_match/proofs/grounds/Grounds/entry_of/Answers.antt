@@ -1,0 +1,11 @@
+use Rattle.statement_match.proofs.Names.{◌∙◌, ◌==◌, reference_key, text_key, names, first_found}
+use Rattle.statement_match.proofs.Candidates.{named_alike}
+use Rattle.statement_match.proofs.grounds.Grounds.entry_of.Goals as goal
+
+pub returns : goal.returns
+returns c =
+    let line = c.args.line.now in
+    let entries = c.args.self.now.known.entries in
+    c.first_named.ensures
+    ∙ first_found (names line) (λ e. reference_key e == text_key 0 line.reference) (named_alike line)
+    c.named_by.result.now entries c.named_by.ensures
