@@ -64,7 +64,7 @@ fn print_found<W: Write, F: Folder, M: Remarks>(
             let Ok(()) = send(writer, matched.statement.as_slice()) else {
                 return Outcome::OutputFault;
             };
-            telling.tell_matched(matched.unmatched.as_slice());
+            telling.tell_matched(matched);
             if matched.is_left {
                 Outcome::Refused
             } else {

@@ -80,6 +80,8 @@ pub enum Remark<'a> {
     NothingKept,
     /// A statement to be matched is above the size limit.
     MatchTooLarge,
+    /// What was written of a matched statement is above the size limit of an import.
+    MatchedTooLong,
     /// Something about the record that begins on this line that only the file of a statement shows.
     OfFile { line: u64, told: FileRemark },
     /// There was no book at this path, and a new one was begun.
@@ -209,6 +211,10 @@ impl Remark<'_> {
             ),
             Remark::MatchTooLarge => f.write_str(
                 "the statement has more than 4194304 bytes: match it in parts, each with the first line",
+            ),
+            Remark::MatchedTooLong => f.write_str(
+                "what was written has more than 4194304 bytes, and an import refuses it: \
+                match the bank's file in parts, each with the first line",
             ),
             _ => f.write_str(
                 "the sheet has more than 4194304 bytes, and no record was run: send it in parts",

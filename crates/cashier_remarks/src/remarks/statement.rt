@@ -13,8 +13,8 @@ use csv::ByteRecord;
 use firm_rows::Owner;
 use std::alloc::Global;
 use std::cell::RefCell;
-use trust_base::{Day, Field, Line, Refusal, StoreFault};
-use trust_desk::{AppliedLine, EarlierWatch, ImportStop, ItemWatch, NotApplied};
+use trust_base::{Day, Field, Line, MAX_FILE_BYTES, Refusal, StoreFault};
+use trust_desk::{AppliedLine, EarlierWatch, ImportStop, ItemWatch, Matched, NotApplied};
 
 // The file, which is read again once there is something to report about it.
 #[derive(Drop)]
@@ -126,9 +126,13 @@ impl<'a, F: Folder, M: Remarks> StatementTelling<'a, F, M> {
         }
     }
 
-    /// Reports what in a matched statement has to be looked at, and what only its file shows.
-    pub fn tell_matched(&self, unmatched: &[u8]) {
-        tell_unmatched(self.remarks, unmatched);
+    /// Reports what in a matched statement has to be looked at, whether what was written is longer than an import
+    /// takes, and what only its file shows.
+    pub fn tell_matched(&self, matched: &Matched) {
+        tell_unmatched(self.remarks, matched.unmatched.as_slice());
+        if MAX_FILE_BYTES < matched.statement.len() {
+            self.remarks.tell(&Remark::MatchedTooLong);
+        }
         self.tell_of_file(true);
     }
 
