@@ -69,3 +69,12 @@ unless_null (object ms) = Some []
 -- the text under a key that may be missing or null; both give `None`
 abbrev pub optional_text_at : List ℕ → Data → Option (List ℕ)
 optional_text_at key d = option_and_then unless_null (get key d)
+
+-- the text of a value that may be missing; a missing one counts as empty
+abbrev pub text_if_any : Option Data → Option (List ℕ)
+text_if_any None = Some []
+text_if_any (Some d) = as_str d
+
+-- the text under a key, empty if the key is missing; `None` if its value is no text
+abbrev pub field_text_at : List ℕ → Data → Option (List ℕ)
+field_text_at key d = text_if_any (get key d)

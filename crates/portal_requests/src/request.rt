@@ -9,7 +9,8 @@ ghost use Rattle.ask_fields.specs.Fields.{Reads};
 ghost use Rattle.portal_requests.specs.Answers.{Answers};
 ghost use Rattle.portal_requests.specs.Asked.{claiming_in, depositing_in, dropping_in, earning_in, entry_ask, matter_ask, opening_in};
 ghost use Rattle.portal_requests.specs.Asked.{proposing_in, seating_in, splitting_in};
-ghost use Rattle.portal_requests.specs.Bodies.{body_in, is_object, optional_text_at, text_at, text_in, texts};
+ghost use Rattle.portal_requests.specs.Bodies.{body_in, field_text_at, is_object, optional_text_at, text_at, text_in};
+ghost use Rattle.portal_requests.specs.Bodies.{texts};
 ghost use Rattle.portal_requests.specs.Callers.{caller_of};
 ghost use Rattle.portal_requests.specs.Dismissals.{dismissing_in};
 ghost use Rattle.portal_requests.specs.Paths.{after_slash, day_part, named_in, up_to_slash};
@@ -137,6 +138,19 @@ fn optional_text<'a>(value: &'a Value, key: &str) -> Option<&'a [u8]>
     match value.get(key) {
         None | Some(Value::Null) => None,
         Some(_) => Some(text(value, key)),
+    }
+}
+
+// Returns the text under a key, empty if the key is missing; `None` if its value is no text.
+fn field_text<'a>(value: &'a Value, key: &str) -> Option<&'a [u8]>
+    ensures { option_copied result ≡ field_text_at key.now (view value.now) }
+{
+    match value.get(key) {
+        None => Some(&[]),
+        Some(found) => match found.as_str() {
+            Some(text) => Some(text.as_bytes()),
+            None => None,
+        },
     }
 }
 
@@ -268,22 +282,29 @@ fn read_entry_ask(
     Ok(bare)
 }
 
-// Returns the request to dismiss the line in a body. Refuses with `BadField` of the body if it has none, or `Memory`
-// if memory runs out.
+// Returns the request to dismiss the line in a body. Refuses with `BadField` of the body if it has none, or a value
+// that is no text, or `Memory` if memory runs out.
 fn read_dismissal(alloc: Global, caller: Caller, body: &[u8]) -> Result<Request, Refusal>
     ensures { Answers (dismissing_in caller body.now) result }
 {
     let keys = ["date", "reference", "bank_ref", "amount", "text"];
     let fields = read_body(alloc, &keys, body)?;
-    let line = line_of_texts(
-        alloc,
-        text(&fields, "date"),
-        text(&fields, "reference"),
-        text(&fields, "bank_ref"),
-        text(&fields, "amount"),
-        text(&fields, "text"),
-    )?;
-    match line {
+    let Some(date) = field_text(&fields, "date") else {
+        return Err(Refusal::BadField(Field::Body));
+    };
+    let Some(reference) = field_text(&fields, "reference") else {
+        return Err(Refusal::BadField(Field::Body));
+    };
+    let Some(bank_ref) = field_text(&fields, "bank_ref") else {
+        return Err(Refusal::BadField(Field::Body));
+    };
+    let Some(amount) = field_text(&fields, "amount") else {
+        return Err(Refusal::BadField(Field::Body));
+    };
+    let Some(words) = field_text(&fields, "text") else {
+        return Err(Refusal::BadField(Field::Body));
+    };
+    match line_of_texts(alloc, date, reference, bank_ref, amount, words)? {
         Some(line) => Ok(Request::Dismiss { caller, line }),
         None => Err(Refusal::BadField(Field::Body)),
     }
