@@ -122,7 +122,6 @@ impl BookEntry {
     }
 }
 
-
 impl Relation {
     #[tactic(auto, unfolding(crate::specs::Relations::stands))]
     /// Whether an entry is in this relation to a line on a business day.

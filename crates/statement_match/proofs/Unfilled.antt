@@ -1,5 +1,5 @@
 -- Lines that are not filled, and lines that are sure over another book.
-use Rattle.statement_match.proofs.Names.{◌≡◌, ◌≢◌, ◌∙◌, sym, ap, ℕ, Bool, true, false, List, [], ◌∷◌, length, get_or, refl, arith, nat_lt, Contains, count_by, filter, find, list_any, int_eq, bytes_eq, and_from, and_left, and_right, eq-eqb, false_from_ne_true, lt-leb, or_from, or_parts, get_or_default, length-filter, bytes_eq-Decides, Line, Booking, booking_of, is_beside, is_same_booking, Waiting, fits, Held, is_claimed, is_open, is_open_fit, is_open_like, becomes, is_beside_booked, is_doubled, is_in_book, IsSure, ints, nat_tests, ltb-false, All-contains_itself, All-weaker, list_any_none, find_among}
+use Rattle.statement_match.proofs.Names.{◌≡◌, ◌≢◌, ◌∙◌, sym, ap, ℕ, true, false, List, [], ◌∷◌, length, get_or, refl, arith, nat_lt, Contains, count_by, filter, find, list_any, int_eq, and_from, and_left, and_right, eq-eqb, false_from_ne_true, lt-leb, or_from, or_parts, get_or_default, length-filter, bytes_eq-Decides, Line, Booking, booking_of, is_beside, is_same_booking, Waiting, fits, Held, is_open, is_open_fit, is_open_like, becomes, is_beside_booked, is_doubled, is_in_book, IsSure, ints, nat_tests, ltb-false, find_among}
 use Rattle.statement_lines.specs.declared.outcome.Outcome.TheVariants as outcome
 use Rattle.statement_match.proofs.Filling.{filled_if_sure}
 use Rattle.statement_match.proofs.Picks.{any_counted, found_passes, is_counted, one_place}
@@ -22,24 +22,6 @@ fits_none today held lines line other w (i, i_in, i_is) opened unfilled (k, k_in
     let same = one_place passes lines i k line sure.fitted_once i_in k_in fit_i fit_k in
     let one : line ≡ other = sym i_is ∙ ap (λ j. get_or lines j line) same ∙ k_at in
     unfilled w.reference (ap (becomes today held lines) one ∙ filled_if_sure today held lines other w sure))
-
--- No record has a reference by itself.
-
-no_bytes : (bytes : List ℕ) → (length bytes == 0) ≡ true → bytes ≡ []
-no_bytes [] e = refl
-no_bytes (b ∷ bytes) e = cc
-
-empty_of : (x : Line) → is_open x ≡ true → x.reference ≡ []
-empty_of x opened = no_bytes x.reference opened
-
-pub none_claims : (lines : List Line) (reference : List ℕ)
-    → ((x : Line) → Contains lines x → is_open x ≡ true) → bytes_eq [] reference ≡ false
-    → is_claimed lines reference ≡ false
-none_claims lines reference opened some =
-    let claims : Line → Bool = λ x. bytes_eq x.reference reference in
-    list_any_none claims lines (All-weaker (Contains lines) (λ x. claims x ≡ false) (λ x there.
-    let none : x.reference ≡ [] = empty_of x (opened x there) in
-    ap (λ (r : List ℕ). bytes_eq r reference) none ∙ some) lines (All-contains_itself lines))
 
 -- Where no line of the book is beside it.
 

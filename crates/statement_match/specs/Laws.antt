@@ -1,6 +1,6 @@
 -- Laws of the outcomes for the lines of a statement.
 use Rattle.std.specs.Prelude.{◌≡◌, ◌≢◌, ◌↔◌, ℕ, ◌<◌, ◌≤◌, true, false, List, [], ◌∷◌, ◌++◌, length}
-use Rattle.std.specs.Prelude.{slice_index_or, Some, find, ⊥}
+use Rattle.std.specs.Prelude.{slice_index_or, Some, find}
 use Rattle.std.specs.List.{Contains, count_by}
 use Rattle.trust_base.specs.declared.line.Line.{Line}
 use Rattle.statement_lines.specs.Waiting.{Waiting}

@@ -13,7 +13,7 @@ use trust_base::{Day, Line};
 pub(crate) fn is_own(line: &Line) -> bool
     ensures { result ≡ is_own_line line.now }
 {
-    line.reference.as_slice() == b"FIRM"
+    line.reference.as_slice() == b"FIRM".as_slice()
 }
 
 /// Adds a line to the firm's own ledger, if it is one of the firm's own that an import would apply. The only error is

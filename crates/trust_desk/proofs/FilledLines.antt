@@ -1,10 +1,13 @@
 -- Lines that are filled are applied.
-use Rattle.trust_desk.proofs.Names.{cond_both, later, eqb-true, ◌≡◌, ◌≢◌, ◌∙◌, sym, ap, subst, ℕ, ◌+◌, ◌<◌, Bool, true, false, not, cond, List, [], ◌∷◌, length, Some, None, refl, arith, IfSome, nat_le, nat_lt, Contains, int_eq, bytes_eq, and_parts, nat_tests, Line, Rows, Entry, BankLine, line_on, rows_after_line, Firm, of, FirmSound, item_by, item_of_line, Item, Waiting, fits, is_other_business, shows, entry_waiting, held_of, HasMatterNumbers, IsSure, with_reference, of_entry, wait_apart, sure_of, front_apart, own_of_item, after_item, after_items, counted_as, counted_of, FilledLinesAreApplied, items_of, solo_rows, ints, found_is_there, found_passes}
+use Rattle.trust_desk.proofs.Names.{cond_both, later, eqb-true, ◌≡◌, ◌≢◌, ◌∙◌, sym, ap, subst, ℕ, ◌+◌, ◌<◌, Bool, true, false, not, cond, List, [], ◌∷◌, length, Some, None, refl, arith, IfSome, nat_le, nat_lt, Contains, int_eq, bytes_eq, and_parts, nat_tests, Line, Rows, Entry, BankLine, line_on, rows_after_line, Firm, of, FirmSound, item_by, item_of_line, Item, Waiting, fits, is_other_business, shows, entry_waiting, held_of, HasMatterNumbers, IsSure, with_reference, written, of_entry, wait_apart, sure_of, front_apart, own_of_item, after_item, after_items, counted_as, counted_of, FilledLinesAreApplied, items_of, solo_rows, ints, found_is_there, found_passes}
 use Rattle.std.proofs.Common.{◌==◌, codes}
 use Rattle.trust_base.specs.Limits.{IsEntryNo, IsMatterNo}
 use Rattle.statement_csv.specs.References.{entry_named, owner_by, owner_of, reference_text}
 use Rattle.statement_csv.specs.declared.item.Item.TheVariants as item
 use Rattle.statement_csv.proofs.NamedFacts.{named-found, named-text}
+use Rattle.statement_lines.specs.declared.outcome.Outcome.TheVariants as outcome
+use Rattle.statement_match.proofs.Writing.{written_is_filled}
+use Rattle.statement_match.specs.Rule.{becomes}
 use Rattle.trust_desk.specs.declared.importing.Counted.TheVariants as counted
 use Rattle.trust_desk.proofs.Awaiting.{Awaits, Stands, entry_awaits, line_applies, line_keeps, sound_stands}
 use Rattle.trust_desk.proofs.OwnItems.{of-after_item}
@@ -137,8 +140,14 @@ pub ready_counted : (today : ℕ) (firm : Firm) (x : Line) (w : Waiting) (ready 
 ready_counted today firm x w ready =
     ap counted_as (line_applies (of ready.matter firm) (ready_line ready) today ready.made ready.dated ready.stands ready.awaits)
 
-pub filled_lines_are_applied : FilledLinesAreApplied
-filled_lines_are_applied today firm lines front rest line reference sound numbers there bank filled split =
+filled_applies : (today : ℕ) (firm : Firm) (lines front rest : List Line) (line : Line) (reference : List ℕ)
+    → FirmSound firm → HasMatterNumbers firm → Contains lines line → 0 < length line.bank_ref
+    → becomes today (held_of firm) lines line ≡ outcome.Filled reference
+    → written today (held_of firm) lines ≡ front ++ with_reference reference line ∷ rest
+    → counted_of today (after_items today firm (items_of 1 front))
+    (item_of_line (length front + 1) (with_reference reference line))
+    ≡ counted.Applied
+filled_applies today firm lines front rest line reference sound numbers there bank filled split =
     let x = with_reference reference line in
     let found = sure_of today (held_of firm) lines line reference filled in
     let before = filled_ready today firm lines line reference found.0 sound numbers found.1 found.2 in
@@ -148,3 +157,11 @@ filled_lines_are_applied today firm lines front rest line reference sound number
     let now = after_items today firm (items_of 1 front) in
     ap (counted_of today now) (ready_item today (length front + 1) now x found.0 ready bank)
     ∙ ready_counted today now x found.0 ready
+
+pub filled_lines_are_applied : FilledLinesAreApplied
+filled_lines_are_applied today firm lines front rest line x sound numbers there opened bank written_there split =
+    let wrote = written_is_filled today (held_of firm) lines line x opened written_there in
+    let named = split ∙ ap (λ z. front ++ z ∷ rest) (sym wrote.2) in
+    let now = after_items today firm (items_of 1 front) in
+    subst (λ (z : Line). counted_of today now (item_of_line (length front + 1) z) ≡ counted.Applied) wrote.2
+    (filled_applies today firm lines front rest line wrote.0 sound numbers there bank wrote.1 named)

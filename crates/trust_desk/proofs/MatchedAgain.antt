@@ -1,5 +1,5 @@
 -- Lines that were filled are in the book behind the import of what was written.
-use Rattle.trust_desk.proofs.Names.{◌≡◌, ◌∙◌, sym, ap, subst, ℕ, zero, suc, ◌+◌, ◌-◌, Bool, true, false, cond, ◌||◌, List, [], ◌∷◌, ◌++◌, Option, Some, None, refl, inl, inr, arith, eqb, pos, ◌-ℤ◌, Contains, filter, flat_map, int_eq, and_from, and_parts, eq-eqb, eqb-true, false≢true, or_cases, Contains-append_left, Line, DepositState, PaymentState, Entry, entry_at, is_purged, is_clearing_by, is_deposit_cleared_by, is_deposit_returned_by, is_line_again, is_payment_cleared_by, DatedEdit, Reason, IsSameLine, dated_by, first_reason, line_facts, line_on, matched, reasons, rows_after_line, EntryRow, Firm, HeadRow, Row, SeatRow, entries_among, of, rows_of, item_of_line, Item, booking_of, is_same_booking, Waiting, booked_by, deposit_bookings, entry_bookings, held_of, payment_bookings, row_bookings, with_reference, written, wait_apart, sure_of, front_apart, has_filled, filter_from, flat_map_has, later, map_from, own_of_items, after_item, after_items, FilledLinesAreInBook, items_of, solo_rows, ints, nat_tests}
+use Rattle.trust_desk.proofs.Names.{◌≡◌, ◌∙◌, sym, ap, subst, ℕ, zero, suc, ◌+◌, ◌-◌, Bool, true, false, cond, ◌||◌, List, [], ◌∷◌, ◌++◌, Option, Some, None, refl, inl, inr, arith, eqb, pos, ◌-ℤ◌, Contains, filter, flat_map, int_eq, and_from, and_parts, eq-eqb, eqb-true, false≢true, or_cases, Contains-append_left, Line, DepositState, PaymentState, Entry, entry_at, is_purged, is_clearing_by, is_deposit_cleared_by, is_deposit_returned_by, is_line_again, is_payment_cleared_by, DatedEdit, Reason, IsSameLine, dated_by, first_reason, line_facts, line_on, matched, reasons, rows_after_line, EntryRow, Firm, HeadRow, Row, SeatRow, entries_among, of, rows_of, item_of_line, Item, booking_of, is_same_booking, Waiting, booked_by, deposit_bookings, entry_bookings, held_of, payment_bookings, row_bookings, with_reference, written, wait_apart, sure_of, front_apart, has_filled, filter_from, flat_map_has, later, map_from, own_of_items, after_item, after_items, FilledLinesAreInBook, items_of, solo_rows, ints, nat_tests, FirmSound, HasMatterNumbers, length, ◌<◌}
 use Rattle.std.proofs.Common.{◌&&◌, ◌==◌, ℤ}
 use Rattle.std.proofs.lemmas.Slice.Eq.{bytes_eq-Decides}
 use Rattle.matter_rows.specs.declared.clearing.Clearing.{Clearing}
@@ -10,6 +10,9 @@ use Rattle.trust_matter.specs.declared.line_verdict.LineEffect.TheVariants as to
 use Rattle.statement_csv.specs.declared.item.Item.TheVariants as item
 use Rattle.statement_lines.specs.declared.booking.Booking.{Booking}
 use Rattle.statement_match.proofs.Again.{filled_is_booked}
+use Rattle.statement_match.proofs.Writing.{written_is_filled}
+use Rattle.statement_match.specs.Rule.{becomes}
+use Rattle.statement_lines.specs.declared.outcome.Outcome.TheVariants as outcome
 use Rattle.trust_desk.proofs.Awaiting.{line_unpurged, open_unpurged}
 use Rattle.trust_desk.proofs.LineFacts.{repeat-later}
 use Rattle.trust_desk.proofs.Once.{was-applied}
@@ -144,8 +147,12 @@ ready_booked today firm x w items ready =
     let booked = again_booked found.0 x found.2 in
     (booked.0, firm_booked end m ready.number found.0 booked.0 found.1 booked.1, booked.2)
 
-pub filled_lines_are_in_book : FilledLinesAreInBook
-filled_lines_are_in_book today later_day firm lines line reference sound numbers there bank filled =
+pub filled_is_in_book : (today later_day : ℕ) (firm : Firm) (lines : List Line) (line : Line) (reference : List ℕ)
+    → FirmSound firm → HasMatterNumbers firm → Contains lines line → 0 < length line.bank_ref
+    → becomes today (held_of firm) lines line ≡ outcome.Filled reference
+    → becomes later_day (held_of (after_items today firm (items_of 1 (written today (held_of firm) lines)))) lines line
+    ≡ outcome.InBook
+filled_is_in_book today later_day firm lines line reference sound numbers there bank filled =
     let x = with_reference reference line in
     let split = has_filled today (held_of firm) lines line reference there filled in
     let before = after_items today firm (items_of 1 split.front) in
@@ -165,3 +172,8 @@ filled_lines_are_in_book today later_day firm lines line reference sound numbers
     filled_is_booked today later_day (held_of firm)
     (held_of (after_items today firm (items_of 1 (written today (held_of firm) lines)))) lines line reference booked.0
     filled (subst (λ (new : Firm). Contains (held_of new).bookings booked.0) (sym all) booked.1) booked.2
+
+pub filled_lines_are_in_book : FilledLinesAreInBook
+filled_lines_are_in_book today later_day firm lines line x sound numbers there opened bank written_there =
+    let wrote = written_is_filled today (held_of firm) lines line x opened written_there in
+    filled_is_in_book today later_day firm lines line wrote.0 sound numbers there bank wrote.1

@@ -7,12 +7,12 @@ use Rattle.trust_matter.specs.declared.line_verdict.LineEffect.TheVariants as to
 use Rattle.statement_csv.specs.declared.item.Item.TheVariants as item
 use Rattle.statement_match.specs.Rule.{becomes, is_beside_booked}
 use Rattle.statement_lines.specs.declared.outcome.Outcome.TheVariants as outcome
-use Rattle.statement_match.proofs.Firms.{filled_waits}
-use Rattle.statement_match.proofs.Unfilled.{fits_none, none_claims, sure_before, written_is_filled}
+use Rattle.statement_match.proofs.Unfilled.{fits_none, sure_before}
+use Rattle.statement_match.proofs.Writing.{written_is_filled}
 use Rattle.trust_desk.proofs.AlwaysCovered.{sound-after_items}
 use Rattle.trust_desk.proofs.Awaiting.{line_applies}
 use Rattle.trust_desk.proofs.Gathered.{put_gathered}
-use Rattle.trust_desk.proofs.MatchedAgain.{after_both, filled_lines_are_in_book}
+use Rattle.trust_desk.proofs.MatchedAgain.{after_both, filled_is_in_book}
 use Rattle.trust_desk.proofs.FilledLines.{IsReady, filled_ready, ready_behind, ready_item, ready_line}
 
 -- An entry that waits, and what a line makes of it.
@@ -124,7 +124,7 @@ module _ (today : ℕ) (firm : Firm) (x : Line) (w : Waiting) (ready : IsReady t
 
 -- Line by line.
 
-module _ (today : ℕ) (firm : Firm) (lines : List Line) (line : Line) (sound : FirmSound firm) (numbers : HasMatterNumbers firm) (nameless : AreNameless firm lines) (there : Contains lines line) (unfilled : (r : List ℕ) → becomes today (held_of firm) lines line ≢ outcome.Filled r) where
+module _ (today : ℕ) (firm : Firm) (lines : List Line) (line : Line) (sound : FirmSound firm) (numbers : HasMatterNumbers firm) (nameless : AreNameless lines) (there : Contains lines line) (unfilled : (r : List ℕ) → becomes today (held_of firm) lines line ≢ outcome.Filled r) where
   -- what the line fits waits as it did, and no line of the book is beside it that was not
   pub record IsAsBefore (now : Firm) : Type 0 where
     pub same : filter (fits today line) (held_of now).waiting ≡ filter (fits today line) (held_of firm).waiting
@@ -143,8 +143,7 @@ module _ (today : ℕ) (firm : Firm) (lines : List Line) (line : Line) (sound : 
       let stem = stems today held lines line x x lines x x_there in
       let other = get_or lines stem.0 line in
       let o_there : Contains lines other = Contains-get_or lines stem.0 line stem.1 in
-      let wrote = written_is_filled today held lines other x (nameless.opened other o_there)
-      (nameless.unnamed other o_there) stem.2 in
+      let wrote = written_is_filled today held lines other x (nameless.opened other o_there) stem.2 in
       let r = wrote.0 in
       let named = with_reference r other in
       let split : written today held lines ≡ front ++ named ∷ rest = e ∙ ap (λ z. front ++ z ∷ rest) (sym wrote.2) in
@@ -182,8 +181,10 @@ second_match_fills_nothing today firm lines line reference sound numbers nameles
     let held = held_of firm in
     let after = held_of (after_items today firm (items_of 1 (written today held lines))) in
     let unfilled : (r : List ℕ) → becomes today held lines line ≢ outcome.Filled r = λ r filled.
-    let booked = filled_lines_are_in_book today today firm lines line r sound numbers there
+    let booked = filled_is_in_book today today firm lines line r sound numbers there
     (nameless.from_bank line there) filled in
     let clash : outcome.InBook ≡ outcome.Filled reference = sym booked ∙ again in cc in
     let kept = as_before today firm lines line sound numbers nameless there unfilled in
-    grind (arith, ints, nat_tests, sure_of, filled_waits, after_items, written, none_claims, sure_before, filled_if_sure)
+    let found = sure_of today after lines line reference again in
+    let before = sure_before today held after lines line found.0 there kept.same (kept.apart found.1.apart) found.1 in
+    unfilled found.0.reference (filled_if_sure today held lines line found.0 before)

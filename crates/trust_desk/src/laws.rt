@@ -83,22 +83,21 @@ pub fn dismissed_once()
     ensures { DismissedOnce }
 {}
 
-/// Each line that a match fills is applied if the output is imported on the same day into the sound firm over which it
-/// was filled, whatever was written before it and whatever became of that.
+/// Each line that a match writes and that had no reference of its own is applied if the output is imported on the same
+/// day into the sound firm over which it was matched, whatever was written before it and whatever became of that.
 #[tactic(auto, using(crate::proofs::FilledLines::filled_lines_are_applied))]
 pub fn filled_lines_are_applied()
     ensures { FilledLinesAreApplied }
 {}
 
-/// A line that a match fills is in the book already if the same lines are matched again after that import, on any day.
-/// It is neither filled nor written a second time.
+/// Such a line is in the book already if the same lines are matched again after that import, on any day. It is neither
+/// filled nor written a second time.
 #[tactic(auto, using(crate::proofs::MatchedAgain::filled_lines_are_in_book))]
 pub fn filled_lines_are_in_book()
     ensures { FilledLinesAreInBook }
 {}
 
-/// If no line has a reference or is an exception under one, a second match of the same lines after that import, on the
-/// same day, fills nothing.
+/// If no line has a reference, a second match of the same lines after that import, on the same day, fills nothing.
 #[tactic(auto, using(crate::proofs::SecondMatch::second_match_fills_nothing))]
 pub fn second_match_fills_nothing()
     ensures { SecondMatchFillsNothing }

@@ -81,9 +81,10 @@
 //!   or refused: the rows of all matters, the journal, the firm's own lines and the balances stay as they are. A line
 //!   that was dismissed is no exception, and to dismiss it again is refused.
 //! - `laws` `filled_lines_are_applied`, `filled_lines_are_in_book`, `second_match_fills_nothing`: **each line that a
-//!   match fills is applied** when what is written is imported on the same day into the same sound firm, whatever was
-//!   written before it; after that import the line is in the book already, and a match of the same lines neither fills
-//!   nor writes it again; if no line has a reference or is an exception under one, a second match fills nothing.
+//!   match writes and that had no reference of its own is applied** when what is written is imported on the same day
+//!   into the same sound firm, whatever was written before it; after that import the line is in the book already, and a
+//!   match of the same lines neither fills nor writes it again; if no line has a reference, a second match fills
+//!   nothing.
 //! - `laws` `every_item_is_counted`: the four counts of an import add up to the number of its items.
 #![tactic(auto)]
 
