@@ -15,8 +15,8 @@ ghost use Rattle.statement_match.specs.Misfits.{entry_of as entry_of_line};
 use crate::day_sums::{DaySum, day_of_sum};
 use crate::entry_index::EntryIndex;
 use statement_lines::{
-    BookEntry, Exceptions, Index, Known, Lookup, Mark, Records, Relation, StatementLine, WaitingEntry, line_at,
-    line_count, number_of,
+    BookEntry, Exceptions, Index, Known, Lookup, Mark, Records, Relation, StatementLine,
+    WaitingEntry, line_at, line_count, number_of,
 };
 use std::alloc::{AllocError, Global};
 use std::marker::Model;

@@ -180,10 +180,7 @@ fn is_doubled(outcome: &Outcome) -> bool
 {
     match outcome {
         Outcome::Doubled => true,
-        Outcome::AsItIs
-        | Outcome::InBook
-        | Outcome::Filled(_)
-        | Outcome::Left => false,
+        Outcome::AsItIs | Outcome::InBook | Outcome::Filled(_) | Outcome::Left => false,
     }
 }
 

@@ -173,7 +173,9 @@ fn lines_told(
         let number = number_of(records, place);
         let line = line_at(records, place);
         let outcome = &outcomes[place];
-        add_record(&mut lines, today, grounds, &own, before, number, line, outcome)?;
+        add_record(
+            &mut lines, today, grounds, &own, before, number, line, outcome,
+        )?;
         add_own(&mut own, today, line.line())?;
         before = number;
     }

@@ -36,16 +36,16 @@ impl<B: Book> RefusingBook<B> {
 
 impl<B: Book> Book for RefusingBook<B> {
     ghost seen = { λ b. record {
-        firm = (B.seen b.inner).firm;
-        clean = (B.seen b.inner).clean;
-        sure = (B.seen b.inner).sure;
-        stands = (B.seen b.inner).stands;
-        readable = (B.seen b.inner).readable;
-        lasts = (B.seen b.inner).lasts;
-        leaves = (B.seen b.inner).leaves;
-        refusals = b.refusals;
-        sound = (B.seen b.inner).sound;
-        clean_is_sure = (B.seen b.inner).clean_is_sure;
+      firm = (B.seen b.inner).firm;
+      clean = (B.seen b.inner).clean;
+      sure = (B.seen b.inner).sure;
+      stands = (B.seen b.inner).stands;
+      readable = (B.seen b.inner).readable;
+      lasts = (B.seen b.inner).lasts;
+      leaves = (B.seen b.inner).leaves;
+      refusals = b.refusals;
+      sound = (B.seen b.inner).sound;
+      clean_is_sure = (B.seen b.inner).clean_is_sure;
     } };
 
     fn matter(&mut self, alloc: Global, matter: MatterNo) -> Result<Matter, StoreFault> {
