@@ -1,5 +1,8 @@
 -- What the items of a statement do to a matter is what its own machine does with the lines that name it.
 use Rattle.trust_desk.proofs.Names.{◌≡◌, ◌≢◌, ℕ, false, ◌||◌, List, [], ◌∷◌, ◌++◌, refl, sym, ap, ◌∙◌, append_assoc, cond_both, eqb-true, eqb-false, or_parts, list_any, BankLine, LineEffect, Rows, line_on, after_line_effect, rows_after_line, Line, BalanceKind, Verdict, Firm, of, after, by_balance, by_firm_line, of-after_edit, of_other-after_edit, Item, after_told, after_item, after_items, names_item, Own, own_if, own_of_item, own_of_items, own_rows, own_reply, solo_rows, solo_replies, arith, ints, nat_tests}
+use Rattle.trust_desk.proofs.Names.{Err, IfOk, None, Ok, OnErr, Option, Result, Seen, FirmLine, IsAppliedBeside, StoreFault, Counted, counted_of}
+use Rattle.trust_desk.specs.Imports.{LeavesOwnItem}
+use Rattle.trust_desk.specs.ItemStep.{KeepsUnnamed}
 use Rattle.trust_matter.specs.declared.line_verdict.LineEffect.TheVariants as told
 use Rattle.firm_rows.specs.declared.ledger.BalanceKind.TheVariants as kind
 use Rattle.firm_rows.specs.declared.ledger.Verdict.TheVariants as own
@@ -42,6 +45,11 @@ pub of-after_item : (m day : ℕ) (firm : Firm) (it : Item) → of m (after_item
 of-after_item m day firm it =
     grind (arith, ints, nat_tests, of-balance, of, cond_both, eqb-true, of-after_told, of_other-after_told, eqb-false, of-firm_line)
 
+-- an item that was applied leaves each matter what its own machine does
+pub own-item : (day : ℕ) (firm new : Firm) (it : Item) (r : Result Counted StoreFault) → IfOk r (λ c. (c ≡ counted_of day firm it) × (new ≡ after_item day firm it)) → IfOk r (λ _. LeavesOwnItem day firm it new)
+own-item day firm new it (Ok c) is = λ m. ap (of m) is.1 ∙ of-after_item m day firm it
+own-item day firm new it (Err fault) is = tt
+
 pub of-after_items : (m day : ℕ) (firm : Firm) (items : List Item) → of m (after_items day firm items) ≡ solo_rows (of m firm) (own_of_items m day items)
 of-after_items m day firm [] = refl
 of-after_items m day firm (it ∷ items) =
@@ -62,6 +70,14 @@ silent-items m day rows (it ∷ items) =
 
 none-item : (m day : ℕ) (it : Item) → names_item m it ≡ false → own_of_item m day it ≡ []
 none-item m day it other = grind (arith, ints, nat_tests, own_if)
+
+-- an item leaves the rows of a matter that it does not name, applied or not
+pub other-item : (day : ℕ) (firm new : Firm) (it : Item) (r : Result Counted StoreFault) → IfOk r (λ c. (c ≡ counted_of day firm it) × (new ≡ after_item day firm it)) → OnErr r (new ≡ firm) → KeepsUnnamed firm it new
+other-item day firm new it (Ok c) is err = λ m other. ap (of m) is.1 ∙ (of-after_item m day firm it ∙ ap (solo_rows (of m firm)) (none-item m day it other))
+other-item day firm new it (Err fault) is err = λ m other. ap (of m) err
+
+pub others-beside : {day : ℕ} {it : Item} {result : Result Counted StoreFault} {old new : Seen} {left : Option (List FirmLine)} → IsAppliedBeside day it result old None new left → new.clean → old.stands → KeepsUnnamed old.firm it new.firm
+others-beside {day} {it} {result} {old} {new} a clean stands = other-item day old.firm new.firm it result (a.step clean (stands, tt)) (a.err clean (stands, tt))
 
 pub none-items : (m day : ℕ) (items : List Item) → list_any (names_item m) items ≡ false → own_of_items m day items ≡ []
 none-items m day [] other = refl

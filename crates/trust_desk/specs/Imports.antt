@@ -15,7 +15,7 @@ use Rattle.trust_desk.specs.declared.importing.ImportStop.{ImportStop}
 use Rattle.trust_desk.specs.declared.importing.ImportStop.TheVariants as stop
 use Rattle.trust_desk.specs.Counts.{counted_refusal}
 use Rattle.trust_desk.specs.ItemStep.{after_item, after_items, counts_after, names_item, none_counted}
-use Rattle.trust_desk.specs.Heard.{own_of_items}
+use Rattle.trust_desk.specs.Heard.{own_of_item, own_of_items}
 use Rattle.trust_desk.specs.Solo.{solo_rows}
 
 -- The items of a statement. Nothing is known if its reader does not say what its bytes are; otherwise it has no items
@@ -69,6 +69,10 @@ pub record Imports (day : ℕ) (firm : Firm) (told : Told) (result : ImportEnd) 
   pub counts : result.reply ≡ counts_after day firm front none_counted
   pub own : (m : ℕ) → of m new ≡ solo_rows (of m firm) (own_of_items m day front)
   pub sound : AlwaysSound day firm front
+
+-- each matter's rows are those that its own machine makes with the item, if the item names it
+abbrev pub LeavesOwnItem : ℕ → Firm → Item → Firm → Type 0
+LeavesOwnItem day firm it new = (m : ℕ) → of m new ≡ solo_rows (of m firm) (own_of_item m day it)
 
 -- What it has not done.
 

@@ -91,6 +91,10 @@ names_item m (item.OfFirm line) = false
 names_item m (item.Stray line) = false
 names_item m (item.Unreadable number) = false
 
+-- the rows of each matter that the item does not name are unchanged
+abbrev pub KeepsUnnamed : Firm → Item → Firm → Type 0
+KeepsUnnamed firm it new = (m : ℕ) → names_item m it ≡ false → of m new ≡ of m firm
+
 -- Items in sequence.
 
 abbrev pub after_items : ℕ → Firm → List Item → Firm

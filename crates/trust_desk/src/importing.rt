@@ -1,6 +1,6 @@
 //! Imports statements of the bank, item by item.
 
-ghost use Rattle.std.specs.Prelude.{◌≡◌, ◌-◌, ◌^◌, ℕ, IfSome, None, Some, false, option_map};
+ghost use Rattle.std.specs.Prelude.{◌≡◌, ◌-◌, ◌^◌, ℕ, IfOk, IfSome, IsOk, OnErr, None, Some, false, option_map};
 ghost use Rattle.std.specs.Io.KnownBytes.{Keeps};
 ghost use Rattle.trust_base.specs.declared.refusal.Field.TheVariants as field;
 ghost use Rattle.trust_base.specs.declared.refusal.Refusal.TheVariants as refusal;
@@ -9,15 +9,16 @@ ghost use Rattle.statement_csv.specs.Limits.{IsTooLong, IsWithin};
 ghost use Rattle.statement_csv.specs.Reading.{LacksHeader};
 ghost use Rattle.firm_rows.specs.Firm.{Firm};
 ghost use Rattle.firm_rows.specs.FirmLines.{firm_verdict};
+ghost use Rattle.trust_store.specs.Books.{counted};
 ghost use Rattle.trust_desk.specs.Calls.{KeepsBook};
-ghost use Rattle.trust_desk.specs.Crashes.{IsAfterFirst, MayLeave, is_stopped};
-ghost use Rattle.trust_desk.specs.Imports.{AreBelow, Imports, IsStop, KeepsAllUnnamed, counted_stop, stop_at};
+ghost use Rattle.trust_desk.specs.Crashes.{IsAfterFirst, MayLeave, MayLeaveChange, is_stopped};
+ghost use Rattle.trust_desk.specs.Imports.{AreBelow, Imports, IsStop, KeepsAllUnnamed, LeavesOwnItem, counted_stop, stop_at};
 ghost use Rattle.trust_desk.specs.Applied.{IsImported, IsItemApplied};
 ghost use Rattle.trust_desk.specs.Beside.{IsAppliedBeside, lines_after};
-ghost use Rattle.trust_desk.specs.ItemStep.{balance_item, count_item, counted_by, counted_verdict};
+ghost use Rattle.trust_desk.specs.ItemStep.{KeepsUnnamed, after_item, balance_item, count_item, counted_by, counted_of, counted_verdict};
 
 use crate::desk::Desk;
-use crate::watching::{At, ItemWatch, NotApplied};
+use crate::watching::{At, ItemWatch, NoWatch, NotApplied};
 use firm_rows::{
     BalanceKind, FirmLedger, FirmLine, Owner, Verdict, decide_balance, decide_firm_line,
 };
@@ -345,6 +346,45 @@ fn import_whole<B: Book, R: Read + Drop, V: ItemWatch, K: Whole>(
 }
 
 impl<B: Book> Desk<B> {
+    /// Applies one item of a statement on a business day, as an import does. A line that names an entry clears it or
+    /// takes it back, one of the firm's own is added to its ledger, and a balance is put on file; or else the item is a
+    /// repeat or becomes an exception. A stray line always becomes an exception. A record that is not a line changes
+    /// nothing. On an error nothing has changed.
+    pub fn apply_line(
+        &mut self,
+        alloc: Global,
+        item: &Item,
+        day: Day,
+    ) -> Result<Counted, StoreFault>
+        ensures step { (B.seen self.new).clean → (B.seen self.old).stands
+            → IfOk result (λ c. (c ≡ counted_of day (B.seen self.old).firm item.now)
+            × ((B.seen self.new).firm ≡ after_item day (B.seen self.old).firm item.now)) }
+        ensures err { (B.seen self.new).clean → (B.seen self.old).stands
+            → OnErr result ((B.seen self.new).firm ≡ (B.seen self.old).firm) }
+
+        // Each matter is affected only by a line that names it, and then as by its own machine.
+        ensures own { (B.seen self.new).clean → (B.seen self.old).stands
+            → IfOk result (λ _. LeavesOwnItem day (B.seen self.old).firm item.now (B.seen self.new).firm) }
+        ensures others { (B.seen self.new).clean → (B.seen self.old).stands
+            → KeepsUnnamed (B.seen self.old).firm item.now (B.seen self.new).firm }
+
+        // The result is `Store` only if a call of the book returned `Store`.
+        ensures kept { KeepsBook (counted result) (B.seen self.old) (B.seen self.new) }
+
+        // A crash may leave what it might have left before, or the rows with the item's change. If the result is `Ok`
+        // and the book was settled, it can leave only the latter.
+        ensures crash { (B.seen self.new).sure → (B.seen self.old).stands
+            → MayLeaveChange (IsOk result) (B.seen self.old).firm (after_item day (B.seen self.old).firm item.now)
+            (B.seen self.old) (B.seen self.new) }
+    {
+        let at = At {
+            number: 1,
+            watch: &NoWatch,
+        };
+        let mut own = None;
+        apply_item(alloc, &mut self.book, &mut own, item, day, &at)
+    }
+
     /// Applies the items of a statement on a business day, each before the next is read, until the statement ends or a
     /// fault occurs. The items so far then stay applied, and no other is begun. `watch` is told of each line that was
     /// applied, of each item that is an exception or not a line, and of the end; the contract does not say what it is

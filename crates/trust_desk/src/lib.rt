@@ -41,11 +41,13 @@
 //!   store still serves (`reads`), as it does after an Ok (`serves`). No clause says what it finds.
 //! - `Desk::tell_exceptions`, `tell_rows`: the book stays as it is, after a crash too (`read`). No clause says what is
 //!   reported.
-//! - within the crate `apply_item` (`IsAppliedBeside`): an item of a statement, a matter's line, one of the
-//!   firm's own, or a balance, is a step of the definition, or nothing changed (`step`, `err`), if the firm's own
-//!   ledger that the import keeps, where it does, is the book's, which it then is again (`kept`); a crash may leave
-//!   what it might have left before, or the rows with the item's change, and after an Ok a settled book is settled on
-//!   these (`crash`); the book as above.
+//! - `Desk::apply_line`: an item of a statement, a matter's line, one of the firm's own, or a balance, is a step of the
+//!   definition and is counted as it says, or nothing changed (`step`, `err`). A matter that the item does not name does
+//!   not change (`others`), and of the one that it names it leaves the rows that the matter's own machine leaves
+//!   (`own`). A crash may leave what it might have left before, or the rows with the item's change, and after an Ok a
+//!   settled book is settled on these (`crash`); the book as above (`kept`).
+//! - within the crate `apply_item` (`IsAppliedBeside`), by which `apply_line` and `import` both go: the same, if the
+//!   firm's own ledger that an import keeps, where it does, is the book's, which it then is again (`kept`).
 //! - `Desk::import`: the first items of the file were applied, one after the other, and counted, and all of them if it
 //!   ends by `Done`, however the reads are cut. The firm is sound after each of them, and each matter's rows are those
 //!   that its own machine leaves after the lines among them that name it (`front`; it is tested that each is applied

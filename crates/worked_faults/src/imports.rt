@@ -4,10 +4,11 @@ use crate::books::serve;
 use crate::fronts::{Wrong, today};
 use crate::pieces::{DEPOSIT, OPEN, OTHER_DEPOSIT, OTHER_OPEN, SHOWN_CLEARED, SHOWN_OTHER_HELD};
 use crate::trial::TrialReader;
+use statement_csv::{Item, Lines};
 use std::alloc::Global;
 use std::io::Read;
 use trust_base::Day;
-use trust_desk::{Desk, ImportReply, ImportStop, NoWatch};
+use trust_desk::{Counted, Desk, ImportReply, ImportStop, NoWatch};
 use trust_store::PlainBook;
 
 // A desk where deposits of two matters are booked.
@@ -56,6 +57,49 @@ fn each_read_fails(rt: HostRuntime) {
             "after {good} reads"
         );
     }
+}
+
+// How an item is counted that is applied by a call of its own.
+fn applied(
+    alloc: Global,
+    desk: &mut Desk<PlainBook>,
+    item: &Item,
+    day: Day,
+) -> Result<Counted, Wrong> {
+    desk.apply_line(alloc, item, day).or(Err(Wrong::Memory))
+}
+
+// How the items of the statement are counted one by one, and the first once more.
+fn counted_one_by_one(alloc: Global) -> Result<Option<[Counted; 4]>, Wrong> {
+    let day = today()?;
+    let mut desk = booked(alloc, day)?;
+    let mut lines = Lines::new(alloc, STATEMENT);
+    let (Ok(Some(first)), Ok(Some(second)), Ok(Some(third))) = (
+        lines.next(),
+        lines.next(),
+        lines.next(),
+    ) else {
+        return Ok(None);
+    };
+    let counted = [
+        applied(alloc, &mut desk, &first, day)?,
+        applied(alloc, &mut desk, &second, day)?,
+        applied(alloc, &mut desk, &third, day)?,
+        applied(alloc, &mut desk, &first, day)?,
+    ];
+    serve(alloc, &mut desk, day, &[SHOWN_CLEARED])?;
+    Ok(Some(counted))
+}
+
+#[test]
+fn items_are_applied_one_by_one(rt: HostRuntime) {
+    let wanted = [
+        Counted::Applied,
+        Counted::Unreadable,
+        Counted::Applied,
+        Counted::Repeated,
+    ];
+    assert_eq!(rt; counted_one_by_one(rt.alloc()), Ok(Some(wanted)));
 }
 
 // A statement with the line that clears the first deposit, 4,000 times and with a text of 900 bytes, and the line
