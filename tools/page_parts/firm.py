@@ -37,13 +37,13 @@ def free_port() -> int:
             return port
 
 
-def wait_for(port: int, seconds: float) -> None:
-    """Until something listens on the port. It is not connected to: that would be one of the connections served."""
+def wait_for(port: int, seconds: float, process: subprocess.Popen[bytes]) -> None:
+    """Until the process listens on the port. It is not connected to: that would be one of the connections served."""
     wanted = f"0100007F:{port:04X} 00000000:0000 0A"
     end = time.monotonic() + seconds
     while wanted not in pathlib.Path("/proc/net/tcp").read_text(encoding="ascii"):
-        if time.monotonic() > end:
-            raise TimeoutError(f"nothing listens on port {port}")
+        if time.monotonic() > end or process.poll() is not None:
+            raise TimeoutError(f"nothing listens on port {port}: {process.args}")
         time.sleep(0.05)
 
 
@@ -73,7 +73,7 @@ class Desk:
     def begin(self) -> None:
         command = [self.program, "--db", str(self.book), "--today", self.day, "serve", str(self.port), "1000000"]
         self.process = subprocess.Popen(command, stdout=subprocess.DEVNULL)
-        wait_for(self.port, STARTED)
+        wait_for(self.port, STARTED, self.process)
 
     def end(self) -> None:
         if self.process:
@@ -184,7 +184,7 @@ class FrontEnd:
         (folder / "files" / "page").symlink_to(ROOT / "web")
         self.write(behind, change)
         self.process = subprocess.Popen(["nginx", "-p", str(folder), "-e", "nginx.err", "-c", "nginx.conf"])
-        wait_for(self.port, 60)
+        wait_for(self.port, 60, self.process)
 
     def write(self, behind: int, change: Change) -> None:
         text = CONFIGURATION.read_text(encoding="utf-8")
