@@ -1,5 +1,5 @@
 -- Lines that are filled are applied.
-use Rattle.trust_desk.proofs.Names.{cond_both, later, eqb-true, ◌≡◌, ◌≢◌, ◌∙◌, sym, ap, subst, ℕ, ◌+◌, ◌<◌, Bool, true, false, not, cond, List, [], ◌∷◌, length, Some, None, refl, arith, IfSome, nat_le, nat_lt, Contains, int_eq, bytes_eq, and_parts, nat_tests, Line, Rows, Entry, BankLine, line_on, rows_after_line, Firm, of, FirmSound, item_by, item_of_line, Item, Waiting, fits, is_other_business, shows, entry_waiting, held_of, HasMatterNumbers, IsSure, with_reference, written, of_entry, wait_apart, sure_of, front_apart, own_of_item, after_item, after_items, counted_as, counted_of, FilledLinesAreApplied, items_of, solo_rows, ints, found_is_there, found_passes}
+use Rattle.trust_desk.proofs.Names.{cond_both, later, eqb-true, ◌≡◌, ◌≢◌, ◌∙◌, sym, ap, subst, ℕ, ◌+◌, ◌<◌, Bool, true, false, not, cond, List, [], ◌∷◌, ◌++◌, length, Some, None, refl, arith, IfSome, nat_le, nat_lt, Contains, int_eq, bytes_eq, and_parts, nat_tests, Line, Rows, Entry, BankLine, line_on, rows_after_line, Firm, of, FirmSound, item_by, item_of_line, Item, Waiting, fits, is_other_business, shows, entry_waiting, held_of, HasMatterNumbers, IsSure, with_reference, written, of_entry, wait_apart, sure_of, front_apart, own_of_item, after_item, after_items, counted_as, counted_of, FilledLinesAreApplied, items_of, solo_rows, ints, found_is_there, found_passes}
 use Rattle.std.proofs.Common.{◌==◌, codes}
 use Rattle.trust_base.specs.Limits.{IsEntryNo, IsMatterNo}
 use Rattle.statement_csv.specs.References.{entry_named, owner_by, owner_of, reference_text}

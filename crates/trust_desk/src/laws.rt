@@ -92,7 +92,6 @@ pub fn filled_lines_are_applied()
 
 /// Such a line is in the book already if the same lines are matched again after that import, on any day. It is neither
 /// filled nor written a second time.
-#[tactic(auto, using(crate::proofs::MatchedAgain::filled_lines_are_in_book))]
 pub fn filled_lines_are_in_book()
     ensures { FilledLinesAreInBook }
 {}
