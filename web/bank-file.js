@@ -2,7 +2,7 @@
 // line was split over, or that it is left. All of it is kept in the browser until the file is imported or put away. The
 // file itself is never changed: what is sent is the file with what was decided.
 
-import { bytesOf, recordsOf, textOf, wordsOf } from './csv.js';
+import { bytesOf, recordsOf, wordsOf } from './csv.js';
 import { FILE, LEFT, PARTS, TYPED } from './shelf.js';
 
 export const NAMES = ['date', 'reference', 'bank_ref', 'amount', 'text'];
@@ -48,11 +48,6 @@ export class BankFile {
         if (shelf.read(FILE)[0]?.text !== text) forgetDecided(shelf);
         shelf.write(FILE, [{ name, text }]);
         return new BankFile(shelf, name, text);
-    }
-
-    // The same of a file that was chosen.
-    static chosen(shelf, name, bytes) {
-        return BankFile.taken(shelf, name, textOf(bytes));
     }
 
     forget() {

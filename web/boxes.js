@@ -1,6 +1,6 @@
 // Boxes that tell what became of an ask: done, noted, refused.
 
-import { el, p, strong } from './elements.js';
+import { button, el, p, strong } from './elements.js';
 import { fieldOf, wordsOf } from './refusals.js';
 
 const box = (kind, role, ...inside) => el('div', { class: `box ${kind}`, role, tabindex: '-1' }, ...inside);
@@ -8,6 +8,31 @@ const box = (kind, role, ...inside) => el('div', { class: `box ${kind}`, role, t
 export const doneBox = (words, ...more) => box('done', 'status', p(strong(words)), ...more);
 export const noteBox = (...inside) => box('note', 'status', ...inside);
 export const warningBox = (words, ...more) => box('refused', 'status', p(strong(words)), ...more);
+
+// A button of what can't be taken back. It asks first, naming what it does, and only then does it.
+export function askFirst(words, { question, yes, act }) {
+    const place = el('div', { class: 'asks' });
+    const first = button(words, () => {
+        place.replaceChildren(asked);
+        asked.focus();
+    });
+    const keep = () => {
+        place.replaceChildren(first);
+        first.focus();
+    };
+    const asked = noteBox(p(question), el('div', { class: 'buttons' }, button(yes, act, ''),
+        button('Leave it as it is', keep)));
+    place.append(first);
+    return place;
+}
+
+// Asks beside a form about doubts, before anything is sent: `act` sends it all the same. The form can be changed.
+export function askAbout(place, doubts, action, act) {
+    const asked = noteBox(doubts.map((each) => p(each)), el('div', { class: 'buttons' }, button(action, act, '')));
+    place.replaceChildren(asked);
+    for (const each of place.closest('form')?.elements ?? []) each.disabled = false;
+    asked.focus();
+}
 
 // The words of a refusal; its status and name stand small below, for the telephone.
 export function refusedBox(answer, person, ...more) {

@@ -5,14 +5,14 @@ import { isMixed, shown } from './names.js';
 
 const ATTRIBUTES = new Set([
     'class', 'id', 'href', 'for', 'type', 'name', 'value', 'role', 'scope', 'tabindex', 'inputmode', 'autocomplete',
-    'accept', 'download', 'hidden', 'spellcheck', 'selected', 'data-label', 'data-state', 'data-kind',
+    'accept', 'max', 'download', 'hidden', 'spellcheck', 'selected', 'data-label', 'data-state', 'data-kind',
     'aria-label', 'aria-labelledby', 'aria-describedby', 'aria-current', 'aria-live', 'aria-busy',
 ]);
 const DRAWN = new Set([
     'class', 'viewBox', 'preserveAspectRatio', 'x', 'y', 'x1', 'y1', 'x2', 'y2', 'dy', 'width', 'height', 'd',
     'text-anchor', 'aria-hidden',
 ]);
-const EVENTS = new Set(['click', 'submit', 'change', 'input']);
+const EVENTS = new Set(['click', 'submit', 'change', 'input', 'drop', 'dragover']);
 
 const isThere = (part) => part !== null && part !== undefined && part !== false;
 
@@ -66,6 +66,10 @@ export const label = (text) => [
 export const facts = (pairs) => el('dl', { class: 'facts' }, pairs.filter((pair) => pair && isThere(pair[1])).map(
     ([name, ...value]) => el('div', {}, el('dt', {}, name), el('dd', {}, ...value)),
 ));
+
+// What words mean, on a tap.
+export const explained = (pairs) => el('details', { class: 'explained' },
+    el('summary', {}, 'What do these words mean?'), facts(pairs));
 
 // Sums side by side: for each a name, words, the sum, and what it means.
 export const sums = (all, kind = '') => el('dl', { class: `sums ${kind}` }, all.map(([name, words, sum, means]) =>

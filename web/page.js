@@ -12,6 +12,7 @@ import { newEntry } from './views/new-entry.js';
 import { openMatter } from './views/opening.js';
 import { overview } from './views/overview.js';
 import { reconciliation } from './views/reconciliation.js';
+import { records } from './views/records.js';
 import { report } from './views/report.js';
 import { seats } from './views/seats.js';
 import { statement } from './views/statement.js';
@@ -27,6 +28,7 @@ const VIEWS = [
     [/^#\/m\/(\d{6})\/(deposit|propose|fee|claim|dispute)(?:\/(fee|claim)\/(\d{4}))?$/, newEntry],
     [/^#\/open$/, openMatter],
     [/^#\/statement$/, statement],
+    [/^#\/records$/, records],
     [/^#\/report\/(trial-balance|journal|exceptions|retention)$/, report],
     [/^#\/reconciliation(?:\/(\d{4}-\d\d-\d\d))?$/, reconciliation],
 ];

@@ -27,13 +27,13 @@ const FIELDS = {
 };
 
 const RULES = {
-    read: 'A seat in the matter is needed to read it.',
+    read: 'Access to the matter is needed to read it.',
     dispute: 'Only a client of the matter disputes a fee or accepts an offer.',
-    claim: 'Only a lawyer of the matter or the cashier keeps a claim on the general fund apart.',
+    claim: 'Only a lawyer of the matter or the cashier holds a part of the general fund for a claim.',
     propose: 'Only a lawyer of the matter or the cashier proposes a payment.',
     sign: 'Only a lawyer of the matter approves, declines and voids payments, earns fees and makes offers.',
     office: 'Only the cashier does that.',
-    firm: "Only the cashier reads the firm's reports and brings in statements.",
+    firm: "Only the cashier reads the firm's reports and imports statements.",
 };
 
 const LOAD_AGAIN = 'Load the page again. If it stays, tell the operator.';
@@ -54,7 +54,7 @@ const REFUSALS = {
     BadField: (told) => ['Something is not of its form.', FIELDS[told.field] ?? `Mend this: ${told.field}.`],
     NoMatter: (told, person) => (person === 'cashier'
         ? ['No matter has this number.', 'Look at the number, or open the matter.']
-        : ['There is no such matter for you.', 'Look at the number. The cashier gives seats in a matter.']),
+        : ['There is no such matter for you.', 'Look at the number. The cashier gives access to a matter.']),
     Purged: () => ["This matter's records were taken away after their five years.", 'Its number is not used again.'],
     NotAllowed: (told) => ['You may not do this.', RULES[told.rule] ?? 'Have it asked by one who may.'],
     AlreadyOpen: () => ['A matter with this number was opened before.', 'Take the next free number.'],
@@ -74,15 +74,15 @@ const REFUSALS = {
         'Look at the claim: the part that is offered now is shown there.'],
     Short: (told) => [`Only ${grouped(told.left)} is there for this.`,
         'A deposit counts once the bank has shown it. Wait for the statement, or take at most what is left.'],
-    SeatTaken: () => ['This person has a seat in the matter.',
-        'To change the role, take the seat away and give the other.'],
-    NoSeat: () => ['This person has no seat in the matter.', 'Look at the name.'],
-    LastLawyer: () => ['A matter keeps at least one lawyer.', 'Seat the other lawyer first.'],
+    SeatTaken: () => ['This person has access to the matter.',
+        'To change the role, take the access away and give the other.'],
+    NoSeat: () => ['This person has no access to the matter.', 'Look at the name.'],
+    LastLawyer: () => ['A matter keeps at least one lawyer.', 'Give the other lawyer access first.'],
     NotEmpty: () => ['The matter holds money, or a payment waits for a lawyer or the bank.',
         'Pay out what is left, decline or void what waits, and bring in the statement that shows the payments.'],
     TooEarly: (told) => ['The records of a closed matter are kept for five years.',
         `They may go from ${told.day} on.`],
-    NoStatement: () => ['No closing balance of that day was brought in.',
+    NoStatement: () => ['No closing balance of that day was imported.',
         'Bring in the statement that ends on the day, or ask for a day on which one ended.'],
     PeriodPurged: () => ["A matter with entries of that time was purged, so the day can't be told whole.",
         'Use the reconciliation that was printed then.'],

@@ -29,6 +29,11 @@ export const readJournal = (text) =>
 
 export const countLines = (text) => linesOf(text).length - 1;
 
+// The opening balances that break with the closing one before: those up to the day of the report, in its last lines.
+export const readBreaks = (text) => linesOf(text)
+    .map((line) => /^OPENING (\S+) (-?\d+\.\d\d) AFTER (\S+) (-?\d+\.\d\d)$/.exec(line)).filter(Boolean)
+    .map(([, day, opening, before, closing]) => ({ day, opening, before, closing }));
+
 // The figures of a reconciliation by their names, which stand in its first lines.
 export function readFigures(text) {
     const figures = linesOf(text).slice(1, 11).map((line) => /^([A-Z ]+?) +(-?\d+\.\d\d)$/.exec(line));

@@ -1,5 +1,5 @@
 // What the browser keeps for a person: numbers of matters that were looked at, the day of the last statement, asks that
-// were not answered, and a bank's file that is not imported yet. Nothing else stays.
+// were not answered, a bank's file that is not imported yet, and which columns a bank's CSV has. Nothing else stays.
 
 export const ASKS = 'asks';
 export const MATTERS = 'matters';
@@ -8,6 +8,7 @@ export const FILE = 'file';
 export const TYPED = 'typed';
 export const PARTS = 'parts';
 export const LEFT = 'left';
+export const COLUMNS = 'columns';
 
 export class Shelf {
     constructor(person) {

@@ -32,3 +32,23 @@ export const fundOf = ({ from, on, of }) =>
 
 // The same, as a card tells it.
 export const fundWords = (fund) => (fund === 'general' ? 'the general fund' : fund);
+
+// What the words of cards and reports mean.
+const MEANS = {
+    CLOSING: 'what the bank had as the day closed, by its statement',
+    'IN TRANSIT': 'deposits that are booked, and that the bank has not shown by that day',
+    OUTSTANDING: 'payments that are issued, and that the bank has not shown by that day',
+    'ADJUSTED BANK': 'the closing balance with what is in transit and outstanding',
+    JOURNAL: 'the account by the journal, up to that day',
+    LEDGERS: 'all clients\u2019 ledgers and the firm\u2019s own, up to that day',
+    DIFFERENCE: 'the adjusted bank less the journal',
+    EXCEPTIONS: 'lines of the bank that match nothing: each has to be given its entry, or be dismissed',
+    EARLY: 'lines that the bank had before the books: the entry was booked on a later day than the bank\u2019s',
+    GAP: 'what is left of the difference, and explained by nothing: a mistake that has to be found',
+    DOUBLE: 'two payments with the same check number: one of them may be a mistake',
+    HELD: 'paid in, and not shown by the bank yet: it can\u2019t be paid out',
+    ISSUED: 'approved and out, and not shown by the bank yet',
+    OPENING: 'a statement opened with another balance than the one before closed with: a part is missing',
+};
+
+export const meansOf = (names) => names.map((name) => [name, MEANS[name]]);

@@ -91,11 +91,14 @@ class Browser:
         """Until nothing is asked any more, and nothing changes for a while."""
         last: typing.Any = None
         since = begun = time.monotonic()
-        while time.monotonic() - since < SETTLED:
+        while True:
             now = self.seen()
-            if now != last or not now[0] or now[1]:
+            is_calm = now == last and now[0] and not now[1]
+            if is_calm and time.monotonic() - since >= SETTLED:
+                return
+            if not is_calm:
                 last, since = now, time.monotonic()
-            if time.monotonic() - begun > 90:
+            if time.monotonic() - begun > 200:
                 raise TimeoutError(f"the page does not settle: {now}")
 
     def seen(self) -> list[typing.Any]:
@@ -148,6 +151,15 @@ class Browser:
             time.sleep(0.03)
 
     def press(self, words: str) -> None:
+        """Presses a button; where the page tells doubts before it books, all the same."""
+        self.press_once(words)
+        for each in self.find(".box.note button"):
+            if each.text == f"{words} all the same":
+                each.click()
+                self.settle()
+                return
+
+    def press_once(self, words: str) -> None:
         self.click("button", words)
 
     def follow(self, words: str) -> None:

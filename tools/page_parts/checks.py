@@ -14,7 +14,7 @@ class Checks:
             self.passed += 1
             return
         self.failed += 1
-        print(f"NOT SO: {what} | {str(seen)[:600]}", flush=True)
+        print(f"NOT SO: {what} | {str(seen)[-900:]}", flush=True)
 
     def same(self, what: str, seen: object, wanted: object) -> None:
         """Counts one check: the two are equal."""

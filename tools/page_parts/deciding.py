@@ -112,7 +112,7 @@ def decide_thirty(bank: Bank) -> None:
     bank.browser.press("Import these" if filled else "Match again")
     bank.has("30 lines would be imported, 0 in the book already, 0 to be looked at.")
     bank.browser.press("Import these")
-    bank.has("thirty.csv was brought in.", "Lines that found their place\n30", "Match nothing (exceptions)\n0")
+    bank.has("thirty.csv was imported.", "Lines that found their place\n30", "Match nothing (exceptions)\n0")
     for at in range(1, len(DEPOSITS) + 1):
         bank.checks.same(f"deposit {at}", bank.state(f"M000001-{at:04}"), "cleared")
     for at in range(1, len(PAYMENTS) + 1):
@@ -237,7 +237,7 @@ def end_a_loop(bank: Bank) -> None:
     bank.browser.press("Keep it")
     # Once more by the file, as it is after an import.
     deposit(bank, "0030", "656.00", "Ida Umber", "retainer")
-    bank.choose("again.csv", HEAD + "2026-07-14,M000001-0028,L2,656.00,DEPOSIT\n", "Bring it in")
+    bank.choose("again.csv", HEAD + "2026-07-14,M000001-0028,L2,656.00,DEPOSIT\n", "Import as it is")
     bank.choose("again.csv", HEAD + "2026-07-14,,L2,656.00,DEPOSIT\n")
     bank.browser.press("Use this")
     bank.browser.press("Match again")

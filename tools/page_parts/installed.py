@@ -32,7 +32,7 @@ def today(walk: Walk) -> datetime.date:
 
 def open_a_matter(walk: Walk) -> None:
     walk.send(walk.cashier, "#/open", "Open it", client="Ada Chen", lawyer="lee")
-    walk.send(walk.cashier, f"#/m/{MATTER}/seats", "Give the seat", person="ada", role="client")
+    walk.send(walk.cashier, f"#/m/{MATTER}/seats", "Give access", person="ada", role="client")
     for each in (walk.cashier, walk.lee, walk.ada):
         each.to(f"#/m/{MATTER}")
         walk.checks.same(f"what {each.person} sees", each.title(), f"Matter {MATTER}, Ada Chen")
@@ -60,7 +60,7 @@ def match(walk: Walk, lines: list[tuple[datetime.date, str]]) -> None:
     bank.choose("bank.csv", HEAD + "".join(f"{day},{words}\n" for day, words in lines))
     bank.has(f"{len(lines)} lines would be imported, 0 in the book already, 0 to be looked at.", "filled")
     walk.cashier.press("Import these")
-    bank.has("bank.csv was brought in.", f"Lines that found their place\n{len(lines)}")
+    bank.has("bank.csv was imported.", f"Lines that found their place\n{len(lines)}")
 
 
 def approve(walk: Walk) -> None:

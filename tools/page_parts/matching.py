@@ -115,7 +115,7 @@ def match_and_import(bank: Bank) -> None:
     for reference in SURE:
         bank.checks.same(f"{reference} before it is imported", bank.state(reference), "held")
     bank.browser.press("Import these")
-    bank.has("march.csv was brought in.", "Lines that found their place\n5", f"Closing balance of\n{DAY}",
+    bank.has("march.csv was imported.", "Lines that found their place\n5", f"Closing balance of\n{DAY}",
              "3 in the book already, 3 to be looked at.")
     bank.checks.same("the references that were sent", [record[1] for record in bank.imported()],
                      ["OPEN", *SURE, "CLOSE"])
@@ -166,7 +166,7 @@ def import_what_is_left(bank: Bank) -> None:
     bank.checks.same("it was done", bank.state("M000003-0001"), "cleared")
     browser.press("Match again")
     browser.press("Import these")
-    bank.has("march.csv was brought in.", "Lines that found their place\n0", "Were there already\n5")
+    bank.has("march.csv was imported.", "Lines that found their place\n0", "Were there already\n5")
     bank.lacks("march.csv is kept in this browser", "To be looked at")
     bank.checks.same("the references that were sent", [record[1] for record in bank.imported()],
                      ["OPEN", "FIRM", "M000003-0001", "FIRM", "CLOSE"])
@@ -213,11 +213,11 @@ def name_a_wrong_entry(bank: Bank) -> None:
 def bring_in_as_it_is(bank: Bank) -> None:
     """Of a file with empty references it is asked twice: its lines would be exceptions."""
     before = len(bank.firm.relay.imported)
-    bank.choose("raw.csv", NONE_LEFT, "Bring it in")
+    bank.choose("raw.csv", NONE_LEFT, "Import as it is")
     bank.has("Lines without a reference: 1.", "Match the file first.")
     bank.checks.same("how often it was imported", len(bank.firm.relay.imported), before)
     bank.firm.relay.fail("POST /firm/statements$", Fault("closed"))
-    bank.browser.press("Bring it in as it is")
+    bank.browser.press("Import them as exceptions")
     bank.has("The desk is not open.", "raw.csv is kept in this browser")
     bank.put_away()
 
@@ -363,8 +363,6 @@ def be_refused(bank: Bank) -> None:
             bank.checks.so(f"{what} is told as {words!r}", words in text, text)
             bank.checks.same(f"{what}: the file is kept", "march.csv is kept in this browser" in text, is_kept)
             bank.put_away()
-    bank.choose("other.csv", "day,amount\n2026-03-01,1.00\n")
-    bank.has("This is no statement: its first line has to be", "422 BadField")
 
 
 def be_no_cashier(bank: Bank) -> None:

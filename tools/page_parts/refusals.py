@@ -29,12 +29,12 @@ REFUSALS = {
     "WrongPayee": "does not pay this payee",
     "BadSplit": "The client's part is more than the claim",
     "Short": "Only 400.00 is there for this.",
-    "SeatTaken": "This person has a seat in the matter.",
-    "NoSeat": "This person has no seat in the matter.",
+    "SeatTaken": "This person has access to the matter.",
+    "NoSeat": "This person has no access to the matter.",
     "LastLawyer": "A matter keeps at least one lawyer.",
     "NotEmpty": "The matter holds money, or a payment waits",
     "TooEarly": "They may go from 2029-02-01 on.",
-    "NoStatement": "No closing balance of that day was brought in.",
+    "NoStatement": "No closing balance of that day was imported.",
     "PeriodPurged": "was purged, so the day can't be told whole",
     "Store": "The disk of the desk failed.",
     "Memory": "The desk has no room left.",
@@ -49,7 +49,7 @@ FIELDS = {
     "role": "Choose client or lawyer", "source": "Who paid it in", "to_client": "The client's part",
 }
 RULES = {
-    "read": "A seat in the matter", "dispute": "Only a client", "claim": "keeps a claim on the general fund apart",
+    "read": "Access to the matter", "dispute": "Only a client", "claim": "holds a part of the general fund for a claim",
     "propose": "proposes a payment", "sign": "Only a lawyer of the matter approves", "office": "Only the cashier does",
     "firm": "Only the cashier reads",
 }

@@ -23,7 +23,7 @@ def views_of(person: str, matter: str, entries: range) -> list[str]:
     """All views that the person has, of one matter."""
     at = f"#/m/{matter}"
     own = [at, f"{at}/card", *(f"{at}/{form}" for form in FORMS[person]), *(f"{at}/e/{each:04}" for each in entries)]
-    firm = ["#/open", "#/statement", *REPORTS] if person == "cashier" else []
+    firm = ["#/open", "#/statement", "#/records", *REPORTS] if person == "cashier" else []
     return ["#/", *firm, *own, "#/m/000777", "#/nowhere"]
 
 

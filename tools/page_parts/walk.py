@@ -59,15 +59,17 @@ def open_matters(walk: Walk) -> None:
                      "Matter 000003, Cleo Marsh")
     for matter, person, role in (("000001", "ada", "client"), ("000002", "bob", "client"), ("000003", "cleo", "client"),
                                  ("000003", "sato", "lawyer")):
-        walk.send(walk.cashier, f"#/m/{matter}/seats", "Give the seat", person=person, role=role)
-        walk.has(walk.cashier, f"{person} has a seat as {role}.")
-    walk.send(walk.cashier, "#/m/000003/seats", "Give the seat", person="Sato", role="lawyer")
+        walk.send(walk.cashier, f"#/m/{matter}/seats", "Give access", person=person, role=role)
+        walk.has(walk.cashier, f"{person} has access as {role}.")
+    walk.send(walk.cashier, "#/m/000003/seats", "Give access", person="Sato", role="lawyer")
     walk.has(walk.cashier, "Write 1 to 32 of a to z")
-    walk.send(walk.cashier, "#/m/000003/seats", "Give the seat", person="sato", role="lawyer")
-    walk.has(walk.cashier, "This person has a seat in the matter.", "409 SeatTaken")
-    walk.send(walk.cashier, "#/m/000003/seats", "Give the seat", person="bob", role="client")
-    walk.cashier.press("Take the seat of bob away")
-    walk.has(walk.cashier, "bob has no seat any more.")
+    walk.send(walk.cashier, "#/m/000003/seats", "Give access", person="sato", role="lawyer")
+    walk.has(walk.cashier, "This person has access to the matter.", "409 SeatTaken")
+    walk.send(walk.cashier, "#/m/000003/seats", "Give access", person="bob", role="client")
+    walk.cashier.press("Take the access of bob away")
+    walk.has(walk.cashier, "bob sees nothing of it any more.")
+    walk.cashier.press("Take it away")
+    walk.has(walk.cashier, "bob has no access any more.")
 
 
 def deposit(walk: Walk, matter: str, amount: str, source: str, description: str) -> None:
@@ -87,6 +89,10 @@ def book_deposits(walk: Walk) -> None:
     walk.checks.same("the entry that the page numbered", walk.cashier.title(),
                      "Deposit 0002 of matter 000003, Cleo Marsh")
     walk.cashier.press("Cancel this deposit of 1,200.00")
+    walk.has(walk.cashier, "Cancel the deposit of 1,200.00 by Dana Marsh?", "held")
+    walk.cashier.press("Leave it as it is")
+    walk.cashier.press("Cancel this deposit of 1,200.00")
+    walk.cashier.press("Cancel the deposit")
     walk.has(walk.cashier, "The deposit is cancelled.", "cancelled")
 
 
@@ -123,19 +129,19 @@ def bring_in(walk: Walk, text: str) -> None:
     path.write_text(text, encoding="utf-8")
     walk.cashier.to("#/statement")
     walk.cashier.find("#file")[0].send_keys(str(path))
-    walk.cashier.press("Bring it in")
+    walk.cashier.press("Import as it is")
 
 
 def bring_statements(walk: Walk) -> None:
     walk.cashier.to("#/statement")
-    walk.cashier.press("Bring it in")
+    walk.cashier.press("Import as it is")
     walk.has(walk.cashier, "Choose a file.")
     bring_in(walk, HEAD + " " * 4_194_304)
     walk.has(walk.cashier, "The file has more than 4,194,304 bytes")
     bring_in(walk, "day,amount\n")
-    walk.has(walk.cashier, "This is no statement: its first line has to be", "422 BadField")
+    walk.has(walk.cashier, "Nothing is taken of statement.csv.", "no column is the day")
     bring_in(walk, STATEMENT)
-    walk.has(walk.cashier, "statement.csv was brought in.", "Lines that found their place\n6",
+    walk.has(walk.cashier, "statement.csv was imported.", "Lines that found their place\n6",
              "Match nothing (exceptions)\n1", "Not readable\n1", f"Closing balance of\n{DAY}")
     bring_in(walk, STATEMENT)
     walk.has(walk.cashier, "Lines that found their place\n0", "Were there already\n6")
@@ -198,7 +204,7 @@ def pay_from_funds(walk: Walk) -> None:
     cashier.fill(amount="1650", purpose="fee to 9 January, less 150.00", instrument="1002")
     cashier.press("Propose it")
     walk.has(cashier, "Drawn on\nfee 0003")
-    walk.send(sato, "#/m/000002/claim", "Keep it apart", amount="2400", claimant="Bay Clinic", reason="treatment bills")
+    walk.send(sato, "#/m/000002/claim", "Hold it", amount="2400", claimant="Bay Clinic", reason="treatment bills")
     walk.has(sato, f"Booked on {DAY}: claim of 2,400.00")
     walk.send(cashier, "#/m/000002/e/0002", "Award it", to_client="400")
     walk.has(cashier, "The claim is settled.", "Left of it\n2,000.00")
@@ -210,9 +216,14 @@ def pay_from_funds(walk: Walk) -> None:
     sato.press("Approve 2,000.00")
     walk.has(sato, "Approved: 2,000.00 to Bay Clinic.")
     lee.to("#/m/000001/e/0005")
+    approve = next(each for each in lee.find("button") if "Approve" in each.text).rect
     lee.press("Approve 1,650.00")
     walk.has(lee, "Approved: 1,650.00 to FIRM.")
+    void = next(each for each in lee.find("button") if "Void the payment" in each.text)
+    walk.checks.so("Void does not stand where Approve stood", void.rect["y"] > approve["y"] + 100, (void.rect, approve))
     lee.press("Void the payment of 1,650.00")
+    walk.has(lee, "Void the payment of 1,650.00 to FIRM, 1002?", "It can\u2019t be taken back.")
+    lee.click(".asks .box button", "Void the payment")
     walk.has(lee, "The payment is voided.", "voided")
 
 
@@ -324,19 +335,22 @@ def read_and_close(walk: Walk) -> None:
         walk.has(cashier, words)
     cashier.to("#/reconciliation")
     cashier.press("Look for the last statement")
-    walk.has(cashier, f"Reconciliation of {DAY}", "CLOSING", "25675.00")
+    walk.has(cashier, f"Reconciliation of {DAY}", "CLOSING", "25675.00", "Lines of the bank that match nothing come to")
+    walk.checks.same("the green boxes of a reconciliation with an exception", cashier.find(".box.done"), [])
+    cashier.find("details.explained summary")[0].click()
+    walk.has(cashier, "lines that the bank had before the books")
     cashier.to("#/reconciliation/2024-01-09")
-    walk.has(cashier, "No closing balance of that day was brought in.", "404 NoStatement")
+    walk.has(cashier, "No closing balance of that day was imported.", "404 NoStatement")
     cashier.to("#/m/000001")
     cashier.press("Close this matter")
+    walk.has(cashier, "Close matter 000001 of Ada Chen?")
+    cashier.press("Close it for good")
     walk.has(cashier, "The matter holds money, or a payment waits", "409 NotEmpty")
     walk.send(cashier, "#/open", "Open it", matter="9", client="Eve Short", lawyer="lee")
     cashier.press("Close this matter")
-    walk.has(cashier, "Matter 000009 is closed.", "Purge the records")
-    walk.send(cashier, "#/m/000009", "Purge", again="9")
-    walk.has(cashier, "Type 000009.")
-    walk.send(cashier, "#/m/000009", "Purge", again="000009")
-    walk.has(cashier, "kept for five years", "2029-01-11")
+    cashier.press("Close it for good")
+    walk.has(cashier, "Matter 000009 is closed.", "The records are kept until 2029-01-1")
+    walk.lacks(cashier, "Purge")
     ada.to("#/m/000001/card")
     walk.has(ada, "LEDGER 000001 Ada Chen", "TOTAL")
     ada.to("#/report/journal")
@@ -366,16 +380,45 @@ def sign_on_as_another(walk: Walk) -> None:
 
 def lose_a_seat(walk: Walk) -> None:
     walk.cashier.to("#/m/000003/seats")
-    walk.cashier.press("Take the seat of lee away")
+    walk.cashier.press("Take the access of lee away")
+    walk.cashier.press("Take it away")
     walk.lee.to("#/")
-    walk.has(walk.lee, "You have no seat any more in 000003.")
-    walk.cashier.press("Take the seat of sato away")
+    walk.has(walk.lee, "You have no access any more to 000003.")
+    walk.cashier.press("Take the access of sato away")
+    walk.cashier.press("Take it away")
     walk.has(walk.cashier, "A matter keeps at least one lawyer.", "409 LastLawyer")
+
+
+def tell_doubts(walk: Walk) -> None:
+    """Facts that may mean a mistake are told before anything is booked, and refused by nobody."""
+    cashier, desk = walk.cashier, walk.firm.desk
+    cashier.to("#/m/000003/deposit")
+    cashier.fill(amount="2,500", source="Cleo Marsh", description="advance on costs")
+    before = desk.ask("cashier", "GET", "/matters/000003")
+    cashier.press_once("Book it")
+    walk.has(cashier, f"Entry 0001 of {DAY} is a deposit of 2,500.00 by Cleo Marsh too.", "Is it the same money?")
+    walk.checks.same("the matter", desk.ask("cashier", "GET", "/matters/000003"), before)
+    for payee in ("Petty cash", "ATM", "CASH or bearer"):
+        cashier.to("#/m/000003/propose")
+        cashier.fill(amount="900000", payee=payee, purpose="x", instrument="1003")
+        cashier.press_once("Propose it")
+        walk.has(cashier, f"{payee}: nobody is paid in cash from a trust account.", "is left of that fund now.",
+                 "Payment 0003 of matter 000002, 2,000.00, has the number 1003 too. Is it one check?")
+    walk.checks.same("the matter behind it", desk.ask("cashier", "GET", "/matters/000003"), before)
+    cashier.press_once("Propose it all the same")
+    walk.has(cashier, f"Booked on {DAY}: payment of 900,000.00 to CASH or bearer")
+    cashier.to("#/open")
+    cashier.fill(client="Dee Frost", lawyer="nobody")
+    cashier.press_once("Open it")
+    walk.has(cashier, "nobody is the lawyer of no other matter.")
+    cashier.fill(lawyer="lee")
+    cashier.press_once("Open it")
+    walk.has(cashier, "Dee Frost", "is open.")
 
 
 CHAPTERS = (open_matters, book_deposits, approve_too_early, bring_statements, dispute_a_fee, accept_an_offer,
             pay_from_funds, two_at_once, lose_an_answer, find_the_desk_closed, be_answered_late, keep_nothing,
-            write_spiteful_labels, read_and_close, sign_on_as_another, lose_a_seat)
+            write_spiteful_labels, read_and_close, sign_on_as_another, tell_doubts, lose_a_seat)
 
 
 def play(program: str, folder: pathlib.Path, checks: Checks) -> None:

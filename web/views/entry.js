@@ -2,6 +2,7 @@
 
 import { grouped, isMore, isNothing } from '../amounts.js';
 import { change } from '../asks.js';
+import { askFirst } from '../boxes.js';
 import { entryPath, matterPath } from '../desk.js';
 import { button, el, label, link, money, p, quiet } from '../elements.js';
 import { entryFacts } from '../entry-facts.js';
@@ -31,7 +32,12 @@ class Decisions {
 function depositDecision({ entry, role, decisions }) {
     if (role !== 'cashier' || entry.state !== 'held') return null;
     const words = `Cancel this deposit of ${grouped(entry.amount)}`;
-    return p(decisions.button('cancel', words, 'The deposit is cancelled.'));
+    return askFirst(words, {
+        question: `Cancel the deposit of ${grouped(entry.amount)} by ${shown(entry.source)}? It can\u2019t be taken `
+            + 'back: if the bank shows it after all, it is booked anew.',
+        yes: 'Cancel the deposit',
+        act: () => decisions.ask('cancel', 'The deposit is cancelled.'),
+    });
 }
 
 const NOT_ENOUGH = 'That is not enough: as it stands, approving is refused.';
@@ -55,7 +61,12 @@ function paymentDecision(asked) {
     if (entry.state === 'proposed') return quiet('A lawyer of the matter has to approve it.');
     if (role !== 'lawyer' || entry.state !== 'issued') return null;
     const what = `${grouped(entry.amount)} to ${shown(entry.payee)}`;
-    return p(decisions.button('void', `Void the payment of ${what}`, 'The payment is voided.'));
+    return askFirst(`Void the payment of ${what}`, {
+        question: `Void the payment of ${what}, ${shown(entry.instrument)}? It can\u2019t be taken back. Have a check `
+            + 'that is out stopped by the bank first: a voided one that is cashed all the same matches nothing.',
+        yes: 'Void the payment',
+        act: () => decisions.ask('void', 'The payment is voided.'),
+    });
 }
 
 function feeDecision({ no, entry, role }) {
@@ -102,11 +113,16 @@ export async function showEntry(page, no, number) {
     const place = el('div', {});
     const decisions = new Decisions(page, no, number, place);
     const asked = { page, no, matter, entry, role: roleIn(page, matter), decisions };
+    const decided = matter.closed ? null : await DECISIONS[entry.kind](asked);
+    // What undoes stands below all else, and never where what does it stood before.
+    const isUndoing = entry.state === 'issued' || entry.state === 'held';
     const parts = [
         entryFacts(entry),
         place,
-        matter.closed ? null : await DECISIONS[entry.kind](asked),
+        isUndoing ? null : decided,
         backTo(no),
+        isUndoing && decided && el('section', { class: 'undoing', 'aria-labelledby': 'undoing' },
+            el('h2', { id: 'undoing' }, 'If it was a mistake'), decided),
     ];
     return { title: [`${KINDS[entry.kind]} ${number} of matter ${no}, `, label(matter.client)], parts };
 }

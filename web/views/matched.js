@@ -37,4 +37,6 @@ export const matchedBox = (file, { written, inBook, left }) => noteBox(
     p(strong(`${file.name}: ${count(written, 'line', 'lines')} would be imported, ${inBook} in the book already, `
         + `${left} to be looked at.`)),
     p('Nothing was imported by this.'),
+    file.lines.some(({ reference, amount }) => reference === 'CLOSE' && amount.startsWith('-'))
+        && p('Its closing balance is below zero: look at it once more.'),
 );

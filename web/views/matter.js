@@ -2,15 +2,18 @@
 
 import { isNothing } from '../amounts.js';
 import { change } from '../asks.js';
+import { askFirst } from '../boxes.js';
 import { balanceOfCard } from '../balance.js';
 import { readCard } from '../card.js';
 import { chart } from '../chart.js';
 import { cardPath, entryPath, matterPath } from '../desk.js';
-import { button, el, facts, label, link, money, p, printed, readAgain, sums } from '../elements.js';
+import { el, explained, facts, label, link, money, p, printed, quiet, readAgain, sums } from '../elements.js';
 import { form } from '../forms.js';
+import { shown } from '../names.js';
+import { readRetention } from '../reports.js';
 import { MATTERS } from '../shelf.js';
 import { column, longTable } from '../tables.js';
-import { BALANCES, KINDS } from '../words.js';
+import { BALANCES, KINDS, meansOf } from '../words.js';
 import { entryLink, stateOf, waitingIn } from './cards.js';
 
 const NEWEST = 100;
@@ -39,9 +42,9 @@ const ACTIONS = {
     deposit: 'Book a deposit',
     propose: 'Propose a payment',
     fee: 'Earn a fee',
-    claim: 'Keep a claim apart',
+    claim: 'Hold for a lien or claim',
     dispute: 'Dispute a fee',
-    seats: 'Seats',
+    seats: 'Access',
     card: 'Accounting, to print',
 };
 
@@ -82,7 +85,7 @@ const purging = (page, no) => form({
         words: `Type ${no} to purge it`,
         keys: 'numeric',
         read: (typed) => (typed.trim() === no ? no : null),
-        hint: 'Seats and entries are taken away for good. Print the accounting first.',
+        hint: 'Access and entries are taken away for good. Print the accounting first.',
         wrong: `Type ${no}.`,
     }],
     action: 'Purge',
@@ -90,8 +93,21 @@ const purging = (page, no) => form({
         { path: `${matterPath(no)}/purge`, done: `Matter ${no} was purged.`, then: '#/report/retention', place }),
 });
 
-const closing = (page, no, place) => button('Close this matter', () => change(page,
-    { path: `${matterPath(no)}/close`, done: `Matter ${no} is closed.`, then: `#/m/${no}`, place }));
+// Nothing opens a matter again.
+const closing = (page, no, client, place) => askFirst('Close this matter', {
+    question: `Close matter ${no} of ${shown(client)}? It takes nothing any more, and can\u2019t be opened again. Its `
+        + 'records are kept for five years.',
+    yes: 'Close it for good',
+    act: () => change(page,
+        { path: `${matterPath(no)}/close`, done: `Matter ${no} is closed.`, then: `#/m/${no}`, place }),
+});
+
+// Purging is offered once it may be; until then it is said when that is.
+async function purgingOf(page, no) {
+    const kept = readRetention((await page.desk.get('/firm/retention')).text).find(({ matter }) => matter === no);
+    if (!kept || kept.mayGo) return purging(page, no);
+    return quiet(`The records are kept until ${kept.until}.`);
+}
 
 function remember(page, no) {
     const known = page.shelf.read(MATTERS);
@@ -111,15 +127,16 @@ export async function showMatter(page, no) {
         await waitingIn(page, [card], true),
         chart('The ledger by day, held deposits included', balanceOfCard(card), page.desk.day),
         entriesOf(card),
-        facts([['Opened', matter.opened], ['Closed', matter.closed], ['Seats', seats]]),
-        readAgain(page, isCashier && !card.closed && closing(page, no, place)),
-        isCashier && card.closed && purging(page, no),
+        facts([['Opened', matter.opened], ['Closed', matter.closed], ['Who has access', seats]]),
+        readAgain(page),
+        isCashier && !card.closed && closing(page, no, matter.client, place),
+        isCashier && card.closed && await purgingOf(page, no),
     ];
     return { title: [`Matter ${no}, `, label(matter.client)], parts };
 }
 
 export async function showCard(page, no) {
     const { text } = await page.desk.get(cardPath(no));
-    const parts = [printed(text, cardPath(no), `ledger-${no}.txt`), backTo(no)];
+    const parts = [explained(meansOf(['HELD', 'ISSUED'])), printed(text, cardPath(no), `ledger-${no}.txt`), backTo(no)];
     return { title: `Accounting of matter ${no}`, parts };
 }

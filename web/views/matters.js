@@ -39,7 +39,7 @@ export async function myMatters(page) {
     page.shelf.write(MATTERS, cards.map(({ matter }) => matter));
     if (!gone.length && cards.length === 1 && !location.hash) return onlyOne(page, cards[0]);
     const parts = [
-        gone.length > 0 && noteBox(p(`You have no seat any more in ${gone.join(', ')}.`)),
+        gone.length > 0 && noteBox(p(`You have no access any more to ${gone.join(', ')}.`)),
         cards.length > 0 && await waitingIn(page, cards),
         table('Matters', MATTER_COLUMNS, cards.map(matterCells)),
         another(page, cards.length),

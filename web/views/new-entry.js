@@ -2,7 +2,9 @@
 
 import { book, isUnanswered, newAsk } from '../asks.js';
 import { grouped, isNothing } from '../amounts.js';
+import { askAbout } from '../boxes.js';
 import { entryPath } from '../desk.js';
+import { doubtsOfDeposit, doubtsOfPayment } from '../doubts.js';
 import { label, p, quiet } from '../elements.js';
 import { amountField, choiceField, form, labelField } from '../forms.js';
 import { entryAfter, shown } from '../names.js';
@@ -11,11 +13,12 @@ import { backTo, hasLeft, readMatterWhole } from './matter.js';
 // The bank's line is matched by it.
 const SHOWN_BY_THE_BANK = 'With the number that the bank will print, such as: retainer, check 2291';
 
-const deposit = () => ({
+const deposit = ({ page, card }) => ({
     title: 'Book a deposit', kind: 'deposit', action: 'Book it',
     fields: [amountField(), labelField('source', 'Paid in by'),
         labelField('description', 'What for', { hint: SHOWN_BY_THE_BANK })],
     whatOf: ({ amount }) => `deposit of ${grouped(amount)}`,
+    doubtsOf: (values) => doubtsOfDeposit(values, card, page.desk.day),
 });
 
 const upTo = (card) => ({ hint: `At most ${grouped(card.balances.available)}, which is available` });
@@ -27,7 +30,7 @@ const fee = ({ card }) => ({
 });
 
 const claim = ({ card }) => ({
-    title: 'Keep a claim apart', kind: 'claim', action: 'Keep it apart',
+    title: 'Hold for a lien or claim', kind: 'claim', action: 'Hold it',
     fields: [amountField(upTo(card)), labelField('claimant', 'Who claims it'), labelField('reason', 'Why')],
     sentOf: (values) => ({ on: 'general', ...values }),
     whatOf: ({ amount }) => `claim of ${grouped(amount)}`,
@@ -58,11 +61,12 @@ async function settledClaims(page, no, card) {
 
 // What a payment can be drawn on, in words, and whom it pays where that is fixed.
 const fundsOf = (card, claims) => [
-    { value: 'general', words: `The general fund: ${grouped(card.balances.available)} available`, payee: '' },
+    { value: 'general', words: `The general fund: ${grouped(card.balances.available)} available`, payee: '',
+        left: card.balances.available },
     ...card.entries.filter(hasLeft).map(({ entry, left }) =>
-        ({ value: `fee ${entry}`, words: `Fee ${entry}: ${grouped(left)} left, paid to FIRM`, payee: 'FIRM' })),
-    ...claims.map(({ entry, left, claimant: payee }) =>
-        ({ value: `claim ${entry}`, words: `Claim ${entry}: ${grouped(left)} left, paid to ${shown(payee)}`, payee })),
+        ({ value: `fee ${entry}`, words: `Fee ${entry}: ${grouped(left)} left, paid to FIRM`, payee: 'FIRM', left })),
+    ...claims.map(({ entry, left, claimant: payee }) => ({ value: `claim ${entry}`,
+        words: `Claim ${entry}: ${grouped(left)} left, paid to ${shown(payee)}`, payee, left })),
 ];
 
 // To the desk the firm is FIRM alone, and `Firm` somebody whom the general fund pays. A claim pays whom it names.
@@ -87,6 +91,8 @@ async function propose({ page, no, card, fund, of }) {
             return { from: name, ...(drawn && { of: drawn }), payee: payeeOfDesk(payee, name), ...values };
         },
         whatOf: ({ amount, payee }) => `payment of ${grouped(amount)} to ${shown(payee)}`,
+        doubtsOf: (values) =>
+            doubtsOfPayment(page, values, card, funds.find(({ value }) => value === values.from)?.left),
         prepare(made) {
             const { from, payee } = made.elements;
             from.addEventListener('change', () => { payee.value = payeeOf(from.value); });
@@ -112,7 +118,14 @@ export async function newEntry(page, no, verb, fund = null, of = null) {
         fields: asked.fields,
         action: asked.action,
         before: quiet(`This will be entry ${entry} of matter ${no}, `, label(matter.client), '.'),
-        submit: (values, place) => book(page, askOf(values), place),
+        async submit(values, place) {
+            page.say('Reading');
+            const doubts = await asked.doubtsOf?.(values) ?? [];
+            page.say('');
+            const send = () => book(page, askOf(values), place);
+            if (doubts.length) askAbout(place, doubts, `${asked.action} all the same`, send);
+            else await send();
+        },
     });
     asked.prepare?.(made);
     return { title: asked.title, parts: [asked.about && p(asked.about), made, backTo(no)] };

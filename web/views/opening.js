@@ -1,7 +1,10 @@
 // A new matter. The next number that is in no list is proposed; a purged one is in none, and is refused.
 
 import { change } from '../asks.js';
+import { askAbout } from '../boxes.js';
 import { matterPath } from '../desk.js';
+import { doubtsOfLawyer } from '../doubts.js';
+import { link, p } from '../elements.js';
 import { form, labelField, matterField, personField } from '../forms.js';
 import { matterAfter } from '../names.js';
 import { readRetention, readTrial } from '../reports.js';
@@ -9,7 +12,8 @@ import { readRetention, readTrial } from '../reports.js';
 export async function openMatter(page) {
     const paths = ['/firm/trial-balance', '/firm/retention'];
     const [trial, retention] = await Promise.all(paths.map((path) => page.desk.get(path)));
-    const taken = [...readTrial(trial.text).matters, ...readRetention(retention.text)].map(({ matter }) => matter);
+    const open = readTrial(trial.text).matters.map(({ matter }) => matter);
+    const taken = [...open, ...readRetention(retention.text).map(({ matter }) => matter)];
     const made = form({
         fields: [
             matterField({
@@ -19,8 +23,17 @@ export async function openMatter(page) {
             personField('lawyer', 'First lawyer'),
         ],
         action: 'Open it',
-        submit: ({ matter, client, lawyer }, place) => change(page, { path: `${matterPath(matter)}/open`,
-            fields: { client, lawyer }, done: `Matter ${matter} is open.`, then: `#/m/${matter}`, place }),
+        async submit({ matter, client, lawyer }, place) {
+            page.say('Reading');
+            const doubts = await doubtsOfLawyer(page, lawyer, open);
+            page.say('');
+            const send = () => change(page, { path: `${matterPath(matter)}/open`, fields: { client, lawyer },
+                done: `Matter ${matter} is open.`, then: `#/m/${matter}`, place });
+            if (doubts.length) askAbout(place, doubts, 'Open it all the same', send);
+            else await send();
+        },
     });
-    return { title: 'New matter', parts: [made] };
+    const more = p('Many at once, or a day\u2019s deposits and payments: ',
+        link('#/records', 'send a file of records'), '.');
+    return { title: 'New matter', parts: [made, more] };
 }

@@ -1,4 +1,4 @@
-// What the cashier sees first: the account by day, what waits, and all matters.
+// What the cashier sees first: what waits for a lawyer and for the bank, the account by day, and all matters.
 
 import { balanceOfJournal } from '../balance.js';
 import { noteBox } from '../boxes.js';
@@ -73,10 +73,10 @@ export async function overview(page) {
         otherDay(page.desk.day),
         sumsOf(books, countLines(exceptions.text)),
         places.waiting,
+        places.bank,
         chart('The account by day, as the journal has it', balanceOfJournal(journal.text), page.desk.day),
         rows.size > MANY && findIn(rows),
         table(`Matters: ${rows.size}`, MATTER_COLUMNS, [...rows.values()]),
-        places.bank,
         closedTable(readRetention(retention.text)),
         readAgain(page),
     ];

@@ -2,11 +2,12 @@
 
 import { grouped, isNothing } from '../amounts.js';
 import { doneBox, noteBox, refusedBox, warningBox } from '../boxes.js';
-import { button, link, number, p, printed } from '../elements.js';
+import { button, explained, link, number, p, printed, strong } from '../elements.js';
 import { form } from '../forms.js';
 import { dayBefore, readDay } from '../names.js';
-import { dayOf, readFigures } from '../reports.js';
+import { dayOf, readBreaks, readFigures } from '../reports.js';
 import { STATEMENT } from '../shelf.js';
+import { meansOf } from '../words.js';
 
 // The desk has no list of days, so it is asked backwards from today, for so many.
 const DAYS_BACK = 100;
@@ -52,9 +53,23 @@ function resultBox(figures) {
         return warningBox(`A gap of ${grouped(gap)} is explained by nothing. Find it before the month is filed.`, more,
             slips);
     }
-    return doneBox(isNothing(difference) ? 'Bank, journal and ledgers agree.'
-        : 'Bank and journal differ, and what they differ by is explained.', more);
+    if (!isNothing(exceptions)) {
+        return warningBox(`Lines of the bank that match nothing come to ${grouped(exceptions)}.`, more,
+            p(link('#/report/exceptions', 'Give each its entry'), ', or know why it stays.'));
+    }
+    if (isNothing(difference)) return doneBox('Bank, journal and ledgers agree.');
+    return noteBox(p(strong('Bank and journal differ by days alone: what the bank had early was booked later.')), more);
 }
+
+// An opening balance has to be the closing one before.
+const breaksBox = (breaks) => breaks.length > 0 && warningBox(
+    'A statement does not begin where the one before ended.',
+    breaks.map(({ day, opening, before, closing }) => p('It opens with ', grouped(opening), ' on ', number(day),
+        ', after a closing balance of ', grouped(closing), ' on ', number(before), '. A statement between the two is '
+        + 'missing, or one of the balances was mistyped.')));
+
+const EXPLAINED = ['CLOSING', 'IN TRANSIT', 'OUTSTANDING', 'ADJUSTED BANK', 'JOURNAL', 'LEDGERS', 'DIFFERENCE',
+    'EXCEPTIONS', 'EARLY', 'GAP', 'DOUBLE', 'OPENING'];
 
 export async function reconciliation(page, day = null) {
     const asked = dayForm(page, day ?? page.shelf.read(STATEMENT)[0]);
@@ -64,6 +79,7 @@ export async function reconciliation(page, day = null) {
     }
     const path = `/firm/reconciliation/${day}`;
     const { text } = await page.desk.get(path);
-    const parts = [resultBox(readFigures(text)), printed(text, path, `reconciliation-${day}.txt`), asked];
+    const parts = [breaksBox(readBreaks(text)), resultBox(readFigures(text)), explained(meansOf(EXPLAINED)),
+        printed(text, path, `reconciliation-${day}.txt`), asked];
     return { title: ['Reconciliation of ', number(day)], parts };
 }

@@ -1,8 +1,9 @@
 // The seats of a matter, which the cashier gives and takes.
 
 import { change } from '../asks.js';
+import { askFirst } from '../boxes.js';
 import { matterPath } from '../desk.js';
-import { button, el, p } from '../elements.js';
+import { el, p } from '../elements.js';
 import { choiceField, form, personField } from '../forms.js';
 import { column, table } from '../tables.js';
 import { backTo } from './matter.js';
@@ -13,23 +14,27 @@ export async function seats(page, no) {
     const then = `#/m/${no}/seats`;
     const place = el('div', {});
     const drop = (person) => change(page,
-        { path: `${path}/drop`, fields: { person }, done: `${person} has no seat any more.`, then, place });
-    const take = (person) => button(`Take the seat of ${person} away`, () => drop(person));
+        { path: `${path}/drop`, fields: { person }, done: `${person} has no access any more.`, then, place });
+    const take = (person) => askFirst(`Take the access of ${person} away`, {
+        question: `Take the access of ${person} to matter ${no} away? ${person} sees nothing of it any more.`,
+        yes: 'Take it away',
+        act: () => drop(person),
+    });
     const roles = [['client', 'client'], ['lawyer', 'lawyer']];
     const give = form({
-        title: 'Give a seat',
+        title: 'Give access',
         fields: [personField('person', 'Person'), choiceField('role', 'Role', roles)],
-        action: 'Give the seat',
+        action: 'Give access',
         submit: (fields, at) =>
-            change(page, { path, fields, done: `${fields.person} has a seat as ${fields.role}.`, then, place: at }),
+            change(page, { path, fields, done: `${fields.person} has access as ${fields.role}.`, then, place: at }),
     });
     const parts = [
         place,
-        table('Who has a seat', [column('Person', 'tight'), column('Role', 'tight'), column('Change')],
+        table('Who has access', [column('Person', 'tight'), column('Role', 'tight'), column('Change')],
             matter.seats.map(({ person, role }) => [person, role, take(person)])),
         give,
         p('Send the person this address: ', el('code', {}, `${location.origin}/#/m/${no}`)),
         backTo(no),
     ];
-    return { title: `Seats in matter ${no}`, parts };
+    return { title: `Access to matter ${no}`, parts };
 }

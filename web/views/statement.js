@@ -3,6 +3,7 @@
 
 import { readAtBank } from '../at-bank.js';
 import { grouped } from '../amounts.js';
+import { kindOf } from '../bank/file.js';
 import { BankFile } from '../bank-file.js';
 import { doneBox, failedBox, noteBox, tellRefusal, warningBox } from '../boxes.js';
 import { ownWith, referencesIn, tooMuchOwn } from '../candidates.js';
@@ -16,11 +17,12 @@ import { STATEMENT } from '../shelf.js';
 import { dismissOffers } from './exceptions.js';
 import { LeftLines, reasonWords, referenceLink } from './left.js';
 import { countWrong, matchedBox, writtenTable } from './matched.js';
+import { Taking } from './taking.js';
 
 const GREATEST = 4194304;
 
 const EMPTY = 'Choose a file.';
-const TOO_LARGE = 'The file has more than 4,194,304 bytes: bring it in parts, each with the first line.';
+const TOO_LARGE = 'The file has more than 4,194,304 bytes: bring it in parts.';
 const NOT_READ = 'The file was changed or moved since it was chosen: choose it again.';
 const STILL_READ = 'A long statement may still be read. Wait some minutes, then bring the same file in again: '
     + 'its lines are applied once.';
@@ -29,20 +31,29 @@ const CHANGED = 'The book has changed since this was matched. Nothing was import
 const CHOSEN = 'What you decided is in the list now. Nothing was imported yet: look at it, and import.';
 const WRONG = 'Some of these lines match nothing as they stand: they are told below. Mend them first, or they become '
     + 'exceptions.';
-const HINT = 'First line: date,reference,bank_ref,amount,text. At most 4,194,304 bytes. '
-    + 'The same file may come again: nothing is counted twice.';
+const HINT = 'As the bank gives it: OFX, QFX, QBO, camt.053 or CSV; or a statement of this program. At most 4,194,304 '
+    + 'bytes. The same file may come again: nothing is counted twice.';
+const NO_TEXT = 'This is no bank\u2019s file: of a PDF or a spreadsheet nothing can be read. Take OFX, camt.053 or '
+    + 'CSV.';
+const ACCEPTED = '.csv,.txt,.ofx,.qfx,.qbo,.xml,text/csv';
 const CHOICE = "Match fills in the references that the bank's words make sure, and imports nothing. "
-    + 'Bring it in imports the file as it is.';
+    + 'Import as it is imports the file as it is.';
 
 function wrongWith(file) {
     if (!file) return EMPTY;
     return file.size > GREATEST ? TOO_LARGE : '';
 }
 
+// A text has no zero byte, and begins like none of these.
+function isNoText(bytes) {
+    const front = textOf(bytes.subarray(0, 8));
+    return bytes.includes(0) || front.startsWith('%PDF') || front.startsWith('PK\u0003\u0004');
+}
+
 // The counts in words. The desk tells how many lines were not readable, and not which.
 function countsBox(name, told) {
     const isWell = told.exceptions === 0 && told.unreadable === 0;
-    return (isWell ? doneBox : warningBox)(`${name} was brought in.`,
+    return (isWell ? doneBox : warningBox)(`${name} was imported.`,
         facts([
             ['Lines that found their place', String(told.applied)], ['Were there already', String(told.repeated)],
             ['Match nothing (exceptions)', String(told.exceptions)], ['Not readable', String(told.unreadable)],
@@ -146,10 +157,11 @@ class Statement {
         this.file = BankFile.kept(page.shelf);
         this.isBusy = false;
         this.asks = 0;
-        this.input = el('input', { type: 'file', id: 'file', name: 'file', accept: '.csv,text/csv',
+        this.input = el('input', { type: 'file', id: 'file', name: 'file', accept: ACCEPTED,
             'aria-describedby': 'file-hint file-error' });
         this.error = el('p', { class: 'error', id: 'file-error', 'aria-live': 'polite' });
         this.kept = el('div', {});
+        this.place = el('div', {});
         this.told = el('div', {});
         this.lists = el('div', {});
         this.showKept();
@@ -192,26 +204,59 @@ class Statement {
         this.tell(noteBox(p('The file is kept no more. What was imported stays in the book.')));
     }
 
-    // The file that was chosen takes the place of the one that is kept. Null where there is none, or it can't be taken.
-    async take() {
+    // The bytes of the file that was chosen or dropped; null where they can't be taken, which is said.
+    async read(chosen) {
+        this.error.textContent = wrongWith(chosen);
+        let bytes = null;
+        try {
+            if (!this.error.textContent) bytes = new Uint8Array(await chosen.arrayBuffer());
+        } catch {
+            this.error.textContent = NOT_READ;
+        }
+        if (bytes && isNoText(bytes)) this.error.textContent = NO_TEXT;
+        if (!this.error.textContent) return bytes;
+        this.tell();
+        this.input.focus();
+        return null;
+    }
+
+    // Takes the file that was chosen, in the place of the one that is kept, and then does something with it. Of a
+    // bank's own file it is shown first what it has.
+    async take(action) {
         const [chosen] = this.input.files;
-        this.error.textContent = this.file && !chosen ? '' : wrongWith(chosen);
-        if (!this.error.textContent && chosen) {
-            try {
-                const bytes = new Uint8Array(await chosen.arrayBuffer());
-                this.file = BankFile.chosen(this.page.shelf, chosen.name, bytes);
-            } catch {
-                this.error.textContent = NOT_READ;
-            }
+        this.lists.replaceChildren();
+        this.place.replaceChildren();
+        if (this.file && !chosen) {
+            this.error.textContent = '';
+            await action();
+            return;
         }
-        if (this.error.textContent) {
-            this.tell();
-            this.input.focus();
-            return null;
-        }
+        const bytes = await this.read(chosen);
+        if (!bytes) return;
         this.input.value = '';
+        if (kindOf(bytes) === 'statement') await this.keep(chosen.name, textOf(bytes), action);
+        else this.showBankFile(chosen.name, bytes);
+    }
+
+    async keep(name, text, action) {
+        if (text.length > GREATEST) {
+            this.error.textContent = TOO_LARGE;
+            return;
+        }
+        this.file = BankFile.taken(this.page.shelf, name, text);
         this.showKept();
-        return this.file;
+        await action();
+    }
+
+    showBankFile(name, bytes) {
+        this.tell();
+        const take = (text) => this.run(async () => {
+            this.place.replaceChildren();
+            await this.keep(name, textOf(new TextEncoder().encode(text)), () => this.match());
+        });
+        const taking = new Taking({ page: this.page, name, bytes, take });
+        this.place.replaceChildren(taking.element);
+        taking.element.querySelector('select, input, button')?.focus();
     }
 
     refuse(answer, ...more) {
@@ -326,7 +371,7 @@ class Statement {
     async bringAll(isAsked = false) {
         const open = this.file.countOpen();
         if (open && !isAsked) {
-            const all = button('Bring it in as it is', () => this.run(() => this.bringAll(true)));
+            const all = button('Import them as exceptions', () => this.run(() => this.bringAll(true)));
             this.tell(noteBox(p(`Lines without a reference: ${open}. Brought in so they are exceptions. `
                 + 'Match the file first.'), p(all)));
             return;
@@ -336,16 +381,18 @@ class Statement {
     }
 
     form() {
-        const begin = (action) => this.run(async () => {
-            this.lists.replaceChildren();
-            if (await this.take()) await action();
-        });
+        const begin = (action) => this.run(() => this.take(action));
+        const drop = (event) => {
+            event.preventDefault();
+            if (event.dataTransfer.files.length) this.input.files = event.dataTransfer.files;
+        };
         const submit = (event) => {
             event.preventDefault();
             return begin(() => this.match());
         };
-        return el('form', { class: 'form', submit }, el('div', { class: 'field' },
-            el('label', { for: 'file' }, "The bank's statement, as CSV"),
+        return el('form', { class: 'form', submit, drop, dragover: (event) => event.preventDefault() },
+            el('div', { class: 'field' },
+            el('label', { for: 'file' }, "The bank's file: choose it, or drop it here"),
             el('p', { class: 'hint', id: 'file-hint' }, HINT),
             this.input,
             this.error),
@@ -353,12 +400,12 @@ class Statement {
         el('p', { class: 'hint' }, CHOICE),
         el('div', { class: 'buttons' },
             el('button', { type: 'submit' }, 'Match'),
-            button('Bring it in', () => begin(() => this.bringAll()))));
+            button('Import as it is', () => begin(() => this.bringAll()))));
     }
 }
 
 export function statement(page) {
     const view = new Statement(page);
     const later = () => (view.file ? view.run(() => view.match(true)) : null);
-    return { title: 'Bank statement', parts: [view.form(), view.told, view.lists], later };
+    return { title: 'Bank statement', parts: [view.form(), view.place, view.told, view.lists], later };
 }

@@ -1,0 +1,59 @@
+"""A file of records is sent by the page: what is wrong is told before anything is sent, it goes on where it stopped,
+and nothing is booked twice."""
+import json
+import pathlib
+
+from .browser import Browser
+from .checks import Checks
+from .firm import Desk, Fault, Firm
+from .views import look
+
+DAY = "2026-03-16"
+SHEET = "".join(f"open,{each:06},,Client {each},lee\ndeposit,{each:06},0001,{each}00.00,Client {each},retainer\n"
+                for each in range(1, 9)) + 'propose,000001,0002,10.00,general,,"Clerk, Court",filing fee,1001\n'
+WRONG = "withdraw,000001,0002\ndeposit,1,0001,5.00,a,b\ndeposit,000001,,5.00,a,b\ndeposit,000001,0001,5.00,a\n"
+
+
+def choose(browser: Browser, folder: pathlib.Path, text: str) -> None:
+    path = folder / "sheet.csv"
+    path.write_text(text, encoding="utf-8")
+    browser.to("#/records")
+    browser.find("#records")[0].send_keys(str(path))
+    browser.press("Look at it")
+
+
+def has(checks: Checks, browser: Browser, *words: str) -> None:
+    text = browser.text()
+    for each in words:
+        checks.so(f"the page says {each!r}", each in text, text)
+
+
+def play(program: str, folder: pathlib.Path, checks: Checks) -> None:
+    firm = Firm(Desk(program, folder / "book.db", DAY), folder / "front")
+    browser = Browser("cashier", firm.origin)
+    try:
+        browser.to("#/records")
+        browser.press("Look at it")
+        has(checks, browser, "Choose a file.")
+        choose(browser, folder, WRONG)
+        has(checks, browser, "Nothing of sheet.csv was sent.", "4 of 4 records are none.", "there is no verb withdraw",
+            "1 is no matter: write six digits", "(empty) is no entry", "deposit has 6 fields, and here are 5")
+        choose(browser, folder, SHEET)
+        has(checks, browser, "sheet.csv has 17 records. Nothing was sent yet.")
+        firm.relay.fail("POST .*/000005/.*/deposit", Fault("lost"))
+        browser.press("Send these 17")
+        has(checks, browser, "9 of 17 records were answered, 0 refused.", "It stopped at record 10", "Go on")
+        browser.press("Go on")
+        has(checks, browser, "17 of 17 records were answered, 0 refused.", "done, or in the book already", "booked")
+        look(browser, "the file of records", checks)
+        told = json.loads(firm.desk.ask("cashier", "GET", "/matters/000005")[1])
+        checks.same("the entries of a matter whose answer was lost", (told["entries"], told["held"]), (1, "500.00"))
+        choose(browser, folder, SHEET + "deposit,000001,0009,5.00,a,b\n")
+        browser.press("Send these 18")
+        has(checks, browser, "18 of 18 records were answered, 9 refused.", "409 WrongNumber", "409 AlreadyOpen")
+        told = json.loads(firm.desk.ask("cashier", "GET", "/matters/000001")[1])
+        checks.same("the entries of a matter that was sent twice", told["entries"], 2)
+        checks.same("the browser's log", browser.faults(), [])
+    finally:
+        browser.quit()
+        firm.end()
