@@ -21,7 +21,7 @@ ROOT = pathlib.Path(__file__).resolve().parent.parent.parent
 CONFIGURATION = ROOT / "examples" / "operations" / "nginx.conf"
 PEOPLE = ["cashier", "lee", "sato", "ada", "bob", "cleo", "eve", "Lee"]
 STARTED = 10_800  # ./cashier may prove and build the program first
-LATE = 6  # seconds until nginx gives up, in the place of the configuration's
+LATE = 15  # seconds until nginx gives up, in the place of the configuration's
 HEAD = "date,reference,bank_ref,amount,text\n"  # the first line of a statement
 
 Answer = tuple[int, str, dict[str, str]]
