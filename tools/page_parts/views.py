@@ -105,10 +105,10 @@ class Keyboard:
             self.browser.focused().send_keys(each)
 
     def tab_to(self, words: str) -> None:
-        """To a link or button with these words, or to a field of this name."""
+        """To a link or button of these words alone, or to a field of this name."""
         for _ in range(80):
             now = self.browser.focused()
-            if (now.tag_name in ("a", "button") and words in now.text) or words == now.get_attribute("name"):
+            if (now.tag_name in ("a", "button") and words == now.text) or words == now.get_attribute("name"):
                 return
             self.type(Keys.TAB)
         raise AssertionError(f"no key leads to {words}")
