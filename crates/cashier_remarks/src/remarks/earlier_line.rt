@@ -105,11 +105,11 @@ impl AppliedLines {
 
 /// Reports which of the lines that an import of the statement at a path applied stand on something else too, and which
 /// fault kept that from being read, if any. The book is only read, and not at all if no line was applied.
-pub fn tell_of_earlier<F: Folder, M: Remarks, B: Book>(
-    folder: &F,
-    path: &str,
+pub fn tell_of_earlier<'a, F: Folder, M: Remarks, B: Book>(
+    folder: &'a F,
+    path: &'a str,
     today: Day,
-    remarks: &M,
+    remarks: &'a M,
     applied: &AppliedLines,
     desk: &mut Desk<B>,
 )
