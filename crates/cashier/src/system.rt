@@ -72,7 +72,8 @@ impl<'a, R: Eprint + AllocGlobal> SystemRemarks<'a, R> {
         }
     }
 
-    // Adds a remark to what is held. Whether it could: not if it is too much, or if memory runs out.
+    // Adds a remark to what is held. Whether it could: not if it is too much, or if memory runs out. Then what is held
+    // is shown, and nothing is held from then on.
     fn hold(&self, remark: &Remark<'_>) -> bool {
         let Ok(mut held) = self.held.try_borrow_mut() else {
             return false;
@@ -84,7 +85,10 @@ impl<'a, R: Eprint + AllocGlobal> SystemRemarks<'a, R> {
         if length < MAX_HELD && writeln!(text, "cashier: {remark}").is_ok() {
             return true;
         }
-        text.truncate(length);
+        // What was written of it is left out.
+        let front = text.get(..length).unwrap_or("");
+        let _ = eprint!(self.rt; "{front}");
+        *held = None;
         false
     }
 }
@@ -92,7 +96,6 @@ impl<'a, R: Eprint + AllocGlobal> SystemRemarks<'a, R> {
 impl<R: Eprint + AllocGlobal> Remarks for SystemRemarks<'_, R> {
     fn tell(&self, remark: &Remark<'_>) {
         if !self.hold(remark) {
-            self.show_at_once();
             let _ = eprintln!(self.rt; "cashier: {remark}");
         }
     }

@@ -73,7 +73,8 @@ loop-row-preserved g c =
       kept = book-then inv.kept c.in-Ok-run_record.ensures.kept;
       going = λ sure clean stands.
           let so = inv.going (c.in-Ok-run_record.ensures.kept.was_sure sure) clean stands in
-          going-more _ _ _ refl so (c.in-Ok-run_record.ensures.crash sure so.0 (inv.kept.still_stands so.0 stands));
+          going-more (g.B.Book.seen c.args.desk.now) (g.B.Book.seen c.loop-row.desk)
+          (g.B.Book.seen c.run_record.new.desk) refl so (c.in-Ok-run_record.ensures.crash sure so.0 (inv.kept.still_stands so.0 stands));
       left = (
         z,
         at_z,
