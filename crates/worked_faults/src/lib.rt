@@ -1,6 +1,6 @@
 //! Tests. Readers, writers and books fail at each call, under streams of messages, day sheets and statements. Files,
 //! books and networks refuse a run of the cashier's program, from its words to its outcome. Clients connect in
-//! virtual time. Days of a firm go over a book in memory, and figures are asked of rows in memory.
+//! virtual time. Figures are asked of rows in memory.
 #![tactic(auto)]
 
 #[cfg(test)]
@@ -15,8 +15,6 @@ mod clients;
 mod clock;
 #[cfg(test)]
 mod closes;
-#[cfg(test)]
-mod days;
 #[cfg(test)]
 mod ends;
 #[cfg(test)]
