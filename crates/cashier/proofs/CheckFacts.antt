@@ -1,5 +1,5 @@
 -- What a check that was printed says of the firm, and what its reads leave of the book.
-use Rattle.cashier.proofs.Names.{◌≡◌, ◌⊎◌, ℕ, List, Option, Result, Err, IfOk, OnOk, inl, inr, StoreFault, Firm, Seen, IsAny, LeavesBook, Outcome, arith, ints, nat_tests}
+use Rattle.cashier.proofs.Names.{◌≡◌, ◌⊎◌, ℕ, List, Option, Result, Err, IfOk, OnOk, inl, inr, StoreFault, Firm, Seen, IsAny, KeepsBook, Outcome, arith, ints, nat_tests}
 use Rattle.trust_base.specs.declared.refusal.StoreFault.TheVariants as faults
 use Rattle.trust_desk.specs.Checking.{AreReads}
 use Rattle.cashier.specs.Check.{CheckEnds, IsCheckTrue, IsSaid, IsSaidRefused, IsSaidSound, IsSaidUnsound, IsTrueOf, IsUnsoundBy, PrintsCheck, found_outcome}
@@ -44,5 +44,5 @@ pub said-ok : (told : Result CheckFound StoreFault) (old new : Option (List ℕ)
 said-ok told old new P said on = rw said.is at on
 
 -- reads of which any may have been refused
-pub reads-leave : {old new : Seen} → AreReads old new → LeavesBook IsAny old new
+pub reads-leave : {old new : Seen} → AreReads old new → KeepsBook IsAny old new
 reads-leave h = grind (arith, ints, nat_tests)

@@ -9,7 +9,8 @@ use Rattle.trust_store.specs.Seen.{Seen}
 use Rattle.portal_http.specs.Clients.{Ports}
 use Rattle.command_line.specs.Program.{Means, MeansCheck, MeansNothing, db_of}
 use Rattle.command_line.specs.declared.command.Task.{Task}
-use Rattle.cashier.specs.Calls.{CountsStoreIn, LeavesBook}
+use Rattle.cashier.specs.Calls.{CountsStoreIn}
+use Rattle.trust_desk.specs.Calls.{KeepsBook}
 use Rattle.cashier.specs.Check.{IsCheckTrue}
 use Rattle.cashier.specs.Crashes.{LeavesRun}
 use Rattle.cashier.specs.Outcome.{HasBegun, Ran, put_outcome, store_outcome}
@@ -43,7 +44,7 @@ module _ {B W : Type 0} (seen : B → Seen) where
     pub serves : (seen before).sure → (seen before).clean
     pub after : B
     pub ended : Outcome
-    pub kept : LeavesBook (CountsStoreIn words ended) (seen before) (seen after)
+    pub kept : KeepsBook (CountsStoreIn words ended) (seen before) (seen after)
     pub sound : (seen after).clean → (seen before).stands → FirmSound (seen after).firm
     pub ran : (seen after).clean → (seen before).stands
         → Ran words input known opens ports (seen before).firm (seen after).firm old new ended

@@ -2,7 +2,7 @@
 
 ghost use Rattle.std.specs.Prelude.{◌≡◌, ◌≢◌, ◌⊎◌, ◌↔◌, IfOk, IfSome, OnOk, Ok, Err, None, Some};
 ghost use Rattle.std.specs.Io.KnownBytes.{Appends};
-ghost use Rattle.cashier.specs.Calls.{IsAny, LeavesBook};
+ghost use Rattle.trust_desk.specs.Calls.{IsAny, KeepsBook};
 ghost use Rattle.cashier.specs.Check.{CheckEnds, IsCheckTrue, IsSaid, IsSaidRefused, IsTrueOf, PrintsCheck, check_text};
 ghost use Rattle.cashier.specs.Check.{counts_text, flaw_text, found_outcome, unread_text};
 ghost use Rattle.firm_audit.specs.Flaws.{IsFlawOf};
@@ -253,7 +253,7 @@ pub fn run_check<M: Remarks, W: Write, B: Book>(
     ensures ends { (B.seen desk.new).clean → (B.seen desk.old).stands
         → CheckEnds (B.seen desk.old).firm (B.seen desk.new).firm (W.contents writer.old) (W.contents writer.new)
         result }
-    ensures kept { LeavesBook IsAny (B.seen desk.old) (B.seen desk.new) }
+    ensures kept { KeepsBook IsAny (B.seen desk.old) (B.seen desk.new) }
     ensures serves { result ≡ Outcome.Done → (B.seen desk.new).sure → (B.seen desk.new).clean }
     ensures crash { (B.seen desk.new).clean → (B.seen desk.old).stands
         → LeavesOr (B.seen desk.old).firm (B.seen desk.old).leaves (B.seen desk.new).leaves }

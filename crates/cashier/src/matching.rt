@@ -3,7 +3,8 @@
 ghost use Rattle.std.specs.Prelude.{◌≡◌, ◌≢◌, Err, IfSome, Some};
 ghost use Rattle.trust_base.specs.declared.refusal.Refusal.TheVariants as refusals;
 ghost use Rattle.trust_store.specs.Crashes.{LeavesOr};
-ghost use Rattle.cashier.specs.Calls.{CountsStore, LeavesBook};
+ghost use Rattle.cashier.specs.Calls.{CountsStore};
+ghost use Rattle.trust_desk.specs.Calls.{KeepsBook};
 ghost use Rattle.cashier.specs.Matching.{IsFound, MatchEnds, PrintsFound};
 ghost use Rattle.cashier.specs.Outcome.{MatchFileEnds};
 
@@ -29,7 +30,7 @@ fn found_in<R: Read + Drop, B: Book>(
         → IfSome result (IsFound today (B.seen desk.old).firm file.length (R.remaining file.reader)) }
     ensures same { (B.seen desk.new).clean → (B.seen desk.old).stands
         → (B.seen desk.new).firm ≡ (B.seen desk.old).firm }
-    ensures kept { LeavesBook (CountsStore (Some (Err refusals.Store)) result) (B.seen desk.old)
+    ensures kept { KeepsBook (CountsStore (Some (Err refusals.Store)) result) (B.seen desk.old)
         (B.seen desk.new) }
     ensures crash { (B.seen desk.new).sure → (B.seen desk.old).clean → (B.seen desk.old).stands
         → LeavesOr (B.seen desk.old).firm (B.seen desk.old).leaves (B.seen desk.new).leaves }
@@ -94,7 +95,7 @@ fn match_in<R: Read + Drop, F: Folder, M: Remarks, W: Write, B: Book>(
     ensures ends { (B.seen desk.new).clean → (B.seen desk.old).stands
         → MatchEnds today (B.seen desk.old).firm file.length (R.remaining file.reader) (B.seen desk.new).firm
         (W.contents writer.old) (W.contents writer.new) result }
-    ensures kept { LeavesBook (CountsStore Outcome.StoreFault result) (B.seen desk.old) (B.seen desk.new) }
+    ensures kept { KeepsBook (CountsStore Outcome.StoreFault result) (B.seen desk.old) (B.seen desk.new) }
     ensures crash { (B.seen desk.new).sure → (B.seen desk.old).clean → (B.seen desk.old).stands
         → LeavesOr (B.seen desk.old).firm (B.seen desk.old).leaves (B.seen desk.new).leaves }
 {
@@ -128,7 +129,7 @@ pub fn run_match<'a, F: Folder, M: Remarks, W: Write, B: Book>(
         (B.seen desk.new).firm (W.contents writer.old) (W.contents writer.new) result }
 
     // It ends with `StoreFault` only if a call of the book returned `Store`.
-    ensures kept { LeavesBook (CountsStore Outcome.StoreFault result) (B.seen desk.old) (B.seen desk.new) }
+    ensures kept { KeepsBook (CountsStore Outcome.StoreFault result) (B.seen desk.old) (B.seen desk.new) }
     ensures crash { (B.seen desk.new).sure → (B.seen desk.old).clean → (B.seen desk.old).stands
         → LeavesOr (B.seen desk.old).firm (B.seen desk.old).leaves (B.seen desk.new).leaves }
 {

@@ -3,7 +3,8 @@
 ghost use Rattle.std.specs.Prelude.{◌≡◌, ◌≢◌, ◌⊎◌, ℕ, IfErr, IfOk, List, map};
 ghost use Rattle.std.specs.String.{string_bytes};
 ghost use Rattle.clap.specs.Words.{Text};
-ghost use Rattle.cashier.specs.Calls.{CountsStore, CountsStoreIn, LeavesBook};
+ghost use Rattle.cashier.specs.Calls.{CountsStore, CountsStoreIn};
+ghost use Rattle.trust_desk.specs.Calls.{KeepsBook};
 ghost use Rattle.cashier.specs.Check.{IsCheckTrue};
 ghost use Rattle.cashier.specs.Crashes.{LeavesClients, LeavesItems, LeavesRun};
 ghost use Rattle.cashier.specs.Outcome.{FileEnds, Ran, words_outcome};
@@ -76,7 +77,7 @@ fn import_file<F: Folder, M: Remarks, W: Write, B: Book>(
     ensures ends { (B.seen desk.new).clean → (B.seen desk.old).stands
         → FileEnds today (B.seen desk.old).firm (F.known folder.now path.now) (F.opens folder.now path.now)
         (B.seen desk.new).firm (W.contents writer.old) (W.contents writer.new) result }
-    ensures kept { LeavesBook (CountsStore Outcome.StoreFault result) (B.seen desk.old) (B.seen desk.new) }
+    ensures kept { KeepsBook (CountsStore Outcome.StoreFault result) (B.seen desk.old) (B.seen desk.new) }
     ensures crash { (B.seen desk.new).sure → (B.seen desk.old).clean → (B.seen desk.old).stands
         → LeavesItems B.seen today (F.known folder.now path.now) (F.opens folder.now path.now) desk.old result
         desk.new }
@@ -111,7 +112,7 @@ pub fn run_serve<F: Folder, C: Clock + Drop, N: Network, M: Remarks, W: Write, B
         → PortEnds today count (ports_of N.Listener.Writer.contents (N.comes around.entry.network.now)
         (N.refuses around.entry.network.now)) port (B.seen desk.old).firm (B.seen desk.new).firm
         (W.contents writer.old) (W.contents writer.new) result }
-    ensures kept { LeavesBook (CountsStore Outcome.StoreFault result) (B.seen desk.old) (B.seen desk.new) }
+    ensures kept { KeepsBook (CountsStore Outcome.StoreFault result) (B.seen desk.old) (B.seen desk.new) }
 
     // For each client its answers, and what a crash leaves of its messages.
     ensures crash { LeavesClients B.seen today
@@ -157,7 +158,7 @@ fn run_plan<R: Read, F: Folder, C: Clock + Drop, N: Network, M: Remarks, W: Writ
     ensures sound { (B.seen desk.new).clean → (B.seen desk.old).readable → plan.now.task ≡ Task.Check
         → IsCheckTrue (B.seen desk.old).firm (W.contents writer.old) (W.contents writer.new) result }
     ensures kept { (words : List Text) → Means words plan.now.today plan.now.task
-        → LeavesBook (CountsStoreIn words result) (B.seen desk.old) (B.seen desk.new) }
+        → KeepsBook (CountsStoreIn words result) (B.seen desk.old) (B.seen desk.new) }
     ensures crash { (words : List Text) → Means words plan.now.today plan.now.task
         → (B.seen desk.new).sure → (B.seen desk.old).clean → (B.seen desk.old).stands
         → LeavesRun B.seen words (R.remaining reader.old)

@@ -2,7 +2,8 @@
 
 ghost use Rattle.std.specs.Prelude.{◌≡◌, ◌≢◌, Result};
 ghost use Rattle.trust_base.specs.declared.refusal.StoreFault.{StoreFault};
-ghost use Rattle.cashier.specs.Calls.{CountsStore, LeavesBook};
+ghost use Rattle.cashier.specs.Calls.{CountsStore};
+ghost use Rattle.trust_desk.specs.Calls.{KeepsBook};
 ghost use Rattle.cashier.specs.Report.{PrintsReport, asked_for};
 ghost use Rattle.trust_store.specs.Calls.{IsRead};
 ghost use Rattle.trust_store.specs.Crashes.{LeavesOr};
@@ -12,8 +13,8 @@ use cashier_remarks::{ExceptionTelling, NowTelling, Remark, Remarks, TwiceTellin
 use command_line::ReportCommand;
 use std::alloc::Global;
 use std::io::Write;
-use trust_base::Day;
-use trust_desk::{Desk, Report, Request, RowWatch};
+use trust_base::{Day, StoreFault};
+use trust_desk::{ClearedLines, Desk, Report, Request, RowWatch};
 use trust_matter::{Ask, Caller};
 use trust_store::Book;
 
@@ -32,15 +33,17 @@ fn request_for(command: ReportCommand) -> Request
     }
 }
 
-// Prints a report of a desk's book on a business day, or the line of its refusal.
+// Prints a report of a desk's book on a business day, or the line of its refusal. What its rows show beside it is kept in
+// `lines`.
 fn print_report<W: Write, B: Book>(
     alloc: Global,
     command: ReportCommand,
     today: Day,
     desk: &mut Desk<B>,
+    lines: &mut ClearedLines,
     writer: &mut W,
 ) -> Outcome
-    ensures kept { LeavesBook (CountsStore Outcome.StoreFault result) (B.seen desk.old) (B.seen desk.new) }
+    ensures kept { KeepsBook (CountsStore Outcome.StoreFault result) (B.seen desk.old) (B.seen desk.new) }
     ensures began { result ≢ Outcome.CommandLine }
     // If the text was written, the store has met no fault.
     ensures serves { result ≡ Outcome.Done → (B.seen desk.new).sure → (B.seen desk.old).clean
@@ -51,11 +54,18 @@ fn print_report<W: Write, B: Book>(
     ensures crash { (B.seen desk.new).sure → (B.seen desk.old).clean → (B.seen desk.old).stands
         → LeavesOr (B.seen desk.old).firm (B.seen desk.old).leaves (B.seen desk.new).leaves }
 {
-    let reply = desk.answer(alloc, &request_for(command), today);
+    let reply = desk.answer_beside(alloc, &request_for(command), today, lines);
     let Ok(()) = write_reply(writer, &reply) else {
         return Outcome::OutputFault;
     };
     outcome_of_reply(&reply)
+}
+
+// Reports what the rows of a report showed, and whether memory ran out for it.
+fn tell_lines<M: Remarks, V: RowWatch>(remarks: &M, watch: &V, lines: ClearedLines) {
+    if lines.tell(watch).is_err() {
+        remarks.tell(&Remark::RowsEnd(StoreFault::Memory));
+    }
 }
 
 // Reports what the rows of a desk's book show in addition to a report of a day, and which fault ended that, if any.
@@ -109,11 +119,15 @@ pub fn run_report<M: Remarks, W: Write, B: Book>(
         (W.contents writer.new) result }
 
     // It ends with `StoreFault` only if a call of the book returned `Store`.
-    ensures kept { LeavesBook (CountsStore Outcome.StoreFault result) (B.seen desk.old) (B.seen desk.new) }
+    ensures kept { KeepsBook (CountsStore Outcome.StoreFault result) (B.seen desk.old) (B.seen desk.new) }
     ensures crash { (B.seen desk.new).sure → (B.seen desk.old).clean → (B.seen desk.old).stands
         → LeavesOr (B.seen desk.old).firm (B.seen desk.old).leaves (B.seen desk.new).leaves }
 {
-    let outcome = print_report(alloc, command, today, desk, writer);
+    let mut lines = match &command {
+        ReportCommand::Reconcile(day) if remarks.are_told() => ClearedLines::up_to(alloc, *day),
+        _ => ClearedLines::none(alloc),
+    };
+    let outcome = print_report(alloc, command, today, desk, &mut lines, writer);
     let Outcome::Done = outcome else {
         return outcome;
     };
@@ -122,13 +136,17 @@ pub fn run_report<M: Remarks, W: Write, B: Book>(
     }
     match &command {
         ReportCommand::Firm(Report::Exceptions) => tell_reasons(alloc, remarks, desk, today),
-        ReportCommand::Reconcile(day) => {
-            tell_rows(alloc, remarks, &TwiceTelling { remarks }, desk, *day)
+        ReportCommand::Reconcile(_) => tell_lines(remarks, &TwiceTelling { remarks }, lines),
+        ReportCommand::Firm(Report::Trial) if is_past => {
+            tell_lines(remarks, &NowTelling { today, remarks }, lines)
         }
-        ReportCommand::Firm(Report::Trial | Report::Journal) if is_past => {
+        ReportCommand::Firm(Report::Journal) if is_past => {
             tell_rows(alloc, remarks, &NowTelling { today, remarks }, desk, today)
         }
-        _ => {}
+        ReportCommand::Firm(
+            Report::Trial | Report::Journal | Report::Retention | Report::OwnLedger,
+        )
+        | ReportCommand::Ledger(_) => {}
     }
     outcome
 }

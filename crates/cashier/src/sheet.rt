@@ -4,7 +4,8 @@ ghost use Rattle.std.specs.Prelude.{◌≡◌, ◌≢◌, IfErr, IfSome, IsOk, [
 ghost use Rattle.std.specs.Io.KnownBytes.{Appends};
 ghost use Rattle.csv.specs.Records.{fields_of};
 ghost use Rattle.firm_rows.specs.Firm.{Firm};
-ghost use Rattle.cashier.specs.Calls.{CountsStore, LeavesBook};
+ghost use Rattle.cashier.specs.Calls.{CountsStore};
+ghost use Rattle.trust_desk.specs.Calls.{KeepsBook};
 ghost use Rattle.cashier.specs.Sheet.{Ends, IsCounted, LargeEnds, LinesAreKept, RecordEnds, RunEnds, TellsLine};
 ghost use Rattle.cashier.specs.Sheet.{end_of, ran_by, records_run, sheet_records};
 ghost use Rattle.cashier_remarks.specs.Records.{heard_of};
@@ -64,7 +65,7 @@ fn run_record<W: Write, B: Book, M: Remarks>(
         → RecordEnds day (B.seen desk.old).firm (fields_of row.now) (B.seen desk.new).firm (W.contents writer.old)
         (W.contents writer.new) result }
     ensures read { IfErr result (λ end. end ≢ SheetEnd.ReadFault) }
-    ensures kept { LeavesBook (IsCounted result) (B.seen desk.old) (B.seen desk.new) }
+    ensures kept { KeepsBook (IsCounted result) (B.seen desk.old) (B.seen desk.new) }
     ensures told { (B.seen desk.new).sure → (B.seen desk.old).clean → (B.seen desk.old).stands
         → TellsLine day (B.seen desk.old).firm (fields_of row.now) (W.contents writer.old) (W.contents writer.new)
         result }
@@ -104,7 +105,7 @@ fn run_records<W: Write, B: Book, M: Remarks>(
         → RunEnds day (B.seen desk.old).firm (sheet_records bytes.now) (B.seen desk.new).firm
         (W.contents writer.old) (W.contents writer.new) result }
     ensures read { result ≢ SheetEnd.ReadFault }
-    ensures kept { LeavesBook (CountsStore SheetEnd.Store result) (B.seen desk.old) (B.seen desk.new) }
+    ensures kept { KeepsBook (CountsStore SheetEnd.Store result) (B.seen desk.old) (B.seen desk.new) }
     ensures crash { (B.seen desk.new).sure → (B.seen desk.old).clean → (B.seen desk.old).stands
         → LinesAreKept day (B.seen desk.old).firm (sheet_records bytes.now) (B.seen desk.old)
         (W.contents writer.old) (W.contents writer.new) result (B.seen desk.new) }
@@ -168,7 +169,7 @@ pub fn run_sheet<R: Read, W: Write, B: Book, M: Remarks>(
         → Appends (W.contents writer.old) (W.contents writer.new) [] × (desk.new ≡ desk.old) }
 
     // It ends with `Store` only if a call of the book returned `Store`.
-    ensures kept { LeavesBook (CountsStore SheetEnd.Store result) (B.seen desk.old) (B.seen desk.new) }
+    ensures kept { KeepsBook (CountsStore SheetEnd.Store result) (B.seen desk.old) (B.seen desk.new) }
 
     // Each line that was written as accepted is of a record that a crash leaves done, however the sheet ended. A line
     // is written only after its change is settled.

@@ -3,7 +3,8 @@
 ghost use Rattle.std.specs.Prelude.{◌≡◌, ◌≢◌, ◌⊎◌, option_map};
 ghost use Rattle.std.specs.Io.KnownBytes.{Appends};
 ghost use Rattle.trust_base.specs.declared.refusal.Refusal.TheVariants as refusals;
-ghost use Rattle.cashier.specs.Calls.{CountsStore, LeavesBook};
+ghost use Rattle.cashier.specs.Calls.{CountsStore};
+ghost use Rattle.trust_desk.specs.Calls.{KeepsBook};
 ghost use Rattle.cashier.specs.Sheet.{refusal_line};
 ghost use Rattle.cashier.specs.Statement as spec;
 ghost use Rattle.cashier.specs.Report.{refused_outcome};
@@ -66,7 +67,7 @@ pub fn run_import<R: Read + Drop, W: Write, B: Book, V: ItemWatch>(
         (W.contents writer.old) (W.contents writer.new) result }
 
     // It ends with `StoreFault` only if a call of the book returned `Store`.
-    ensures kept { LeavesBook (CountsStore Outcome.StoreFault result) (B.seen desk.old) (B.seen desk.new) }
+    ensures kept { KeepsBook (CountsStore Outcome.StoreFault result) (B.seen desk.old) (B.seen desk.new) }
 
     // A crash may leave what it might have left before, or the rows after some first items. A settled book is still
     // settled, unless the store or memory ended the import. The line is written after that.

@@ -7,7 +7,7 @@ ghost use Rattle.std.specs.Str.{is_utf8};
 ghost use Rattle.csv.specs.Records.{field_at, fields_of};
 ghost use Rattle.cashier_remarks.specs.Records as spec;
 ghost use Rattle.ask_fields.specs.Fields.{Reads};
-ghost use Rattle.trust_desk.specs.Calls.{KeepsBook};
+ghost use Rattle.trust_desk.specs.Calls.{Counts, KeepsBook};
 ghost use Rattle.trust_desk.specs.Counts.{counted_reply};
 ghost use Rattle.trust_desk.specs.Crashes.{IsMade, MayLeave};
 ghost use Rattle.trust_desk.specs.FirmStep.{Steps, firm_step};
@@ -337,7 +337,7 @@ pub fn answer_record<B: Book>(
         → Steps day (B.seen desk.old).firm (heard_of (fields_of row.now)) result (B.seen desk.new).firm }
 
     // The reply is `Store` only if a call of the book returned `Store`.
-    ensures kept { KeepsBook (counted_reply result) (B.seen desk.old) (B.seen desk.new) }
+    ensures kept { KeepsBook (Counts (counted_reply result)) (B.seen desk.old) (B.seen desk.new) }
 
     // A crash may leave what it might have left before, or the rows with the record's change.
     ensures crash { (B.seen desk.new).sure → (B.seen desk.old).clean → (B.seen desk.old).stands

@@ -1,5 +1,5 @@
 -- Clients that are served in turn.
-use Rattle.portal_http.proofs.Names.{Seen, ◌≡◌, ◌+◌, ◌<◌, ◌≤◌, ℕ, suc, List, [], ◌∷◌, ◌++◌, Option, take, length, refl, sym, ap, ◌∙◌, subst, arith, length-append, Appends, Appends-nil, Appends-trans, take-append-add, append-nil, StreamEnd, AreServedInTurn, IsClientServed, KeepsStanding, ServedAll, ints, nat_tests}
+use Rattle.portal_http.proofs.Names.{Seen, ◌≡◌, ◌+◌, ◌<◌, ◌≤◌, ℕ, suc, List, [], ◌∷◌, ◌++◌, Option, take, length, refl, sym, ap, ◌∙◌, subst, arith, length-append, Appends, Appends-nil, Appends-trans, take-append-add, append-nil, StreamEnd, AreServedInTurn, IsAny, IsClientServed, KeepsBook, ServedAll, ints, nat_tests}
 use Rattle.std.proofs.lemmas.List.Concat.{flat_map-append}
 use Rattle.portal_http.specs.Clients.{Comes, Refused}
 use Rattle.portal_http.specs.EndLines.{end_line, end_lines}
@@ -12,10 +12,10 @@ lines-push ends end = flat_map-append end_line ends (end ∷ []) ∙ ap (λ line
 pub length-push : (ends : List StreamEnd) (end : StreamEnd) → length (ends ++ end ∷ []) ≡ length ends + 1
 length-push ends end = length-append ends (end ∷ [])
 
-pub standing-still : (b : Seen) → KeepsStanding b b
-standing-still b = record { was_clean = λ clean. clean; was_sure = λ sure. sure; still_stands = λ clean stands. stands; still_lasts = λ _ _ lasts. lasts }
+pub standing-still : (b : Seen) → KeepsBook IsAny b b
+standing-still b = record { was_clean = λ clean. clean; was_sure = λ sure. sure; still_stands = λ clean stands. stands; still_lasts = λ _ _ lasts. lasts; cause = λ _ _. tt }
 
-pub standing-then : {old mid new : Seen} → KeepsStanding old mid → KeepsStanding mid new → KeepsStanding old new
+pub standing-then : {old mid new : Seen} → KeepsBook IsAny old mid → KeepsBook IsAny mid new → KeepsBook IsAny old new
 standing-then a b = grind (arith, ints, nat_tests)
 
 module _ {B W : Type 0} (seen : B → Seen) (contents : W → Option (List ℕ)) where
@@ -36,7 +36,7 @@ module _ {B W : Type 0} (seen : B → Seen) (contents : W → Option (List ℕ))
 
   -- a client leaves the book standing
   pub client-keeps : (day : ℕ) (comes : Comes W → Type 0) (old : B) (end : StreamEnd) (new : B)
-      → IsClientServed seen contents day comes old end new → KeepsStanding (seen old) (seen new)
+      → IsClientServed seen contents day comes old end new → KeepsBook IsAny (seen old) (seen new)
   client-keeps day comes old end new x5 = grind (arith, ints, nat_tests, standing-still)
 
 -- so many clients were served, and each one's end was told; what may come of the accepts to come
@@ -48,7 +48,7 @@ pub record ServingAll {B W : Type 0} (seen : B → Seen)
   pub served : AreServedInTurn seen contents day comes old ends new
   pub told : Appends before after (end_lines ends)
   pub behind : (k : ℕ) (c : Comes W) → coming k c → comes (n + k) c
-  pub kept : KeepsStanding (seen old) (seen new)
+  pub kept : KeepsBook IsAny (seen old) (seen new)
 
 module _ {B W : Type 0} (seen : B → Seen)
     (contents : W → Option (List ℕ)) (day : ℕ) (comes : ℕ → Comes W → Type 0) (before : Option (List ℕ)) (old : B) where

@@ -17,7 +17,8 @@ pub use Rattle.trust_desk.proofs.Crashes.{leave-as, leave-still, leave-then}
 pub use Rattle.trust_desk.proofs.MadeRows.{fault-front, made-before, made-last, none-at_all, none-before, none-last, plain-step}
 pub use Rattle.trust_desk.proofs.Own.{each-own, same-for_the_matter}
 pub use Rattle.trust_desk.proofs.Runs.{RunsSoundly-push, counted-push, sound-runs-are-runs}
-pub use Rattle.trust_desk.specs.Calls.{KeepsBook}
+pub use Rattle.trust_desk.specs.Answered.{IsReplied}
+pub use Rattle.trust_desk.specs.Calls.{Counts, IsAny, KeepsBook}
 pub use Rattle.trust_desk.specs.Counts.{counted_refusal, counted_replies, counted_reply}
 pub use Rattle.trust_desk.specs.Crashes.{AreNoFaults, AreNoFaultsButLast, IsMade, IsMadeInRun, MayLeave, before_fault}
 pub use Rattle.trust_desk.specs.FirmStep.{IsUnstopped, RunsSoundly, Steps, firm_step}
@@ -27,7 +28,7 @@ pub use Rattle.trust_desk.specs.declared.requests.Reply.{Reply}
 pub use Rattle.portal_http.specs.Answers.{line_end, phrase_of, replies_bytes, reply_bytes}
 unfoldable pub use Rattle.portal_http.specs.Answers.{head_text}
 pub use Rattle.portal_http.specs.Served.{AreBehind, AreFirst, IsCut, IsFrontRun, IsRead, IsTail, IsWritten, MayLeaveServed, Served, Serving, last_text, whole_text}
-pub use Rattle.portal_http.specs.ServedAll.{AreServedInTurn, IsClientServed, KeepsStanding, ServedAll}
+pub use Rattle.portal_http.specs.ServedAll.{AreServedInTurn, IsClientServed, ServedAll}
 pub use Rattle.portal_http.specs.declared.stream.StreamEnd.{StreamEnd}
 pub use Rattle.std.proofs.lemmas.Bool.Decides.{nat_tests}
 pub use Rattle.std.proofs.lemmas.Int.{ints}

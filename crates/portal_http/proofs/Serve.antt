@@ -1,5 +1,5 @@
 -- A stream that is served.
-use Rattle.portal_http.proofs.Names.{Seen, ◌≡◌, ◌⊎◌, inl, inr, true, false, ◌<◌, ◌+◌, ℕ, List, [], ◌∷◌, ◌++◌, Option, Some, None, length, map, refl, sym, ap, ◌∙◌, subst, arith, length-append, append_assoc, IfSome, append-nil, map-append, Appends, Keeps, Appends-nil, Appends-trans, Refusal, Memory, Firm, Reply, KeepsBook, counted_reply, counted_replies, AreNoFaults, AreNoFaultsButLast, IsMade, IsMadeInRun, MayLeave, before_fault, IsUnstopped, RunsSoundly, Steps, firm_step, Heard, is_fault_reply, refused, runs-covered, kept-as, kept-still, kept-then, leave-as, leave-still, leave-then, fault-front, made-before, made-last, none-at_all, none-before, none-last, plain-step, each-own, RunsSoundly-push, counted-push, sound-runs-are-runs, Message, Began, IsNext, heard_of, replies_bytes, reply_bytes, AreBehind, AreFirst, IsCut, IsFrontRun, IsRead, IsTail, IsWritten, MayLeaveServed, Served, Serving, whole_text, StreamEnd, ints, nat_tests}
+use Rattle.portal_http.proofs.Names.{Seen, ◌≡◌, ◌⊎◌, inl, inr, true, false, ◌<◌, ◌+◌, ℕ, List, [], ◌∷◌, ◌++◌, Option, Some, None, length, map, refl, sym, ap, ◌∙◌, subst, arith, length-append, append_assoc, IfSome, append-nil, map-append, Appends, Keeps, Appends-nil, Appends-trans, Refusal, Memory, Firm, Reply, Counts, IsReplied, KeepsBook, counted_reply, counted_replies, AreNoFaults, AreNoFaultsButLast, IsMade, IsMadeInRun, MayLeave, before_fault, IsUnstopped, RunsSoundly, Steps, firm_step, Heard, is_fault_reply, refused, runs-covered, kept-as, kept-still, kept-then, leave-as, leave-still, leave-then, fault-front, made-before, made-last, none-at_all, none-before, none-last, plain-step, each-own, RunsSoundly-push, counted-push, sound-runs-are-runs, Message, Began, IsNext, heard_of, replies_bytes, reply_bytes, AreBehind, AreFirst, IsCut, IsFrontRun, IsRead, IsTail, IsWritten, MayLeaveServed, Served, Serving, whole_text, StreamEnd, ints, nat_tests}
 use Rattle.std.proofs.lemmas.Grind.{flat_map-append}
 use Rattle.trust_desk.specs.Isolation.{IsOwn}
 use Rattle.trust_desk.specs.NeverBelowZero.{CoveredRun}
@@ -80,8 +80,7 @@ module _ (day : ℕ) (stream before : Option (List ℕ)) (old : Seen) where
 
   -- one more message, and its reply
   module _ (n : ℕ) (unread after : Option (List ℕ)) (mid : Seen) (s : Serves n unread after mid) (left later : Option (List ℕ)) (next : Seen) (m : Message) (reply : Reply)
-      (comes : IsNext unread left (nexts.Message m)) (step : next.clean → mid.stands → Steps day mid.firm (heard_of m) reply next.firm) (kept : KeepsBook (counted_reply reply) mid next)
-      (may : next.sure → mid.clean → mid.stands → MayLeave (is_fault_reply reply ≡ false) (IsMade day mid.firm (heard_of m)) mid.firm (firm_step day mid.firm (heard_of m)).firm mid next) where
+      (comes : IsNext unread left (nexts.Message m)) (answered : IsReplied day (heard_of m) reply mid next) where
     abbrev messages-more : List Message
     messages-more = s.messages ++ m ∷ []
 
@@ -93,17 +92,17 @@ module _ (day : ℕ) (stream before : Option (List ℕ)) (old : Seen) where
 
     run-more : next.clean → old.stands → RunsSoundly day old.firm (map heard_of messages-more) replies-more next.firm
     run-more clean stands =
-        let was = kept.was_clean clean in
+        let was = answered.kept.was_clean clean in
         let now = s.kept.still_stands was stands in
         subst (λ (hs : List Heard). RunsSoundly day old.firm hs replies-more next.firm) (sym (map-append heard_of s.messages (m ∷ [])))
-        (RunsSoundly-push day old.firm mid.firm next.firm (map heard_of s.messages) (heard_of m) s.replies reply (s.run was stands) (step clean now) (next.sound (kept.still_stands clean now)))
+        (RunsSoundly-push day old.firm mid.firm next.firm (map heard_of s.messages) (heard_of m) s.replies reply (s.run was stands) (answered.step clean now) (next.sound (answered.kept.still_stands clean now)))
 
     own-more : next.clean → old.stands → (k : ℕ) → IsUnstopped k (map heard_of messages-more) replies-more → IsOwn k day old.firm (map heard_of messages-more) replies-more next.firm
     own-more clean stands k fine = each-own k day old.firm (map heard_of messages-more) replies-more next.firm fine (sound-runs-are-runs day old.firm next.firm (map heard_of messages-more) replies-more (run-more clean stands))
 
     -- the store served before this message, where no reply before it is Store or Memory
     served-before : next.sure → old.clean → old.stands → AreNoFaults s.replies → mid.clean
-    served-before sure clean stands plain = (s.crash (kept.was_sure sure) clean stands (none-at_all s.replies plain)).serves clean plain
+    served-before sure clean stands plain = (s.crash (answered.kept.was_sure sure) clean stands (none-at_all s.replies plain)).serves clean plain
 
     -- and after it, where this one is neither
     served-after : next.sure → old.clean → old.stands → AreNoFaults s.replies → is_fault_reply reply ≡ false → next.clean
@@ -112,27 +111,27 @@ module _ (day : ℕ) (stream before : Option (List ℕ)) (old : Seen) where
     crash-more : next.sure → old.clean → old.stands → AreNoFaultsButLast replies-more → MayLeaveServed day old messages-more replies-more next
     crash-more known served standing but_last =
         let plain = none-before s.replies reply but_last in
-        let so_far = s.crash (kept.was_sure known) served standing (none-at_all s.replies plain) in
+        let so_far = s.crash (answered.kept.was_sure known) served standing (none-at_all s.replies plain) in
         let was = so_far.serves served plain in
         let stood = s.kept.still_stands was standing in
-        let one = may known was stood in
+        let one = answered.crash known stood (λ asked. was) in
         let h = heard_of m in
         let hs = map heard_of s.messages in
         let last = λ (fine : AreNoFaults replies-more). none-last s.replies reply fine in
-        let made = leave-as last (λ found is. is) (λ fine. plain-step day mid.firm next.firm h reply (last fine) (step (one.serves was (last fine)) stood)) one in
+        let made = leave-as last (λ found is. is) (λ fine. plain-step day mid.firm next.firm h reply (last fine) (answered.step (one.serves was (last fine)) stood)) one in
         subst (λ (l : List Heard). MayLeave (AreNoFaults replies-more) (IsMadeInRun day old.firm l) old.firm next.firm old next) (sym (map-append heard_of s.messages (m ∷ [])))
         (leave-then (λ found is. made-before day old.firm found hs h is) (λ found is. made-last day old.firm mid.firm found hs h s.replies (s.run was standing) plain is) plain so_far made)
 
     shut-more : next.sure → old.clean → old.stands → IsFrontRun day old.firm messages-more (before_fault replies-more)
     shut-more sure clean stands =
         let was = λ (plain : AreNoFaults s.replies). served-before sure clean stands plain in
-        fault-front (IsFrontRun day old.firm messages-more) s.replies reply (front-more day old.firm s.messages m (before_fault s.replies) (s.shut (kept.was_sure sure) clean stands))
+        fault-front (IsFrontRun day old.firm messages-more) s.replies reply (front-more day old.firm s.messages m (before_fault s.replies) (s.shut (answered.kept.was_sure sure) clean stands))
         (λ plain. front-whole day old.firm mid.firm s.messages (m ∷ []) s.replies (s.run (was plain) stands))
         (λ plain fine. subst (λ (l : List Message). IsFrontRun day old.firm l replies-more) (append-nil messages-more)
         (front-whole day old.firm next.firm messages-more [] replies-more (run-more (served-after sure clean stands plain fine) stands)))
 
-    kept-more : KeepsBook (counted_replies replies-more) old next
-    kept-more = kept-as (λ sure stands. sym (counted-push s.replies reply old.refusals)) (kept-then s.kept kept)
+    kept-more : KeepsBook (Counts (counted_replies replies-more)) old next
+    kept-more = kept-as (λ sure stands. sym (counted-push s.replies reply old.refusals)) (kept-then s.kept answered.kept)
 
     read-more : Began stream messages-more left
     read-more = began-push stream unread left s.messages m s.read comes

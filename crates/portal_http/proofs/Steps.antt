@@ -1,5 +1,5 @@
 -- A message is answered by one step of the firm.
-use Rattle.portal_http.proofs.Names.{Seen, ◌≡◌, ◌⊎◌, inl, inr, ℕ, Bool, true, false, Ok, Err, refl, sym, ap, ◌∙◌, subst, MatchBool, ⊤, Refusal, Memory, Store, Firm, Reply, Heard, Asks, KeepsBook, counted_refusal, counted_reply, is_fault_reply, refused, IsMade, MayLeave, Steps, firm_step, kept-as, kept-still, leave-as, leave-still, plain-step, Message, heard_of, request}
+use Rattle.portal_http.proofs.Names.{Seen, ◌≡◌, ◌⊎◌, inl, inr, ℕ, Bool, true, false, Ok, Err, refl, sym, ap, ◌∙◌, subst, MatchBool, ⊤, Refusal, Memory, Store, Firm, Reply, Heard, Asks, IsReplied, counted_refusal, counted_reply, is_fault_reply, refused, IsMade, MayLeave, Steps, firm_step, kept-as, kept-still, leave-as, leave-still, plain-step, Message, heard_of, request}
 use Rattle.trust_base.specs.Refusals.{is_fault}
 use Rattle.trust_desk.specs.declared.requests.Request.{Request}
 use Rattle.trust_desk.proofs.Steps.{nothing-done}
@@ -36,21 +36,12 @@ refused-counted m why reply n (inr other) is = cases why other.0 ∙ ap (λ (x :
 -- What the desk heard was answered over a book.
 
 module _ (day : ℕ) where
-  pub record IsAnswered (h : Heard) (reply : Reply) (old new : Seen) : Type 0 where
-    pub step : new.clean → old.stands → Steps day old.firm h reply new.firm
-    pub kept : KeepsBook (counted_reply reply) old new
-    pub crash : new.sure → old.clean → old.stands
-        → MayLeave (is_fault_reply reply ≡ false) (IsMade day old.firm h) old.firm (firm_step day old.firm h).firm old new
+  pub asked-answered : (m : Message) (r : Request) (reply : Reply) (old new : Seen) → request m ≡ Ok r → IsReplied day (Asks r) reply old new → IsReplied day (heard_of m) reply old new
+  asked-answered m r reply old new e answered = subst (λ (h : Heard). IsReplied day h reply old new) (sym (heard-asks m r e)) answered
 
-  pub asked-answered : (m : Message) (r : Request) (reply : Reply) (old new : Seen) → request m ≡ Ok r → (new.clean → old.stands → Steps day old.firm (Asks r) reply new.firm) → KeepsBook (counted_reply reply) old new
-      → (new.sure → old.clean → old.stands → MayLeave (is_fault_reply reply ≡ false) (IsMade day old.firm (Asks r)) old.firm (firm_step day old.firm (Asks r)).firm old new)
-      → IsAnswered (heard_of m) reply old new
-  asked-answered m r reply old new e step kept crash =
-      subst (λ (h : Heard). IsAnswered h reply old new) (sym (heard-asks m r e)) (record { step = step; kept = kept; crash = crash })
-
-  pub refused-answered : (m : Message) (why : Refusal) (reply : Reply) (b : Seen) → (why ≡ Memory) ⊎ ((is_fault why ≡ false) × (request m ≡ Err why)) → reply ≡ refused why → IsAnswered (heard_of m) reply b b
+  pub refused-answered : (m : Message) (why : Refusal) (reply : Reply) (b : Seen) → (why ≡ Memory) ⊎ ((is_fault why ≡ false) × (request m ≡ Err why)) → reply ≡ refused why → IsReplied day (heard_of m) reply b b
   refused-answered m why reply b unread is = record {
     step = λ clean stands. refused-step day b.firm m why reply unread is;
     kept = kept-as (λ clean stands. refused-counted m why reply b.refusals unread is) (kept-still b);
-    crash = λ sure clean stands. refused-leaves day b.firm b m why reply unread is;
+    crash = λ sure stands asked. refused-leaves day b.firm b m why reply unread is;
   }

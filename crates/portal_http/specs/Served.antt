@@ -6,7 +6,7 @@ use Rattle.trust_base.specs.declared.refusal.Refusal.TheVariants.{Memory}
 use Rattle.firm_rows.specs.Firm.{Firm}
 use Rattle.trust_store.specs.Seen.{Seen}
 use Rattle.trust_desk.specs.declared.requests.Reply.{Reply}
-use Rattle.trust_desk.specs.Calls.{KeepsBook}
+use Rattle.trust_desk.specs.Calls.{Counts, KeepsBook}
 use Rattle.trust_desk.specs.Counts.{counted_replies}
 use Rattle.trust_desk.specs.Crashes.{AreNoFaults, AreNoFaultsButLast, IsMadeInRun, MayLeave, before_fault}
 use Rattle.trust_desk.specs.FirmStep.{IsUnstopped, RunsSoundly}
@@ -116,7 +116,7 @@ pub record Served (day : ℕ) (stream before : Option (List ℕ)) (old : Seen) (
   -- no ledger is below zero before, in and after each message and each item of an import
   pub covered : new.clean → old.stands
       → CoveredRun day old.firm (map heard_of messages) replies new.firm
-  pub kept : KeepsBook (counted_replies replies) old new
+  pub kept : KeepsBook (Counts (counted_replies replies)) old new
   -- if the store was clean when the stream began, and no reply except the last is `Store` or `Memory`
   pub crash : new.sure → old.clean → old.stands → AreNoFaultsButLast replies
       → MayLeaveServed day old messages replies new
@@ -135,7 +135,7 @@ pub record Serving (day : ℕ) (stream before : Option (List ℕ)) (old : Seen) 
   pub read : Began stream messages unread
   pub written : Appends before after (replies_bytes replies)
   pub run : new.clean → old.stands → RunsSoundly day old.firm (map heard_of messages) replies new.firm
-  pub kept : KeepsBook (counted_replies replies) old new
+  pub kept : KeepsBook (Counts (counted_replies replies)) old new
   pub crash : new.sure → old.clean → old.stands → AreNoFaultsButLast replies
       → MayLeaveServed day old messages replies new
   pub shut : new.sure → old.clean → old.stands → IsFrontRun day old.firm messages (before_fault replies)

@@ -44,12 +44,3 @@ module _ {B W : Type 0} (seen : B → Seen) (contents : W → Option (List ℕ))
     pub served : AreServedInTurn day comes old ends new
     pub told : IsTold end count ends before after
     pub refused : end ≡ serving.NetworkFault → comes (length ends) Refused
-
--- if the store is sure now it was sure before, and if it is clean now it was clean before; a book that stood for a
--- sound firm still does, and what a crash leaves still lasts; faults of the store are not counted, since no answers
--- are given here
-pub record KeepsStanding (old new : Seen) : Type 0 where
-  pub was_clean : new.clean → old.clean
-  pub was_sure : new.sure → old.sure
-  pub still_stands : new.clean → old.stands → new.stands
-  pub still_lasts : new.sure → (old.clean → old.stands) → old.lasts → new.lasts

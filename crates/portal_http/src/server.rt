@@ -5,7 +5,8 @@ ghost use Rattle.std.specs.Prelude.{◌+◌, ◌*◌, ◌≤◌, ℕ, IfErr, IfN
 ghost use Rattle.std.specs.Duration.{as_nanos};
 ghost use Rattle.portal_http.specs.Clients.{Client, Comes, comes_of};
 ghost use Rattle.portal_http.specs.Served.{Served};
-ghost use Rattle.portal_http.specs.ServedAll.{KeepsStanding, ServedAll};
+ghost use Rattle.portal_http.specs.ServedAll.{ServedAll};
+ghost use Rattle.trust_desk.specs.Calls.{IsAny, KeepsBook};
 
 use crate::stream::{StreamEnd, line_of, serve_routes, serve_stream};
 use byte_streams::send;
@@ -368,8 +369,9 @@ pub fn serve_connections<C: Clock + Drop, L: ClientListener, W: Write, B: Book>(
 ) -> ServeEnd
     ensures served { ServedAll B.seen L.Writer.contents day count (L.comes listener.old) (W.contents writer.old)
         desk.old result (W.contents writer.new) desk.new }
-    // A firm that was sound is still sound, as it is after each message of each client.
-    ensures kept { KeepsStanding (B.seen desk.old) (B.seen desk.new) }
+    // A firm that was sound is still sound, as it is after each message of each client. Faults of the store are not
+    // counted, since no replies are given here.
+    ensures kept { KeepsBook IsAny (B.seen desk.old) (B.seen desk.new) }
 {
     // Made once for all clients. If memory runs out here, each connection makes its own.
     let routes = Routes::new(alloc).ok();

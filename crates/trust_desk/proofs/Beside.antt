@@ -1,5 +1,5 @@
 -- How an item is applied beside what is known of the firm's own ledger.
-use Rattle.trust_desk.proofs.Names.{Seen, ◌≡◌, ◌∙◌, ℕ, List, Option, Some, None, Result, Ok, Err, ap, IfOk, IfSome, OnErr, ⊤, Line, StoreFault, LineEffect, BankLine, line_on, BalanceKind, FirmLine, Verdict, Firm, of, FirmChange, after, by_balance, by_firm_line, firm_verdict, IsFirmVerdict, edit-leaves, Item, IsRead, IsWrite, IsWriteIf, Counted, IsItemApplied, AgreesWith, IsAppliedBeside, KeepsBeside, lines_after, KeepsBook, after_item, after_told, balance_on, counted_by, counted_of, arith, ints, nat_tests}
+use Rattle.trust_desk.proofs.Names.{Counts, Seen, ◌≡◌, ◌∙◌, ℕ, List, Option, Some, None, Result, Ok, Err, ap, IfOk, IfSome, OnErr, ⊤, Line, StoreFault, LineEffect, BankLine, line_on, BalanceKind, FirmLine, Verdict, Firm, of, FirmChange, after, by_balance, by_firm_line, firm_verdict, IsFirmVerdict, edit-leaves, Item, IsRead, IsWrite, IsWriteIf, Counted, IsItemApplied, AgreesWith, IsAppliedBeside, KeepsBeside, lines_after, KeepsBook, after_item, after_told, balance_on, counted_by, counted_of, arith, ints, nat_tests}
 use Rattle.trust_matter.specs.declared.line_verdict.LineEffect.TheVariants as told
 use Rattle.firm_rows.specs.declared.ledger.BalanceKind.TheVariants as kind
 use Rattle.firm_rows.specs.declared.ledger.Verdict.TheVariants as own
@@ -49,12 +49,12 @@ lines-still day it result a b apart step err = grind (arith, ints, nat_tests, it
 
 pub kept-beside : {count : ℕ → ℕ} {old new : Seen} (known left : Option (List FirmLine))
     → (new.clean → old.stands → AgreesWith known old.firm → AgreesWith left new.firm)
-    → KeepsBook count old new → KeepsBeside count old known new left
+    → KeepsBook (Counts count) old new → KeepsBeside count old known new left
 kept-beside known left agrees k = grind (arith, ints, nat_tests)
 
 -- the book alone
 pub kept-alone : {count : ℕ → ℕ} {old new : Seen} (left : Option (List FirmLine))
-    → KeepsBeside count old None new left → KeepsBook count old new
+    → KeepsBeside count old None new left → KeepsBook (Counts count) old new
 kept-alone left k = grind (arith, ints, nat_tests)
 
 module _ {day : ℕ} {old new : Seen} (known : Option (List FirmLine)) where

@@ -1,5 +1,5 @@
 -- The course of an import is its step.
-use Rattle.trust_desk.proofs.Names.{Seen, ◌≡◌, ◌⊎◌, ℕ, Bool, true, false, List, [], ◌∷◌, Option, Some, None, Ok, Err, refl, sym, ap, ◌∙◌, subst, append-nil, cond-false, nat_lt, is_none, unwrap_or, false≢true, Refusal, is_fault, Caller, first, Firm, Item, items, LacksHeader, ImportEnd, ImportStop, Json, is_store, counted_refusal, refused, after_items, counts_after, none_counted, AreFirst, AreFront, Imports, IsAfterFirst, IsStop, IsMade, IsOfItems, KindIsMade, KindStopped, MayLeave, IsAnswered, KeepsBook, is_stopped, IsAfterFront, import_refusal, items_unless, imported, counts_text, import_reply, is_not_of_firm, firm_step, kind_step, Heard, Kind, OfItems, kind_of, arith, ints, nat_tests}
+use Rattle.trust_desk.proofs.Names.{Counts, Seen, ◌≡◌, ◌⊎◌, ℕ, Bool, true, false, List, [], ◌∷◌, Option, Some, None, Ok, Err, refl, sym, ap, ◌∙◌, subst, append-nil, cond-false, nat_lt, is_none, unwrap_or, false≢true, Refusal, is_fault, Caller, first, Firm, Item, items, LacksHeader, ImportEnd, ImportStop, Json, is_store, counted_refusal, refused, after_items, counts_after, none_counted, AreFirst, AreFront, Imports, IsAfterFirst, IsStop, IsMade, IsOfItems, KindIsMade, KindStopped, MayLeave, IsAnswered, KeepsBook, is_stopped, IsAfterFront, import_refusal, items_unless, imported, counts_text, import_reply, is_not_of_firm, firm_step, kind_step, Heard, Kind, OfItems, kind_of, arith, ints, nat_tests}
 use Rattle.std.specs.Prelude.{length}
 use Rattle.trust_base.specs.declared.refusal.Field.TheVariants as field
 use Rattle.trust_base.specs.declared.refusal.Rule.TheVariants as rule
@@ -69,7 +69,7 @@ module _ (day : ℕ) (h : Heard) (caller : Caller) (bytes : List ℕ) (kind : ki
         (front : new.clean → old.stands → Imports day old.firm (Some (items bytes)) e new.firm)
         (crash : new.sure → old.clean → old.stands → MayLeave (is_stopped e.end ≡ false) (IsAfterFirst day old.firm (Some (items bytes))) old.firm new.firm old new) where
       -- it was stopped after some first items, or there is no memory to tell of all
-      pub import-stopped : (r : Refusal) → is_fault r ≡ true → KeepsBook (counted_refusal r) old new
+      pub import-stopped : (r : Refusal) → is_fault r ≡ true → KeepsBook (Counts (counted_refusal r)) old new
           → IsAnswered day h (Err r) old new
       import-stopped r fault kept = record {
         step = λ served stood.
@@ -82,7 +82,7 @@ module _ (day : ℕ) (h : Heard) (caller : Caller) (bytes : List ℕ) (kind : ki
       }
 
       -- all items were applied, and it is told
-      pub import-told : (text : List ℕ) → e.end ≡ stop.Done → text ≡ counts_text e.reply → KeepsBook (λ n. n) old new
+      pub import-told : (text : List ℕ) → e.end ≡ stop.Done → text ≡ counts_text e.reply → KeepsBook (Counts (λ n. n)) old new
           → IsAnswered day h (Ok (record { status = 200; body = Json text })) old new
       import-told text done says kept = record {
         step = λ served stood.

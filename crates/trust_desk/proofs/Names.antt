@@ -82,7 +82,7 @@ pub use Rattle.trust_store.specs.Calls.{IsRead, IsWrite, IsWriteIf}
 pub use Rattle.trust_desk.specs.Answered.{IsAnswered}
 pub use Rattle.trust_desk.specs.Applied.{IsItemApplied, IsImported}
 pub use Rattle.trust_desk.specs.Beside.{AgreesWith, IsAppliedBeside, KeepsBeside, StandsBeside, beside, lines_after}
-pub use Rattle.trust_desk.specs.Calls.{KeepsBook}
+pub use Rattle.trust_desk.specs.Calls.{Counts, KeepsBook}
 pub use Rattle.trust_desk.specs.Counts.{counted_body, counted_end, counted_refusal, counted_replies, counted_reply, is_store}
 pub use Rattle.trust_desk.specs.Crashes.{AreFront, AreNoFaults, AreNoFaultsButLast, IsAfterFirst, IsMade, IsMadeInRun, IsOfItems, KindIsMade, MayLeave, MayLeaveChange, before_fault, is_fault_end, is_stopped}
 pub use Rattle.trust_desk.specs.Dismissing.{dismiss_refusal, dismiss_reply, dismissed_unless, is_exception}

@@ -12,7 +12,7 @@ use Rattle.trust_store.specs.Seen.{Seen}
 use Rattle.trust_desk.specs.declared.importing.Counted.{Counted}
 use Rattle.trust_desk.specs.declared.importing.ImportEnd.{ImportEnd}
 use Rattle.trust_desk.specs.declared.importing.ImportStop.TheVariants as stop
-use Rattle.trust_desk.specs.Calls.{KeepsBook}
+use Rattle.trust_desk.specs.Calls.{Counts, KeepsBook}
 use Rattle.trust_desk.specs.Crashes.{IsAfterFirst, MayLeave, MayLeaveChange, is_stopped}
 use Rattle.trust_desk.specs.Imports.{Imports, IsStop, Told, counted_stop}
 use Rattle.trust_desk.specs.ItemStep.{after_item, counted_of}
@@ -24,7 +24,7 @@ pub record IsItemApplied (day : ℕ) (it : Item) (result : Result Counted StoreF
   pub step : new.clean → old.stands
       → IfOk result (λ c. (c ≡ counted_of day old.firm it) × (new.firm ≡ after_item day old.firm it))
   pub err : new.clean → old.stands → OnErr result (new.firm ≡ old.firm)
-  pub kept : KeepsBook (counted result) old new
+  pub kept : KeepsBook (Counts (counted result)) old new
   pub crash : new.sure → old.stands
       → MayLeaveChange (IsOk result) old.firm (after_item day old.firm it) old new
 
@@ -39,7 +39,7 @@ pub record IsImported (day : ℕ) (told : Told) (bytes : Option (List ℕ))
   pub header : result.end ≡ stop.Refused (refusal.BadField field.Header) → LacksHeader told
   pub limit : result.end ≡ stop.Limit → IsTooLong bytes
   pub within : result.end ≡ stop.Done → IsWithin bytes
-  pub kept : KeepsBook (counted_stop result.end) old new
+  pub kept : KeepsBook (Counts (counted_stop result.end)) old new
   pub crash : new.sure → old.clean → old.stands → MayLeave (is_stopped result.end ≡ false)
       (IsAfterFirst day old.firm told) old.firm new.firm old new
   pub shut : new.sure → old.clean → old.stands → (mid : Firm) × Imports day old.firm told result mid

@@ -11,7 +11,7 @@ use Rattle.statement_csv.specs.declared.item.Item.{Item}
 use Rattle.trust_store.specs.Books.{counted}
 use Rattle.trust_store.specs.Seen.{Seen}
 use Rattle.trust_desk.specs.declared.importing.Counted.{Counted}
-use Rattle.trust_desk.specs.Calls.{KeepsBook}
+use Rattle.trust_desk.specs.Calls.{Counts, KeepsBook}
 use Rattle.trust_desk.specs.Crashes.{MayLeaveChange}
 use Rattle.trust_desk.specs.ItemStep.{after_item, counted_of}
 
@@ -46,7 +46,7 @@ beside b known = record {
 
 -- what a call leaves of the book, and of what is known
 abbrev pub KeepsBeside : (ℕ → ℕ) → Seen → Option (List FirmLine) → Seen → Option (List FirmLine) → Type 0
-KeepsBeside counted old known new left = KeepsBook counted (beside old known) (beside new left)
+KeepsBeside counted old known new left = KeepsBook (Counts counted) (beside old known) (beside new left)
 
 -- an item is applied to a book beside what is known
 pub record IsAppliedBeside (day : ℕ) (it : Item) (result : Result Counted StoreFault)

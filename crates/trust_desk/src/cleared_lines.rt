@@ -1,28 +1,36 @@
 //! The bank lines that a book has, and what they show: a line that cleared two entries, and work after a day.
 
+ghost use Rattle.std.specs.Prelude.{◌≡◌};
 ghost use Rattle.trust_store.specs.Calls.{IsRead};
 ghost use Rattle.trust_desk.specs.Checking.{AreReads};
 
 use crate::desk::Desk;
 use crate::watching::{AppliedLine, ClearedLine, EarlierWatch, RowWatch};
-use firm_rows::{FirmLine, FirmLineSink, MatterRow, MatterRowSink, Owner};
+use firm_rows::{
+    BalanceRow, BalanceSink, ExceptionSink, FirmLine, FirmLineSink, MatterRow, MatterRowSink,
+    Movement, MovementSink, Owner,
+};
 use std::alloc::{AllocError, Global};
 use std::cmp::Ordering;
 use std::marker::Model;
+use std::mem;
 use trust_base::{BankText, Day, EntryNo, Line, MatterNo, StoreFault};
 use trust_matter::{Clearing, DepositState, Entry, PaymentState};
 use trust_store::Book;
 
-// Collects the bank lines that cleared entries, and the firm's own, dated between two days given by their numbers, and
-// the last day of any matter.
-//
-// Contracts see nothing of it.
+/// The bank lines that cleared entries and the firm's own, dated in a month or the month before it, and the last day on
+/// which a matter was changed. A report's reader should know of them: two may be the same line.
+///
+/// Contracts see nothing of it.
 #[derive(Drop)]
-struct ClearedLines {
+pub struct ClearedLines {
+    // The numbers of the first and the last day.
     from: u32,
     to: u32,
     lines: Vec<ClearedLine>,
     last: Option<Day>,
+    // Whether memory ran out while rows were shown beside a report.
+    is_short: bool,
 }
 
 impl Model for ClearedLines {
@@ -32,26 +40,43 @@ impl Model for ClearedLines {
 }
 
 impl ClearedLines {
-    // Collects from the first to the last of these days.
-    fn between(alloc: Global, from: u32, to: u32) -> ClearedLines {
+    /// Keeps no line, and the last day.
+    pub fn none(alloc: Global) -> ClearedLines {
         ClearedLines {
-            from,
-            to,
+            from: 1,
+            to: 0,
             lines: Vec::new(alloc),
             last: None,
+            is_short: false,
         }
     }
 
-    // Adds what a line cleared, if its date is between the two days.
-    fn keep(&mut self, owner: &Owner, line: &Clearing, amount: i64) -> Result<(), AllocError> {
-        let day = line.bank_day;
-        if day.get() < self.from || self.to < day.get() {
+    /// Keeps the lines dated by a day, in its month or the month before, and the last day.
+    pub fn up_to(alloc: Global, day: Day) -> ClearedLines {
+        ClearedLines {
+            from: month_before(day),
+            to: day.get(),
+            lines: Vec::new(alloc),
+            last: None,
+            is_short: false,
+        }
+    }
+
+    // Adds a line of an owner, if its date is between the two days.
+    fn keep(
+        &mut self,
+        owner: &Owner,
+        date: Day,
+        bank_ref: &BankText,
+        amount: i64,
+    ) -> Result<(), AllocError> {
+        if date.get() < self.from || self.to < date.get() {
             return Ok(());
         }
-        let bank_ref = line.bank_ref.copied()?;
+        let bank_ref = bank_ref.copied()?;
         self.lines.push(ClearedLine {
             owner: *owner,
-            date: day,
+            date,
             bank_ref,
             amount,
         })?;
@@ -68,10 +93,52 @@ impl ClearedLines {
         let owner = Owner::Matter { matter, entry };
         let lines = EntryLines::of(kept);
         if let Some((line, amount)) = lines.clearing {
-            self.keep(&owner, line, amount)?;
+            self.keep(&owner, line.bank_day, &line.bank_ref, amount)?;
         }
         if let Some((line, amount)) = lines.returning {
-            self.keep(&owner, line, amount)?;
+            self.keep(&owner, line.bank_day, &line.bank_ref, amount)?;
+        }
+        Ok(())
+    }
+
+    // Adds what a row of a matter shows.
+    fn keep_row(&mut self, matter: MatterNo, row: MatterRow<'_>) -> Result<(), AllocError> {
+        match row {
+            MatterRow::Head(head) => match self.last {
+                Some(last) if head.last.get() <= last.get() => Ok(()),
+                _ => {
+                    self.last = Some(head.last);
+                    Ok(())
+                }
+            },
+            MatterRow::Seat(_seat) => Ok(()),
+            MatterRow::Entry(number, entry) => self.keep_entry(matter, number, entry),
+        }
+    }
+
+    // Adds a line of the firm's own.
+    fn keep_own(&mut self, line: &FirmLine) -> Result<(), AllocError> {
+        self.keep(&Owner::Firm, line.date, &line.bank_ref, line.amount.get())
+    }
+
+    // Keeps no more lines, since memory ran out.
+    fn stop(&mut self) {
+        self.is_short = true;
+        self.to = 0;
+    }
+
+    /// Reports to `watch` the lines that have the same date, bank reference and amount as another of them, and the last
+    /// day on which a matter was changed. The contract does not say what `watch` is told. The only error is out of
+    /// memory, also if it ran out while the rows were shown; then nothing is told.
+    pub fn tell<V: RowWatch>(self, watch: &V) -> Result<(), AllocError> {
+        if self.is_short {
+            return Err(AllocError);
+        }
+        let mut lines = self.lines;
+        lines.sort_by(|one, other| order_of(one, other))?;
+        tell_of_same(&lines, watch);
+        if let Some(last) = self.last {
+            watch.worked_on(last);
         }
         Ok(())
     }
@@ -123,17 +190,7 @@ impl MatterRowSink for ClearedLines {
     ghost taken = { λ lines row. lines };
 
     fn matter_row(&mut self, matter: MatterNo, row: MatterRow<'_>) -> Result<(), AllocError> {
-        match row {
-            MatterRow::Head(head) => match self.last {
-                Some(last) if head.last.get() <= last.get() => Ok(()),
-                _ => {
-                    self.last = Some(head.last);
-                    Ok(())
-                }
-            },
-            MatterRow::Seat(_seat) => Ok(()),
-            MatterRow::Entry(number, entry) => self.keep_entry(matter, number, entry),
-        }
+        self.keep_row(matter, row)
     }
 }
 
@@ -141,12 +198,89 @@ impl FirmLineSink for ClearedLines {
     ghost lined = { λ lines line. lines };
 
     fn firm_line(&mut self, line: &FirmLine) -> Result<(), AllocError> {
-        let bank_ref = line.bank_ref.copied()?;
-        let own = Clearing {
-            bank_day: line.date,
-            bank_ref,
-        };
-        self.keep(&Owner::Firm, &own, line.amount.get())
+        self.keep_own(line)
+    }
+}
+
+// A report's sink, and the lines that its rows show beside it.
+//
+// Contracts see it as the sink.
+#[derive(Drop)]
+pub(crate) struct Beside<S> {
+    sink: S,
+    lines: ClearedLines,
+}
+
+impl<S> Model for Beside<S> {
+    ghost Value = { S };
+
+    ghost view = { λ beside. beside.sink };
+}
+
+impl<S> Beside<S> {
+    // Takes the lines from their place until `into_sink`.
+    pub(crate) fn of(alloc: Global, sink: S, lines: &mut ClearedLines) -> Beside<S>
+        ensures { result ≡ sink }
+    {
+        Beside {
+            sink,
+            lines: mem::replace(lines, ClearedLines::none(alloc)),
+        }
+    }
+
+    // Puts the lines back.
+    pub(crate) fn into_sink(self, lines: &mut ClearedLines) -> S
+        ensures { result ≡ self }
+    {
+        let Beside { sink, lines: shown } = self;
+        *lines = shown;
+        sink
+    }
+}
+
+impl<S: MatterRowSink> MatterRowSink for Beside<S> {
+    ghost taken = { S.taken };
+
+    fn matter_row(&mut self, matter: MatterNo, row: MatterRow<'_>) -> Result<(), AllocError> {
+        if self.lines.keep_row(matter, row).is_err() {
+            self.lines.stop();
+        }
+        self.sink.matter_row(matter, row)
+    }
+}
+
+impl<S: MovementSink> MovementSink for Beside<S> {
+    ghost moved = { S.moved };
+
+    fn movement(&mut self, movement: &Movement) -> Result<(), AllocError> {
+        self.sink.movement(movement)
+    }
+}
+
+impl<S: FirmLineSink> FirmLineSink for Beside<S> {
+    ghost lined = { S.lined };
+
+    fn firm_line(&mut self, line: &FirmLine) -> Result<(), AllocError> {
+        if self.lines.keep_own(line).is_err() {
+            self.lines.stop();
+        }
+        self.sink.firm_line(line)
+    }
+}
+
+impl<S: ExceptionSink> ExceptionSink for Beside<S> {
+    ghost noted = { S.noted };
+
+    fn exception(&mut self, line: &Line) -> Result<(), AllocError> {
+        self.sink.exception(line)
+    }
+}
+
+impl<S: BalanceSink> BalanceSink for Beside<S> {
+    ghost balanced = { S.balanced };
+
+    fn balance(&mut self, row: &BalanceRow) -> Result<(), AllocError> {
+        self.sink.balance(row)
     }
 }
 
@@ -309,10 +443,9 @@ fn liken<B: Book>(book: &mut B, found: &mut Likening) -> Result<(), StoreFault>
 }
 
 impl<B: Book> Desk<B> {
-    /// Reports to `watch` what the rows of a book show that a reader of a day's report should know. These are the bank
-    /// lines that cleared an entry, or are the firm's own, and have the same date, bank reference and amount as another
-    /// such line. They are dated by that day, in its month or the month before. It also reports the last day on which a
-    /// matter was changed. The book is unchanged. The contract does not say what `watch` is told.
+    /// Reports to `watch` what the rows of a book show that a reader of a day's report should know, as
+    /// `ClearedLines::up_to` has it. The book is unchanged. The contract does not say what `watch` is told. A trial
+    /// balance and a reconciliation show it with the rows that they read (`answer_beside`).
     ///
     /// Returns `Store` if the book's store failed, and `Memory` if memory ran out.
     pub fn tell_rows<V: RowWatch>(
@@ -323,14 +456,9 @@ impl<B: Book> Desk<B> {
     ) -> Result<(), StoreFault>
         ensures { IsRead result (B.seen self.old) (B.seen self.new) }
     {
-        let mut found = ClearedLines::between(alloc, month_before(day), day.get());
+        let mut found = ClearedLines::up_to(alloc, day);
         collect(&mut self.book, &mut found)?;
-        let mut lines = found.lines;
-        lines.sort_by(|one, other| order_of(one, other))?;
-        tell_of_same(&lines, watch);
-        if let Some(last) = found.last {
-            watch.worked_on(last);
-        }
+        found.tell(watch)?;
         Ok(())
     }
 

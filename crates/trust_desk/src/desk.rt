@@ -12,9 +12,10 @@ ghost use Rattle.trust_store.specs.Calls.{IsRead};
 ghost use Rattle.trust_desk.specs.Isolation.{IsOwn, KeepsOthers};
 ghost use Rattle.trust_desk.specs.Replies.{is_fault_reply};
 ghost use Rattle.trust_desk.specs.ReportStep.{reconciliation_for, report_for, report_text};
-ghost use Rattle.trust_desk.specs.Answered.{IsAnswered};
-ghost use Rattle.trust_desk.specs.Calls.{KeepsBook};
+ghost use Rattle.trust_desk.specs.Answered.{IfServed, IsAnswered, IsReplied};
+ghost use Rattle.trust_desk.specs.Calls.{Counts, KeepsBook};
 
+use crate::cleared_lines::{Beside, ClearedLines};
 use crate::exceptions::{ExceptionsSink, dismiss};
 use crate::importing::{ImportEnd, ImportStop};
 use crate::requests::{
@@ -111,7 +112,7 @@ fn answer_ask<B: Book>(
     Ok(reply)
 }
 
-// Returns the text of a report on a business day.
+// Returns the text of a report on a business day. What the rows of a trial balance show beside it is kept in `lines`.
 //
 // Returns `Store` if the book's store failed, and `Memory` if memory ran out.
 fn find_report<B: Book>(
@@ -119,6 +120,7 @@ fn find_report<B: Book>(
     book: &mut B,
     report: Report,
     today: Day,
+    lines: &mut ClearedLines,
 ) -> Result<Vec<u8>, StoreFault>
     ensures told { (B.seen book.new).clean → (B.seen book.old).stands
         → IfOk result (λ text. text.items ≡ report_text report today (B.seen book.old).firm) }
@@ -132,10 +134,10 @@ fn find_report<B: Book>(
             Ok(exceptions.finish())
         }
         Report::Trial => {
-            let mut trial = TrialSink::new(alloc);
+            let mut trial = Beside::of(alloc, TrialSink::new(alloc), lines);
             book.each_row(&mut trial)?;
             book.each_firm_line(&mut trial)?;
-            let balance = trial.finish();
+            let balance = trial.into_sink(lines).finish();
             trial_text(today, &balance.lines, balance.own, balance.total, &mut text)?;
             Ok(text)
         }
@@ -195,24 +197,28 @@ impl<B: Book> Desk<B> {
     /// Answers one request on a business day. If the reply is `Store` or `Memory`, nothing has changed, except that the
     /// first items of an import may have been applied.
     pub fn answer(&mut self, alloc: Global, request: &Request, day: Day) -> Reply
-        ensures step { (B.seen self.new).clean → (B.seen self.old).stands
-            → Steps day (B.seen self.old).firm (Asks request.now) result (B.seen self.new).firm }
-        ensures others { (B.seen self.new).clean → (B.seen self.old).stands
-            → KeepsOthers (B.seen self.old).firm (Asks request.now) (B.seen self.new).firm }
-        ensures own { (B.seen self.new).clean → (B.seen self.old).stands → is_fault_reply result ≡ false → (m : ℕ)
-            → IsOwn m day (B.seen self.old).firm (Asks request.now ∷ []) (result ∷ []) (B.seen self.new).firm }
+        ensures replied { IsReplied day (Asks request.now) result (B.seen self.old) (B.seen self.new) }
 
-        // The reply is `Store` only if a call of the book returned `Store`.
-        ensures kept { KeepsBook (counted_reply result) (B.seen self.old) (B.seen self.new) }
+        // No other matter changes, and each is answered by its own machine.
+        ensures others { IfServed (B.seen self.old) (B.seen self.new)
+            (λ before after. KeepsOthers before (Asks request.now) after) }
+        ensures own { IfServed (B.seen self.old) (B.seen self.new) (λ before after. is_fault_reply result ≡ false
+            → (m : ℕ) → IsOwn m day before (Asks request.now ∷ []) (result ∷ []) after) }
+    {
+        let mut lines = ClearedLines::none(alloc);
+        self.answer_beside(alloc, request, day, &mut lines)
+    }
 
-        // A crash may leave what it might have left before, or the rows with the request's change. For an import it may
-        // be the rows after some first items, provided the store was clean when the import began; the store of a book
-        // that has met no fault is clean. After any reply except `Store` and `Memory`, a settled book is still settled.
-        ensures crash { (B.seen self.new).sure → (B.seen self.old).stands
-            → (IsImport request.now → (B.seen self.old).clean)
-            → MayLeave (is_fault_reply result ≡ false) (IsMade day (B.seen self.old).firm (Asks request.now))
-            (B.seen self.old).firm (firm_step day (B.seen self.old).firm (Asks request.now)).firm (B.seen self.old)
-            (B.seen self.new) }
+    /// Answers one request as `answer` does. What the rows of a trial balance or a reconciliation show beside it is kept
+    /// in `lines`, which no other request changes. Memory that runs out for it alone does not end the report.
+    pub fn answer_beside(
+        &mut self,
+        alloc: Global,
+        request: &Request,
+        day: Day,
+        lines: &mut ClearedLines,
+    ) -> Reply
+        ensures { IsReplied day (Asks request.now) result (B.seen self.old) (B.seen self.new) }
     {
         let answered = match request {
             Request::Matter { no, caller, ask } => {
@@ -227,8 +233,12 @@ impl<B: Book> Desk<B> {
                 statement,
                 text,
             } => self.answer_match(alloc, caller, statement, *text, day),
-            Request::Report(caller, report) => self.answer_report(alloc, caller, *report, day),
-            Request::Reconcile(caller, as_of) => self.answer_reconciliation(alloc, caller, *as_of),
+            Request::Report(caller, report) => {
+                self.answer_report(alloc, caller, *report, day, lines)
+            }
+            Request::Reconcile(caller, as_of) => {
+                self.answer_reconciliation(alloc, caller, *as_of, lines)
+            }
         };
         answered.unwrap_or_else(Reply::refused)
     }
@@ -240,6 +250,7 @@ impl<B: Book> Desk<B> {
         caller: &Caller,
         report: Report,
         day: Day,
+        lines: &mut ClearedLines,
     ) -> Result<Reply, Refusal>
         ensures { (h : Heard) → kind_of h ≡ OnlyTold (report_for caller.now report)
             → IsAnswered day h result (B.seen self.old) (B.seen self.new) }
@@ -247,7 +258,7 @@ impl<B: Book> Desk<B> {
         if is_not_of_firm(caller) {
             return Err(Refusal::NotAllowed(Rule::Firm));
         }
-        let text = find_report(alloc, &mut self.book, report, day)?;
+        let text = find_report(alloc, &mut self.book, report, day, lines)?;
         Ok(Reply {
             status: 200,
             body: Body::Text(OwnedBytes::new(text)),
@@ -260,6 +271,7 @@ impl<B: Book> Desk<B> {
         alloc: Global,
         caller: &Caller,
         as_of: Day,
+        lines: &mut ClearedLines,
     ) -> Result<Reply, Refusal>
         ensures { (day : ℕ) (h : Heard) → kind_of h ≡ OnlyTold (reconciliation_for caller.now as_of)
             → IsAnswered day h result (B.seen self.old) (B.seen self.new) }
@@ -267,14 +279,15 @@ impl<B: Book> Desk<B> {
         if is_not_of_firm(caller) {
             return Err(Refusal::NotAllowed(Rule::Firm));
         }
-        let mut sink = ReconciliationSink::new(alloc, as_of);
+        let mut sink = Beside::of(alloc, ReconciliationSink::new(alloc, as_of), lines);
         self.book.each_row(&mut sink)?;
         self.book.each_movement(&mut sink)?;
         self.book.each_firm_line(&mut sink)?;
         self.book.each_exception(&mut sink)?;
         self.book.each_balance(&mut sink)?;
-        let is_purged = sink.is_period_purged();
-        let Some(reconciliation) = sink.finish(alloc)? else {
+        let found = sink.into_sink(lines);
+        let is_purged = found.is_period_purged();
+        let Some(reconciliation) = found.finish(alloc)? else {
             return Err(Refusal::NoStatement);
         };
         if is_purged {
@@ -345,7 +358,7 @@ impl<B: Book> Desk<B> {
             (heard (take (length result.replies.items) requests.now)) result.replies.items (B.seen self.new).firm }
 
         // Replies are `Store` only if calls of the book returned `Store`.
-        ensures kept { KeepsBook (counted_replies result.replies.items)
+        ensures kept { KeepsBook (Counts (counted_replies result.replies.items))
             (B.seen self.old) (B.seen self.new) }
 
         // If the store was clean when the run began, and no reply except the last is `Store` or `Memory`, a crash may

@@ -4,7 +4,7 @@ ghost use Rattle.std.specs.Prelude.{◌≡◌, ◌++◌, ◌||◌, [], IfOk, fal
 ghost use Rattle.trust_base.specs.LineOrder.{is_same_line};
 ghost use Rattle.trust_store.specs.Calls.{IsRead};
 ghost use Rattle.trust_reports.specs.TextsOfLists.{exception_line, exceptions_text};
-ghost use Rattle.trust_desk.specs.Calls.{KeepsBook};
+ghost use Rattle.trust_desk.specs.Calls.{Counts, KeepsBook};
 ghost use Rattle.trust_desk.specs.Dismissing.{EndsDismiss, after_dismissing, is_exception};
 ghost use Rattle.trust_desk.specs.Counts.{counted_end};
 ghost use Rattle.trust_desk.specs.Replies.{is_fault_reply};
@@ -104,7 +104,7 @@ pub(crate) fn dismiss<B: Book>(
     ensures end { (B.seen book.new).clean → (B.seen book.old).stands
         → EndsDismiss caller.now line.now (B.seen book.old).firm (B.seen book.new).firm result }
     ensures ok { IfOk result (λ reply. is_fault_reply reply ≡ false) }
-    ensures kept { KeepsBook (counted_end result) (B.seen book.old) (B.seen book.new) }
+    ensures kept { KeepsBook (Counts (counted_end result)) (B.seen book.old) (B.seen book.new) }
     ensures crash { (B.seen book.new).sure → (B.seen book.old).stands → MayLeaveChange
         (is_fault_end result ≡ false) (B.seen book.old).firm
         (after_dismissing caller.now line.now (B.seen book.old).firm) (B.seen book.old) (B.seen book.new) }

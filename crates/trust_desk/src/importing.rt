@@ -10,7 +10,7 @@ ghost use Rattle.statement_csv.specs.Reading.{LacksHeader};
 ghost use Rattle.firm_rows.specs.Firm.{Firm};
 ghost use Rattle.firm_rows.specs.FirmLines.{firm_verdict};
 ghost use Rattle.trust_store.specs.Books.{counted};
-ghost use Rattle.trust_desk.specs.Calls.{KeepsBook};
+ghost use Rattle.trust_desk.specs.Calls.{Counts, KeepsBook};
 ghost use Rattle.trust_desk.specs.Crashes.{IsAfterFirst, MayLeave, MayLeaveChange, is_stopped};
 ghost use Rattle.trust_desk.specs.Imports.{AreBelow, Imports, IsStop, KeepsAllUnnamed, LeavesOwnItem, counted_stop, stop_at};
 ghost use Rattle.trust_desk.specs.Applied.{IsImported, IsItemApplied};
@@ -400,32 +400,14 @@ impl<B: Book> Desk<B> {
         watch: &V,
     ) -> ImportEnd
 
-        // Some first items are applied and counted. The firm is sound after each, and each matter is affected only by
-        // those that name it.
-        ensures front { (B.seen self.new).clean → (B.seen self.old).stands
-            → Imports day (B.seen self.old).firm (option_map items (R.remaining reader)) result (B.seen self.new).firm }
-        ensures stops { IsStop result.end }
-        ensures header { result.end ≡ ImportStop.Refused (refusal.BadField field.Header)
-            → LacksHeader (option_map items (R.remaining reader)) }
-        ensures limit { result.end ≡ ImportStop.Limit → IsTooLong (R.remaining reader) }
-        ensures within { result.end ≡ ImportStop.Done → IsWithin (R.remaining reader) }
-        ensures others { (B.seen self.new).clean → (B.seen self.old).stands
-            → KeepsAllUnnamed (option_map items (R.remaining reader)) (B.seen self.old).firm (B.seen self.new).firm }
-
-        // The import ends with `Store` only if a call of the book returned `Store`.
-        ensures kept { KeepsBook (counted_stop result.end)
+        // Some first items are applied and counted, the firm is sound after each, and the end is for a reason. A crash
+        // may leave what it might have left before, or the rows after some first items.
+        ensures imported { IsImported day (option_map items (R.remaining reader)) (R.remaining reader) result
             (B.seen self.old) (B.seen self.new) }
 
-        // If the store was clean when the import began, a crash may leave what it might have left before, or the rows
-        // after some first items. A settled book is still settled, unless the store or memory ended the import.
-        ensures crash { (B.seen self.new).sure → (B.seen self.old).clean → (B.seen self.old).stands
-            → MayLeave (is_stopped result.end ≡ false)
-            (IsAfterFirst day (B.seen self.old).firm (option_map items (R.remaining reader))) (B.seen self.old).firm
-            (B.seen self.new).firm (B.seen self.old) (B.seen self.new) }
-
-        // The counted items are the first of the statement, even if a fault has shut the store since.
-        ensures shut { (B.seen self.new).sure → (B.seen self.old).clean → (B.seen self.old).stands → (mid : Firm)
-            × Imports day (B.seen self.old).firm (option_map items (R.remaining reader)) result mid }
+        // Each matter is affected only by the items that name it.
+        ensures others { (B.seen self.new).clean → (B.seen self.old).stands
+            → KeepsAllUnnamed (option_map items (R.remaining reader)) (B.seen self.old).firm (B.seen self.new).firm }
     {
         let ended = import_whole::<B, R, V, Brand>(alloc, &mut self.book, reader, day, watch);
         let counts = &ended.reply;

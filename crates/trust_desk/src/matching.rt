@@ -2,7 +2,7 @@
 
 ghost use Rattle.std.specs.Prelude.{◌≡◌, false};
 ghost use Rattle.trust_desk.specs.Answered.{IsAnswered};
-ghost use Rattle.trust_desk.specs.Calls.{KeepsBook};
+ghost use Rattle.trust_desk.specs.Calls.{Counts, KeepsBook};
 ghost use Rattle.trust_desk.specs.Counts.{counted_end};
 ghost use Rattle.trust_desk.specs.Crashes.{MayLeaveChange, is_fault_end};
 ghost use Rattle.trust_desk.specs.Heard.{Heard, OnlyTold, kind_of};
@@ -50,7 +50,7 @@ impl<B: Book> Desk<B> {
             → (B.seen self.new).firm ≡ (B.seen self.old).firm }
 
         // The result is `Store` only if a call of the book returned `Store`.
-        ensures kept { KeepsBook (counted_end result) (B.seen self.old) (B.seen self.new) }
+        ensures kept { KeepsBook (Counts (counted_end result)) (B.seen self.old) (B.seen self.new) }
 
         // A crash may leave what it might have left before, or the rows as they are.
         ensures crash { (B.seen self.new).sure → (B.seen self.old).stands

@@ -1,4 +1,4 @@
-use Rattle.cashier.proofs.Names.{◌≡◌, ◌<◌, ◌++◌, not, ℕ, List, Some, Bor, Appends, concat, Ready, default_config, source_of, rest_records, IsSame, LeavesBook, all_accepted, firm_from, lines_from, sheet_records}
+use Rattle.cashier.proofs.Names.{◌≡◌, ◌<◌, ◌++◌, not, ℕ, List, Some, Bor, Appends, concat, Ready, default_config, source_of, rest_records, IsSame, KeepsBook, all_accepted, firm_from, lines_from, sheet_records}
 use Rattle.csv.specs.declared.reader.Trim.TheVariants as trim
 use Rattle.cashier.proofs.SheetKept.{IsGoing}
 use Rattle.cashier.proofs.sheet.run_records.Given as goal
@@ -9,7 +9,7 @@ invariant-loop-row g l = record {
   ready : Ready l.row-iterator.rdr;
   turns : 0 < l.row-iterator.left;
   config : l.row-iterator.rdr.config ≡ default_config;
-  kept : LeavesBook IsSame (g.B.Book.seen l.initial.desk) (g.B.Book.seen l.desk);
+  kept : KeepsBook IsSame (g.B.Book.seen l.initial.desk) (g.B.Book.seen l.desk);
   going : (g.B.Book.seen l.desk).sure → (g.B.Book.seen l.initial.desk).clean → (g.B.Book.seen l.initial.desk).stands → IsGoing (g.B.Book.seen l.initial.desk) (g.B.Book.seen l.desk);
   left : (y : List ℕ) × (source_of (λ (s : Bor (List ℕ)). Some s.now) l.row-iterator.rdr ≡ Some y)
       × ((g.B.Book.seen l.desk).clean → (g.B.Book.seen l.initial.desk).stands → (past : List (List (List ℕ)))

@@ -3,7 +3,7 @@ use Rattle.cashier_remarks.proofs.RecordFacts.{heard-read, record-asked, record-
 use Rattle.cashier_remarks.proofs.record.answer_record.Goals as goal
 
 pub returns-in-Ok-clause-step : goal.returns-in-Ok-clause-step
-returns-in-Ok-clause-step g c = λ clean stands. rw (heard-read (fields_of c.args.row.now) c.in-Ok.request c.in-Ok.ensures) (c.answer.ensures.step clean stands)
+returns-in-Ok-clause-step g c = λ clean stands. rw (heard-read (fields_of c.args.row.now) c.in-Ok.request c.in-Ok.ensures) (c.answer.ensures.replied.step clean stands)
 
 pub returns-in-Err-clause-step : goal.returns-in-Err-clause-step
 returns-in-Err-clause-step g c =
@@ -11,7 +11,7 @@ returns-in-Err-clause-step g c =
 
 pub returns-in-Ok-clause-crash : goal.returns-in-Ok-clause-crash
 returns-in-Ok-clause-crash g c = λ sure clean stands.
-    record-asked c.args.day (g.B.Book.seen c.args.desk.now).firm _ _ (fields_of c.args.row.now) c.in-Ok.request c.answer.result c.in-Ok.ensures (c.answer.ensures.crash sure stands (λ asked. clean))
+    record-asked c.args.day (g.B.Book.seen c.args.desk.now).firm _ _ (fields_of c.args.row.now) c.in-Ok.request c.answer.result c.in-Ok.ensures (c.answer.ensures.replied.crash sure stands (λ asked. clean))
 
 pub returns-in-Err-clause-crash : goal.returns-in-Err-clause-crash
 returns-in-Err-clause-crash g c = λ sure clean stands.

@@ -1,7 +1,7 @@
-use Rattle.portal_http.proofs.Names.{◌∙◌, arith, ap, Ok, heard_of, stays}
+use Rattle.portal_http.proofs.Names.{◌∙◌, arith, ap, Ok, IsReplied, heard_of, stays}
 use Rattle.portal_messages.specs.declared.input.Next.{Next}
 use Rattle.portal_http.proofs.Serve.{serving-none, serving-more, served-ended, served-limit, served-read_fault, served-framing, served-framing_fault, served-memory_fault, served-no_memory, served-write_fault}
-use Rattle.portal_http.proofs.Steps.{IsAnswered, asked-answered, refused-answered}
+use Rattle.portal_http.proofs.Steps.{asked-answered, refused-answered}
 use Rattle.portal_http.proofs.stream.serve_routes.Goals as goal
 use Rattle.portal_http.proofs.stream.serve_routes.Goals.{in-Ok, in-Err, in-Ok-write_reply, in-Err-write_reply, in-Ok-request_of, in-Err-request_of}
 
@@ -38,24 +38,24 @@ returns-in-Err-Memory g c = elim c.match-write_reply-2.branch [
 pub returns-in-Err-write_reply-2 : goal.returns-in-Err-write_reply-2
 returns-in-Err-write_reply-2 g c =
     let comes = rw c.in-Ok-Message.field-0-is at (c.in-Ok-Message.ensures.next c.loop.invariant.fresh) in
-    let step : IsAnswered c.args.day (heard_of c.in-Ok-Message.message) c.match-request_of.reply (g.B.Book.seen c.loop.desk) (g.B.Book.seen c.match-request_of.desk) =
+    let answered : IsReplied c.args.day (heard_of c.in-Ok-Message.message) c.match-request_of.reply (g.B.Book.seen c.loop.desk) (g.B.Book.seen c.match-request_of.desk) =
     elim c.match-request_of.branch [
-      | in-Ok-request_of w ↦ rw (w.reply-is, w.desk-is) (asked-answered _ _ w.in-Ok-request_of.request _ _ _ w.in-Ok-request_of.ensures w.answer-reply.ensures.step w.answer-reply.ensures.kept (λ sure clean stands. w.answer-reply.ensures.crash sure stands (λ asked. clean)))
+      | in-Ok-request_of w ↦ rw (w.reply-is, w.desk-is) (asked-answered _ _ w.in-Ok-request_of.request _ _ _ w.in-Ok-request_of.ensures w.answer-reply.ensures.replied)
       | in-Err-request_of w ↦ rw (w.reply-is, w.desk-is) (refused-answered _ _ w.in-Err-request_of.why _ _ w.in-Err-request_of.ensures w.refused-reply.ensures)
     ] in
-    served-write_fault _ _ _ _ _ _ _ _ c.loop.invariant.serving _ _ _ c.in-Ok-Message.message c.match-request_of.reply comes step.step step.kept step.crash c.in-Err-write_reply-2.ensures.err
+    served-write_fault _ _ _ _ _ _ _ _ c.loop.invariant.serving _ _ _ c.in-Ok-Message.message c.match-request_of.reply comes answered c.in-Err-write_reply-2.ensures.err
 
 pub loop-preserved : goal.loop-preserved
 loop-preserved g c =
     let comes = rw c.in-Ok-Message.field-0-is at (c.in-Ok-Message.ensures.next c.loop.invariant.fresh) in
-    let step : IsAnswered c.args.day (heard_of c.in-Ok-Message.message) c.match-request_of.reply (g.B.Book.seen c.loop.desk) (g.B.Book.seen c.match-request_of.desk) =
+    let answered : IsReplied c.args.day (heard_of c.in-Ok-Message.message) c.match-request_of.reply (g.B.Book.seen c.loop.desk) (g.B.Book.seen c.match-request_of.desk) =
     elim c.match-request_of.branch [
-      | in-Ok-request_of w ↦ rw (w.reply-is, w.desk-is) (asked-answered _ _ w.in-Ok-request_of.request _ _ _ w.in-Ok-request_of.ensures w.answer-reply.ensures.step w.answer-reply.ensures.kept (λ sure clean stands. w.answer-reply.ensures.crash sure stands (λ asked. clean)))
+      | in-Ok-request_of w ↦ rw (w.reply-is, w.desk-is) (asked-answered _ _ w.in-Ok-request_of.request _ _ _ w.in-Ok-request_of.ensures w.answer-reply.ensures.replied)
       | in-Err-request_of w ↦ rw (w.reply-is, w.desk-is) (refused-answered _ _ w.in-Err-request_of.why _ _ w.in-Err-request_of.ensures w.refused-reply.ensures)
     ] in
     record {
       turns = omega arith;
-      serving = serving-more _ _ _ _ _ _ _ _ c.loop.invariant.serving _ _ _ c.in-Ok-Message.message c.match-request_of.reply comes step.step step.kept step.crash c.in-Ok-write_reply-2.ensures.ok;
+      serving = serving-more _ _ _ _ _ _ _ _ c.loop.invariant.serving _ _ _ c.in-Ok-Message.message c.match-request_of.reply comes answered c.in-Ok-write_reply-2.ensures.ok;
       fresh = c.read_message.ensures.last ∙ (ap stays c.in-Ok-Message.is ∙ ap (λ (x : Next). stays (Ok x)) c.in-Ok-Message.field-0-is);
     }
 

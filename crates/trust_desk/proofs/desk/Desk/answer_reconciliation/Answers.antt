@@ -12,7 +12,7 @@ use Rattle.trust_desk.proofs.desk.Desk.answer_reconciliation.Goals as goal
 use Rattle.trust_desk.proofs.desk.Desk.answer_reconciliation.Goals.{In_ok-reconciliation}
 
 -- all rows were handed over
-all-kept : (g : _) (c : In_ok-reconciliation g) → (g.B.Book.seen c.each_balance.new.self).clean → (g.B.Book.seen c.args.self.now).stands → IsKeptOf c.args.as_of (g.B.Book.seen c.args.self.now).firm c.each_balance.new.sink
+all-kept : (g : _) (c : In_ok-reconciliation g) → (g.B.Book.seen c.each_balance.new.self).clean → (g.B.Book.seen c.args.self.now).stands → IsKeptOf c.args.as_of (g.B.Book.seen c.args.self.now).firm c.into_sink-found.result
 all-kept g c = grind (arith, ints, nat_tests, rows-kept)
 
 -- and nothing else was done
@@ -29,7 +29,7 @@ answered g c result plain fine says day h kind =
     (λ clean stands.
     let firm = (g.B.Book.seen c.args.self.now).firm in
     let sound = (g.B.Book.seen c.args.self.now).sound stands in
-    let sink = c.each_balance.new.sink in
+    let sink = c.into_sink-found.result in
     let kept = all-kept g c clean stands in
     let found = c.in_ok-reconciliation.ensures (closings-kept c.args.as_of firm sink sound kept) in
     says

@@ -1,4 +1,4 @@
-use Rattle.trust_desk.proofs.Names.{ℕ, ◌≡◌, ◌∙◌, ◌+◌, ◌++◌, ◌∷◌, [], List, ap, refl, sym, arith, take, length, length-append, subst, false, Reply, counted_replies, heard, Heard, Asks, AreNoFaults, AreNoFaultsButLast, IsMadeInRun, MayLeave, before_fault, RunsSoundly, is_fault_reply, KeepsBook, ints, nat_tests}
+use Rattle.trust_desk.proofs.Names.{Counts, ℕ, ◌≡◌, ◌∙◌, ◌+◌, ◌++◌, ◌∷◌, [], List, ap, refl, sym, arith, take, length, length-append, subst, false, Reply, counted_replies, heard, Heard, Asks, AreNoFaults, AreNoFaultsButLast, IsMadeInRun, MayLeave, before_fault, RunsSoundly, is_fault_reply, KeepsBook, ints, nat_tests}
 use Rattle.trust_desk.proofs.Calls.{kept-then, kept-as, kept-still}
 use Rattle.trust_desk.proofs.Runs.{run-more, counted-push, sound-runs-are-runs, heard-more}
 use Rattle.trust_desk.proofs.Own.{own-run}
@@ -11,7 +11,7 @@ loop-request-preserved g c =
     let B = g.B.Book in
     let firm = λ (b : _). (g.B.Book.seen b).firm in
     let i = c.loop-request.invariant in
-    let step = c.answer-reply.ensures in
+    let step = c.answer-reply.ensures.replied in
     let pushed = rw c.unwrap.ensures at c.push.ensures.items in
     let added = pushed ∙ ap (λ xs. xs ++ c.answer-reply.result ∷ []) c.reserve.ensures.items in
     let rs = c.loop-request.replies.items in
@@ -90,7 +90,7 @@ loop-request-init g c =
     record {
       run = λ clean stands. subst (λ (rs : List Reply). RunsSoundly c.args.day (firm c.args.self.now) [] rs (firm c.args.self.now)) none run;
       long = subst (λ (rs : List Reply). length rs ≡ 0) none refl;
-      kept = subst (λ (rs : List Reply). KeepsBook (counted_replies rs) (B.seen c.args.self.now) (B.seen c.args.self.now)) none (kept-still (B.seen c.args.self.now));
+      kept = subst (λ (rs : List Reply). KeepsBook (Counts (counted_replies rs)) (B.seen c.args.self.now) (B.seen c.args.self.now)) none (kept-still (B.seen c.args.self.now));
       crash = λ sure clean stands but_last. leave-still (firm c.args.self.now) (B.seen c.args.self.now);
       shut = λ sure clean stands. subst (λ (rs : List Reply). AreRun c.args.day (firm c.args.self.now) c.args.requests.now (before_fault rs)) none (firm c.args.self.now, run);
     }
