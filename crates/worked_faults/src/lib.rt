@@ -16,6 +16,8 @@ mod clock;
 #[cfg(test)]
 mod closes;
 #[cfg(test)]
+mod days;
+#[cfg(test)]
 mod ends;
 #[cfg(test)]
 mod figures;
