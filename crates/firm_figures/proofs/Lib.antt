@@ -1,8 +1,14 @@
+pub mod ClientLasts
+pub mod ClientRows
+pub mod ClientTotal
+pub mod Clients
+pub mod OneMatter
 pub mod DifferenceTold
 pub mod DoubleRows
 pub mod EntryDays
 pub mod Listing
 pub mod OpeningRows
+pub mod PurgedClients
 pub mod PurgedFigures
 pub mod PurgedLists
 pub mod PurgedPeriods

@@ -92,7 +92,7 @@ module _ (p : ℕ) where
   all-later day [] le all = tt
   all-later day (e ∷ es) le all = (by-later day (days_of e) le all.0, all-later day es le all.1)
 
-  at-rest : (h : Head) (day : ℕ) (rows : Rows) → Covered → Sound rows → IsAtRest h day rows.entries → day ≤ p → AddsNothing rows.entries
+  pub at-rest : (h : Head) (day : ℕ) (rows : Rows) → Covered → Sound rows → IsAtRest h day rows.entries → day ≤ p → AddsNothing rows.entries
   at-rest h day rows law sound rest le =
       let all = all-later day rows.entries le rest.by_close in
       let told = entries-told rows.entries all in

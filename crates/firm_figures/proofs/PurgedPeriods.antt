@@ -22,7 +22,7 @@ closed-by : (p m day last : ℕ) (o : Option Head) → IsSome (closed_on o) → 
 closed-by p m day last o closed none = grind (arith, nat_tests, false≢true, is_day_after, or-first, nat_lt)
 
 -- after a purge no matter that was closed after the day is purged, and so not this one
-closed-left : (p m : ℕ) (change : MatterChange) (firm : Firm) → IsPurge m firm change → is_period_purged p (after_change m change firm) ≡ false → IsClosedBy p (of m firm).head
+pub closed-left : (p m : ℕ) (change : MatterChange) (firm : Firm) → IsPurge m firm change → is_period_purged p (after_change m change firm) ≡ false → IsClosedBy p (of m firm).head
 unfolding is_period_purged
 closed-left p m change firm purge whole =
     let left : Rows = changed_by (edit.Purge purge.day) change.last (of m firm) in

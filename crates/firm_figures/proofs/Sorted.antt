@@ -2,7 +2,7 @@
 use Rattle.firm_figures.proofs.Names.{◌≡◌, ℕ, zero, suc, ◌+◌, ◌-◌, ◌<◌, ◌≤◌, Bool, true, false, not, cond, List, [], ◌∷◌, length, get_or, refl, sym, ap, ◌∙◌, subst, arith, ◌&&◌, nat_lt, nat_tests, common_steps, IsStrictWeakOrder, AllByRecursion, filter, IsSortedBy, IsStableBy, ties, recursion_from_All, sorted_far, all-map, put_in_order, in_order}
 
 module _ {X : Type 0} (lt : X → X → Bool) (o : IsStrictWeakOrder lt) where
-  abbrev Up : List X → Type 0
+  abbrev pub Up : List X → Type 0
   Up [] = Unit {0}
   Up (x ∷ xs) = AllByRecursion (λ y. lt y x ≡ false) xs × Up xs
 
@@ -32,7 +32,7 @@ module _ {X : Type 0} (lt : X → X → Bool) (o : IsStrictWeakOrder lt) where
       cases true is more = (put-all (λ w. lt w y ≡ false) x ys (o.one_way y x is) up.0, more)
       cases false is more = ((is, all-map (λ w. lt w y ≡ false) (λ w. lt w x ≡ false) ys (λ w h. o.chain w y x h is) up.0), up)
 
-  in_order-up : (xs : List X) → Up (in_order lt xs)
+  pub in_order-up : (xs : List X) → Up (in_order lt xs)
   in_order-up [] = tt
   in_order-up (x ∷ xs) = put-up x (in_order lt xs) (in_order-up xs)
 

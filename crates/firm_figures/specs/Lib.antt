@@ -1,3 +1,4 @@
+pub mod Clients
 pub mod Doubles
 pub mod Figures
 pub mod Listing

@@ -9,6 +9,8 @@ ghost use Rattle.firm_figures.specs.Purged.{PurgeChangesNoFigure, PurgeChangesNo
 ghost use Rattle.firm_figures.specs.Reconciliations.{ReconciliationIsKept};
 ghost use Rattle.firm_figures.specs.Lists.{JournalIsKept, ListedAreOpen, ListsAlwaysAgree, TrialIsKept, TotalIsKept};
 ghost use Rattle.firm_figures.specs.Retained.{RetentionIsKept};
+ghost use Rattle.firm_figures.specs.Clients.{ClientsAlwaysAgree, LedgersAsOfAreMoved, LedgersAsOfCovered};
+ghost use Rattle.firm_figures.specs.Clients.{ClientsAreKept, ClientsTotalIsKept, PurgeChangesNoClientLeft};
 ghost use Rattle.firm_figures.specs.OfLists.{SinksGiveTheSame};
 
 use trust_matter::laws::sound_is_covered;
@@ -93,3 +95,23 @@ pub fn retention_is_kept()
 pub fn sinks_give_the_same()
     ensures { SinksGiveTheSame }
 {}
+
+/// In a sound firm, as of any day, the list of the clients' ledgers adds up to the ledgers and to the journal, and no
+/// ledger is below zero.
+pub fn clients_agree()
+    ensures agree { ClientsAlwaysAgree }
+    ensures covered { LedgersAsOfCovered }
+    ensures moved { LedgersAsOfAreMoved }
+    ensures purged { PurgeChangesNoClientLeft }
+{
+    sound_is_covered();
+}
+
+/// What the sink of the list of clients keeps of an ordered, countable firm is the list. If the firm is sound, its lines
+/// add up to TOTAL.
+pub fn clients_are_kept()
+    ensures lines { ClientsAreKept }
+    ensures total { ClientsTotalIsKept }
+{
+    sound_is_covered();
+}

@@ -31,9 +31,15 @@
 //!   open matters, the firm's own balance and TOTAL (`lines`, `own`, `total`); the movements with the sums so far
 //!   (`lines`), none below zero (`covered`), the last of them TOTAL (`total`); the closed matters. The only error is
 //!   out of memory.
+//! - `ClientsSink`; `laws` `clients_are_kept`: the clients' ledgers as of a day, with their clients, in 128 bits.
+//! - `laws` `clients_agree`: in every sound firm they and the firm's own balance add up to the ledgers, and so to the
+//!   journal, of the reconciliation of that day (`agree`); each line is what the matter's movements by that day add up
+//!   to (`moved`); none is below zero (`covered`); a purge changes the list of no day that may still be asked for
+//!   (`purged`).
 //! - `laws` `sinks_give_the_same`: what `finish` of each sink gives of all rows of a sound firm is what these give.
 #![tactic(auto)]
 
+mod clients_sink;
 mod day_lists;
 mod figures;
 mod journal_sink;
@@ -43,6 +49,7 @@ mod reconciliation;
 mod retention_sink;
 mod trial_sink;
 
+pub use clients_sink::{ClientLine, ClientList, ClientsSink};
 pub use day_lists::{EntryLine, Issued, OpeningLine, ReconciliationLists};
 pub use figures::Figures;
 pub use firm_rows::Owner;

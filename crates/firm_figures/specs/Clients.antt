@@ -1,0 +1,149 @@
+-- The list of the clients' ledgers as of a day, and how it is built from rows that arrive one at a time.
+use Rattle.std.specs.Prelude.{◌≡◌, ℕ, Bool, false, not, ◌&&◌, ◌||◌, nat_le, cond, ◌==◌, List, [], ◌∷◌, ◌++◌, map, ℤ, pos, ◌+ℤ◌, ◌≤ℤ◌, fold}
+use Rattle.std.specs.List.{filter, flat_map, AllByRecursion}
+use Rattle.matter_rows.specs.declared.head.Head.{Head}
+use Rattle.matter_rows.specs.declared.head.Holder.{Holder}
+use Rattle.matter_rows.specs.declared.head.Holder.TheVariants as holder
+use Rattle.matter_rows.specs.declared.entry.Entry.{Entry}
+use Rattle.matter_rows.specs.Rows.{is_of_nobody}
+use Rattle.matter_rows.specs.Events.{events_of}
+use Rattle.trust_matter.specs.Changes.{MatterChange}
+use Rattle.firm_rows.specs.declared.ledger.FirmLine.{FirmLine}
+use Rattle.firm_rows.specs.Countable.{AreCountable, IsRowInRange, IsFirmLineInRange}
+use Rattle.firm_rows.specs.Sums.{sum_of}
+use Rattle.firm_rows.specs.Firm.{Row, HeadRow, SeatRow, EntryRow, Firm, of, after_change}
+use Rattle.firm_rows.specs.FirmSound.{IsInOrder, FirmSound}
+use Rattle.firm_rows.specs.Journal.{amount_for}
+use Rattle.firm_figures.specs.declared.clients_sink.ClientLine.{ClientLine}
+use Rattle.firm_figures.specs.Figures.{is_by, is_dated_by, is_event_by, is_moved_by, journal, ledgers, own_by}
+use Rattle.firm_figures.specs.Purged.{IsPurge, is_head_purged_after, is_period_purged}
+use Rattle.firm_figures.specs.Reconciling.{added, ledger_share_by}
+
+-- The list.
+
+-- the matter was opened on or before day p, and not closed by then
+abbrev pub is_open_by : ℕ → Head → Bool
+is_open_by p h = nat_le h.opened p && not (is_by p h.closed)
+
+-- it was, and it was not purged since
+abbrev pub is_listed : ℕ → Head → Bool
+is_listed p h = is_open_by p h && not (is_of_nobody h.holder)
+
+-- the client's label; empty if the matter was purged
+abbrev pub client_in : Holder → List ℕ
+client_in (holder.Client c) = c
+client_in (holder.Purged day) = []
+
+-- the ledger of a matter as of p: what its entries had moved on or before p
+abbrev pub ledger_as_of : ℕ → List Entry → ℤ
+ledger_as_of p es = sum_of (λ e. e.amount) (filter (is_event_by p) (flat_map events_of es))
+
+-- the heads of the listed matters, each with its matter, in the order of the rows
+abbrev pub open_heads : ℕ → List (ℕ × Row) → List (ℕ × Head)
+open_heads p [] = []
+open_heads p ((m, HeadRow h) ∷ rows) = cond (is_listed p h) ((m, h) ∷ open_heads p rows) (open_heads p rows)
+open_heads p ((m, SeatRow seat) ∷ rows) = open_heads p rows
+open_heads p ((m, EntryRow number entry) ∷ rows) = open_heads p rows
+
+-- a matter with its client and its ledger as of p
+abbrev pub client_line : ℕ → Firm → ℕ × Head → ClientLine
+client_line p firm (m, h) = record {
+  matter = m;
+  client = client_in h.holder;
+  ledger = ledger_as_of p (of m firm).entries;
+}
+
+-- each matter that was open as of p, with its client and its ledger as of p
+abbrev pub client_lines : ℕ → Firm → List ClientLine
+client_lines p firm = map (client_line p firm) (open_heads p firm.rows)
+
+-- TOTAL: the sum of these and of the firm's own lines by p
+abbrev pub clients_total : ℕ → Firm → ℤ
+clients_total p firm = sum_of (λ l. l.ledger) (client_lines p firm) +ℤ own_by p firm
+
+-- What is always true of it.
+
+-- TOTAL is the figures LEDGERS and JOURNAL of the same day, and no client's ledger as of the day is negative
+pub record ClientsAgree (p : ℕ) (firm : Firm) : Type 0 where
+  pub ledgers : clients_total p firm ≡ ledgers p firm
+  pub journal : clients_total p firm ≡ journal p firm
+  pub covered : AllByRecursion (λ l. pos 0 ≤ℤ l.ledger) (client_lines p firm)
+
+abbrev pub ClientsAlwaysAgree : Type 0
+ClientsAlwaysAgree = (p : ℕ) (firm : Firm) → FirmSound firm → ClientsAgree p firm
+
+-- no matter's ledger as of any day is negative
+abbrev pub LedgersAsOfCovered : Type 0
+LedgersAsOfCovered = (p m : ℕ) (firm : Firm) → FirmSound firm → pos 0 ≤ℤ ledger_as_of p (of m firm).entries
+
+-- it is the sum of the matter's movements by the day
+abbrev pub LedgersAsOfAreMoved : Type 0
+LedgersAsOfAreMoved =
+    (p m : ℕ) (firm : Firm) → FirmSound firm
+    → ledger_as_of p (of m firm).entries ≡ sum_of (amount_for m) (filter (is_moved_by p) firm.movements)
+
+-- purging a matter of a sound firm changes nothing of the list of a day whose records are complete afterwards
+abbrev pub PurgeChangesNoClientLeft : Type 0
+PurgeChangesNoClientLeft =
+    (p m : ℕ) (change : MatterChange) (firm : Firm)
+    → FirmSound firm → IsPurge m firm change → is_period_purged p (after_change m change firm) ≡ false
+    → client_lines p (after_change m change firm) ≡ client_lines p firm
+
+-- How it is built.
+
+-- what the sink stores
+pub record ClientsKept : Type 0 where
+  pub day : ℕ
+  pub own : ℤ
+  pub lines : List ClientLine
+  pub purged : Bool
+
+abbrev pub no_clients : ℕ → ClientsKept
+no_clients p = record { day = p; own = pos 0; lines = []; purged = false }
+
+-- with an amount added to the last line, if that is of this matter
+abbrev pub add_to_last : ℕ → ℤ → List ClientLine → List ClientLine
+add_to_last m z [] = []
+add_to_last m z (l ∷ []) = cond (l.matter == m) (record l { ledger = added l.ledger z }) l ∷ []
+add_to_last m z (l ∷ k ∷ ls) = l ∷ add_to_last m z (k ∷ ls)
+
+abbrev pub with_client_row : ClientsKept → ℕ × Row → ClientsKept
+with_client_row s (m, HeadRow h) = record s {
+  lines = cond (is_listed s.day h)
+      (s.lines ++ (record { matter = m; client = client_in h.holder; ledger = pos 0 } ∷ []))
+      s.lines;
+  purged = is_head_purged_after s.day h || s.purged;
+}
+with_client_row s (m, SeatRow seat) = s
+with_client_row s (m, EntryRow n e) = record s { lines = add_to_last m (ledger_share_by s.day e) s.lines }
+
+abbrev pub with_client_own : ClientsKept → FirmLine → ClientsKept
+with_client_own s l = record s { own = added s.own (cond (is_dated_by s.day l) l.amount (pos 0)) }
+
+-- the list, and whether the records of the day are no longer complete
+abbrev pub clients_of : ℕ → Firm → ClientsKept
+clients_of p firm = record {
+  day = p;
+  own = own_by p firm;
+  lines = client_lines p firm;
+  purged = is_period_purged p firm;
+}
+
+-- what the sink stores from all rows and lines of an ordered, countable firm is the list
+abbrev pub ClientsAreKept : Type 0
+ClientsAreKept =
+    (p : ℕ) (firm : Firm) → IsInOrder firm
+    → AreCountable IsRowInRange firm.rows → AreCountable IsFirmLineInRange firm.firm_lines
+    → fold with_client_own (fold with_client_row (no_clients p) firm.rows) firm.firm_lines
+    ≡ clients_of p firm
+
+-- the sum of what is stored, in 128 bits
+abbrev pub clients_sum : ClientsKept → ℤ
+clients_sum s = fold (λ z (l : ClientLine). added z l.ledger) s.own s.lines
+
+-- if the firm is sound, that sum is TOTAL
+abbrev pub ClientsTotalIsKept : Type 0
+ClientsTotalIsKept =
+    (p : ℕ) (firm : Firm) → FirmSound firm
+    → AreCountable IsRowInRange firm.rows → AreCountable IsFirmLineInRange firm.firm_lines
+    → clients_sum (clients_of p firm) ≡ clients_total p firm
