@@ -15,7 +15,7 @@ use std::cmp::Ordering;
 use std::marker::Model;
 use std::mem;
 use trust_base::{BankText, Day, EntryNo, Line, MatterNo, StoreFault};
-use trust_matter::{Clearing, DepositState, Entry, PaymentState};
+use trust_matter::{Clearing, DepositState, Entry, Head, PaymentState};
 use trust_store::Book;
 
 /// The bank lines that cleared entries and the firm's own, dated in a month or the month before it, and the last day on
@@ -101,18 +101,11 @@ impl ClearedLines {
         Ok(())
     }
 
-    // Adds what a row of a matter shows.
-    fn keep_row(&mut self, matter: MatterNo, row: MatterRow<'_>) -> Result<(), AllocError> {
-        match row {
-            MatterRow::Head(head) => match self.last {
-                Some(last) if head.last.get() <= last.get() => Ok(()),
-                _ => {
-                    self.last = Some(head.last);
-                    Ok(())
-                }
-            },
-            MatterRow::Seat(_seat) => Ok(()),
-            MatterRow::Entry(number, entry) => self.keep_entry(matter, number, entry),
+    // Keeps the later of two days on which a matter was changed last.
+    fn keep_last(&mut self, head: &Head) {
+        match self.last {
+            Some(last) if head.last.get() <= last.get() => {}
+            Some(_) | None => self.last = Some(head.last),
         }
     }
 
@@ -190,7 +183,14 @@ impl MatterRowSink for ClearedLines {
     ghost taken = { λ lines row. lines };
 
     fn matter_row(&mut self, matter: MatterNo, row: MatterRow<'_>) -> Result<(), AllocError> {
-        self.keep_row(matter, row)
+        match row {
+            MatterRow::Head(head) => {
+                self.keep_last(head);
+                Ok(())
+            }
+            MatterRow::Seat(_seat) => Ok(()),
+            MatterRow::Entry(number, entry) => self.keep_entry(matter, number, entry),
+        }
     }
 }
 
@@ -242,10 +242,20 @@ impl<S: MatterRowSink> MatterRowSink for Beside<S> {
     ghost taken = { S.taken };
 
     fn matter_row(&mut self, matter: MatterNo, row: MatterRow<'_>) -> Result<(), AllocError> {
-        if self.lines.keep_row(matter, row).is_err() {
-            self.lines.stop();
+        match row {
+            MatterRow::Head(head) => {
+                self.lines.keep_last(head);
+                self.sink.matter_row(matter, MatterRow::Head(head))
+            }
+            MatterRow::Seat(seat) => self.sink.matter_row(matter, MatterRow::Seat(seat)),
+            MatterRow::Entry(number, entry) => {
+                if self.lines.keep_entry(matter, number, entry).is_err() {
+                    self.lines.stop();
+                }
+                self.sink
+                    .matter_row(matter, MatterRow::Entry(number, entry))
+            }
         }
-        self.sink.matter_row(matter, row)
     }
 }
 

@@ -369,7 +369,7 @@ impl<B: Book> Desk<B> {
             → KeepsUnnamed (B.seen self.old).firm item.now (B.seen self.new).firm }
 
         // The result is `Store` only if a call of the book returned `Store`.
-        ensures kept { KeepsBook (counted result) (B.seen self.old) (B.seen self.new) }
+        ensures kept { KeepsBook (Counts (counted result)) (B.seen self.old) (B.seen self.new) }
 
         // A crash may leave what it might have left before, or the rows with the item's change. If the result is `Ok`
         // and the book was settled, it can leave only the latter.
