@@ -5,6 +5,7 @@ import { failedBox, refusedBox } from './boxes.js';
 import { Desk, Refused, askWho } from './desk.js';
 import { button, el, link, p } from './elements.js';
 import { Shelf } from './shelf.js';
+import { clients } from './views/clients.js';
 import { showEntry } from './views/entry.js';
 import { showCard, showMatter } from './views/matter.js';
 import { myMatters } from './views/matters.js';
@@ -31,6 +32,7 @@ const VIEWS = [
     [/^#\/records$/, records],
     [/^#\/report\/(trial-balance|journal|exceptions|retention)$/, report],
     [/^#\/reconciliation(?:\/(\d{4}-\d\d-\d\d))?$/, reconciliation],
+    [/^#\/clients(?:\/(\d{4}-\d\d-\d\d))?$/, clients],
 ];
 
 const PLACES = [

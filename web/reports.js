@@ -1,4 +1,5 @@
-// What the page takes out of the firm's reports. None of these lines has a user's text in it.
+// What the page takes out of the firm's reports. None of these lines has a user's text in it, but for a client's name
+// behind the first bar of its line.
 
 const linesOf = (text) => text.trimEnd().split('\n');
 
@@ -13,6 +14,13 @@ export function readTrial(text) {
         firm: rows.at(-2)[1],
         total: rows.at(-1)[1],
     };
+}
+
+// The ledgers as of a day, each with its client.
+export function readClients(text) {
+    const matters = linesOf(text).map((line) => /^(\d{6}) +(-?\d+\.\d\d) \| (.*)$/.exec(line)).filter(Boolean);
+    const [firm, total] = linesOf(text).slice(-2).map((line) => line.split(/ +/)[1]);
+    return { matters: matters.map(([, matter, ledger, client]) => ({ matter, ledger, client })), firm, total };
 }
 
 export const readRetention = (text) =>

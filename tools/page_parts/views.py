@@ -15,7 +15,7 @@ DAY = "2026-03-31"
 NARROW = 320  # a page magnified to four times its size has this width
 
 REPORTS = ["#/report/trial-balance", "#/report/journal", "#/report/exceptions", "#/report/retention",
-           "#/reconciliation", "#/reconciliation/2026-03-31"]
+           "#/reconciliation", "#/reconciliation/2026-03-31", "#/clients", "#/clients/2026-03-31"]
 FORMS = {"cashier": ["deposit", "propose", "claim", "seats"], "lee": ["propose", "fee", "claim"], "ada": ["dispute"]}
 
 
@@ -139,8 +139,8 @@ def propose_by_keys(firm: Firm, checks: Checks) -> None:
 
 def print_views(firm: Firm, folder: pathlib.Path, checks: Checks) -> None:
     browser = Browser("cashier", firm.origin)
-    for view, words in ((f"#/reconciliation/{DAY}", "ADJUSTED BANK"), ("#/m/000001/card", "LEDGER 000001"),
-                        ("#/m/000001", "Clerk of the Superior Court")):
+    for view, words in ((f"#/reconciliation/{DAY}", "ADJUSTED BANK"), (f"#/clients/{DAY}", f"CLIENTS {DAY}"),
+                        ("#/m/000001/card", "LEDGER 000001"), ("#/m/000001", "Clerk of the Superior Court")):
         browser.to(view)
         sheet = {"preferCSSPageSize": True, "printBackground": False, "paperWidth": 8.5, "paperHeight": 11}
         path = folder / "print.pdf"

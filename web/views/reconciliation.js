@@ -2,7 +2,7 @@
 
 import { grouped, isNothing } from '../amounts.js';
 import { doneBox, noteBox, refusedBox, warningBox } from '../boxes.js';
-import { button, explained, link, number, p, printed, strong } from '../elements.js';
+import { button, explained, link, number, p, printed, quiet, strong } from '../elements.js';
 import { form } from '../forms.js';
 import { dayBefore, readDay } from '../names.js';
 import { dayOf, readBreaks, readFigures } from '../reports.js';
@@ -79,7 +79,8 @@ export async function reconciliation(page, day = null) {
     }
     const path = `/firm/reconciliation/${day}`;
     const { text } = await page.desk.get(path);
+    const listed = quiet('Beside it is filed ', link(`#/clients/${day}`, 'the list of clients as of that day'), '.');
     const parts = [breaksBox(readBreaks(text)), resultBox(readFigures(text)), explained(meansOf(EXPLAINED)),
-        printed(text, path, `reconciliation-${day}.txt`), asked];
+        printed(text, path, `reconciliation-${day}.txt`), listed, asked];
     return { title: ['Reconciliation of ', number(day)], parts };
 }

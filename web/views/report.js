@@ -1,6 +1,6 @@
 // The firm's reports, as the desk prints them.
 
-import { button, el, p, printed } from '../elements.js';
+import { button, el, link, p, printed } from '../elements.js';
 import { dayOf } from '../reports.js';
 import { dismissal } from './exceptions.js';
 
@@ -18,7 +18,8 @@ const linkTo = (name, isHere) =>
     el('a', { href: `#/report/${name}`, 'aria-current': isHere ? 'page' : null }, NAMES[name]);
 
 const reportsList = (now) => el('ul', { class: 'actions', 'aria-label': 'Reports' },
-    Object.keys(NAMES).map((name) => el('li', {}, linkTo(name, name === now))));
+    Object.keys(NAMES).map((name) => el('li', {}, linkTo(name, name === now))),
+    el('li', {}, link('#/clients', 'Clients as of a day')));
 
 export async function report(page, name) {
     const path = `/firm/${name}`;

@@ -22,6 +22,7 @@ use Rattle.cashier.specs.declared.outcome.Outcome.TheVariants as outcome
 -- the cashier's request for a report: of the firm, or the accounting of a matter
 abbrev pub asked_for : ReportCommand → Request
 asked_for (commands.Reconcile day) = requests.Reconcile Cashier day
+asked_for (commands.AsOf report day) = requests.AsOf Cashier report day
 asked_for (commands.Ledger matter) = requests.Matter matter Cashier Accounting
 asked_for (commands.Firm report) = requests.Report Cashier report
 

@@ -24,6 +24,7 @@ fn request_for(command: ReportCommand) -> Request
 {
     match command {
         ReportCommand::Reconcile(day) => Request::Reconcile(Caller::Cashier, day),
+        ReportCommand::AsOf(report, day) => Request::AsOf(Caller::Cashier, report, day),
         ReportCommand::Ledger(no) => Request::Matter {
             no,
             caller: Caller::Cashier,
@@ -146,6 +147,7 @@ pub fn run_report<M: Remarks, W: Write, B: Book>(
         ReportCommand::Firm(
             Report::Trial | Report::Journal | Report::Retention | Report::OwnLedger,
         )
+        | ReportCommand::AsOf(_, _)
         | ReportCommand::Ledger(_) => {}
     }
     outcome

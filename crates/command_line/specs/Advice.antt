@@ -29,6 +29,7 @@ command_text commands.Match = codes "match"
 command_text commands.Stream = codes "stream"
 command_text commands.Serve = codes "serve"
 command_text commands.Reconcile = codes "reconcile"
+command_text commands.Clients = codes "clients"
 command_text commands.Trial = codes "trial"
 command_text commands.Journal = codes "journal"
 command_text commands.Retention = codes "retention"
@@ -38,14 +39,15 @@ command_text commands.Check = codes "check"
 
 -- how a command is written after the options; without a command, all of them
 abbrev pub command_usage : Option CommandName → Text
-command_usage None = codes "(sheet | import FILE | match FILE | stream | serve PORT COUNT | reconcile DAY | trial | "
-    ++ codes "journal | retention | exceptions | ledger MATTER|FIRM | check)"
+command_usage None = codes "(sheet | import FILE | match FILE | stream | serve PORT COUNT | reconcile DAY | "
+    ++ codes "clients DAY | trial | journal | retention | exceptions | ledger MATTER|FIRM | check)"
 command_usage (Some commands.Sheet) = codes "sheet"
 command_usage (Some commands.Import) = codes "import FILE"
 command_usage (Some commands.Match) = codes "match FILE"
 command_usage (Some commands.Stream) = codes "stream"
 command_usage (Some commands.Serve) = codes "serve PORT COUNT"
 command_usage (Some commands.Reconcile) = codes "reconcile DAY"
+command_usage (Some commands.Clients) = codes "clients DAY"
 command_usage (Some commands.Trial) = codes "trial"
 command_usage (Some commands.Journal) = codes "journal"
 command_usage (Some commands.Retention) = codes "retention"
@@ -62,6 +64,7 @@ command_example (Some commands.Match) = codes "match bank.csv > statement.csv"
 command_example (Some commands.Stream) = codes "stream < messages.http"
 command_example (Some commands.Serve) = codes "serve 8080 100"
 command_example (Some commands.Reconcile) = codes "reconcile 2026-03-31"
+command_example (Some commands.Clients) = codes "clients 2026-03-31"
 command_example (Some commands.Trial) = codes "trial"
 command_example (Some commands.Journal) = codes "journal"
 command_example (Some commands.Retention) = codes "retention"
@@ -195,10 +198,14 @@ IsWrongToday values (wrong.NoDay text) =
     (first_of (codes "today") values ≡ Some text.now) × (day_of text.now ≡ None)
 IsWrongToday values _ = ⊥
 
+-- the operand of the command with this name is a day
+abbrev pub TakesDay : Text → Type 0
+TakesDay name = (name ≡ codes "reconcile") ⊎ (name ≡ codes "clients")
+
 -- of the values of a command with this name, this one is wrong
 abbrev pub IsWrongOperand : Text → List Row → Wrong → Type 0
 IsWrongOperand name values (wrong.NoDay text) =
-    (name ≡ codes "reconcile") × (first_of (codes "DAY") values ≡ Some text.now) × (day_of text.now ≡ None)
+    TakesDay name × (first_of (codes "DAY") values ≡ Some text.now) × (day_of text.now ≡ None)
 IsWrongOperand name values (wrong.NoMatter text) =
     (name ≡ codes "ledger") × (first_of (codes "MATTER") values ≡ Some text.now)
     × (text.now ≢ codes "FIRM") × (matter_of text.now ≡ None)

@@ -16,7 +16,9 @@ use Rattle.command_line.specs.declared.command.CliFault.TheVariants as faults
 use Rattle.command_line.specs.declared.command.Task.{Task}
 use Rattle.command_line.specs.declared.command.Task.TheVariants as tasks
 use Rattle.command_line.specs.declared.command.ReportCommand.{ReportCommand}
-use Rattle.command_line.specs.declared.command.ReportCommand.TheVariants.{Reconcile, Ledger, Firm}
+use Rattle.command_line.specs.declared.command.ReportCommand.TheVariants.{Reconcile, AsOf, Ledger, Firm}
+use Rattle.trust_desk.specs.declared.requests.DayReport.{DayReport}
+use Rattle.trust_desk.specs.declared.requests.DayReport.TheVariants as day_reports
 use Rattle.trust_desk.specs.declared.requests.Report.{Report}
 use Rattle.trust_desk.specs.declared.requests.Report.TheVariants as reports
 
@@ -58,10 +60,11 @@ run_apps = command_app (codes "sheet") [] ∷ command_app (codes "import") (code
     ∷ command_app (codes "match") (codes "FILE" ∷ []) ∷ command_app (codes "stream") []
     ∷ command_app (codes "serve") (codes "PORT" ∷ codes "COUNT" ∷ []) ∷ command_app (codes "check") [] ∷ []
 
--- the commands of reports: `reconcile DAY`, `trial`, `journal`, `retention`, `exceptions`, `ledger MATTER`; instead
--- of a matter's number there may be the word FIRM
+-- the commands of reports: `reconcile DAY`, `clients DAY`, `trial`, `journal`, `retention`, `exceptions`,
+-- `ledger MATTER`; instead of a matter's number there may be the word FIRM
 unfoldable pub report_apps : List App
-report_apps = command_app (codes "reconcile") (codes "DAY" ∷ []) ∷ command_app (codes "trial") []
+report_apps = command_app (codes "reconcile") (codes "DAY" ∷ []) ∷ command_app (codes "clients") (codes "DAY" ∷ [])
+    ∷ command_app (codes "trial") []
     ∷ command_app (codes "journal") [] ∷ command_app (codes "retention") [] ∷ command_app (codes "exceptions") []
     ∷ command_app (codes "ledger") (codes "MATTER" ∷ []) ∷ []
 
@@ -107,9 +110,14 @@ firm_report_name reports.Journal = codes "journal"
 firm_report_name reports.Retention = codes "retention"
 firm_report_name reports.OwnLedger = codes "ledger"
 
+-- the name of the command of a report as of a day
+abbrev pub day_report_name : DayReport → Text
+day_report_name day_reports.Clients = codes "clients"
+
 -- the name of the command of what is to be printed
 abbrev pub report_name : ReportCommand → Text
 report_name (Reconcile day) = codes "reconcile"
+report_name (AsOf report day) = day_report_name report
 report_name (Ledger matter) = codes "ledger"
 report_name (Firm report) = firm_report_name report
 
@@ -117,6 +125,7 @@ report_name (Firm report) = firm_report_name report
 -- own money alone, the word for the firm
 abbrev pub HasReportOperands : List Row → ReportCommand → Type 0
 HasReportOperands values (Reconcile day) = option_and_then day_of (first_of (codes "DAY") values) ≡ Some day
+HasReportOperands values (AsOf report day) = option_and_then day_of (first_of (codes "DAY") values) ≡ Some day
 HasReportOperands values (Ledger matter) = option_and_then matter_of (first_of (codes "MATTER") values) ≡ Some matter
 HasReportOperands values (Firm reports.OwnLedger) = first_of (codes "MATTER") values ≡ Some (codes "FIRM")
 HasReportOperands values (Firm report) = ⊤

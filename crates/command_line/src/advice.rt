@@ -20,6 +20,8 @@ pub enum CommandName {
     Serve,
     /// Print the three-way reconciliation.
     Reconcile,
+    /// Print the list of the clients' ledgers as of a day.
+    Clients,
     /// Print the trial balance.
     Trial,
     /// Print the journal.
@@ -51,7 +53,7 @@ pub enum Wrong<'a> {
     /// The command line does not accept this word where it stands: it is no option and no command, or is one too
     /// many.
     Word(&'a str),
-    /// The value of `--today`, or the operand of `reconcile`, is not a day.
+    /// The value of `--today`, or the operand of `reconcile` or `clients`, is not a day.
     NoDay(&'a str),
     /// The operand of `ledger` is neither a matter's number nor the word for the firm.
     NoMatter(&'a str),
@@ -91,6 +93,7 @@ pub fn command_called(name: &str) -> Option<CommandName>
         "stream" => Some(CommandName::Stream),
         "serve" => Some(CommandName::Serve),
         "reconcile" => Some(CommandName::Reconcile),
+        "clients" => Some(CommandName::Clients),
         "trial" => Some(CommandName::Trial),
         "journal" => Some(CommandName::Journal),
         "retention" => Some(CommandName::Retention),
@@ -107,14 +110,15 @@ fn usage_of(command: Option<CommandName>) -> &'static str
 {
     match command {
         None =>
-            "(sheet | import FILE | match FILE | stream | serve PORT COUNT | reconcile DAY | trial | \
-            journal | retention | exceptions | ledger MATTER|FIRM | check)",
+            "(sheet | import FILE | match FILE | stream | serve PORT COUNT | reconcile DAY | clients DAY | \
+            trial | journal | retention | exceptions | ledger MATTER|FIRM | check)",
         Some(CommandName::Sheet) => "sheet",
         Some(CommandName::Import) => "import FILE",
         Some(CommandName::Match) => "match FILE",
         Some(CommandName::Stream) => "stream",
         Some(CommandName::Serve) => "serve PORT COUNT",
         Some(CommandName::Reconcile) => "reconcile DAY",
+        Some(CommandName::Clients) => "clients DAY",
         Some(CommandName::Trial) => "trial",
         Some(CommandName::Journal) => "journal",
         Some(CommandName::Retention) => "retention",
@@ -135,6 +139,7 @@ fn example_of(command: Option<CommandName>) -> &'static str
         Some(CommandName::Match) => "match bank.csv > statement.csv",
         Some(CommandName::Stream) => "stream < messages.http",
         Some(CommandName::Serve) => "serve 8080 100",
+        Some(CommandName::Clients) => "clients 2026-03-31",
         Some(CommandName::Trial) => "trial",
         Some(CommandName::Journal) => "journal",
         Some(CommandName::Retention) => "retention",

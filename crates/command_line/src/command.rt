@@ -15,13 +15,15 @@ use clap::{Arg, ArgAction, ArgMatches, Command};
 use itoa::Buffer;
 use std::alloc::{AllocError, Global};
 use trust_base::{Day, MatterNo};
-use trust_desk::Report;
+use trust_desk::{DayReport, Report};
 
 /// What a run is to print.
 #[derive(Clone, Copy, PartialEq, Eq, Debug)]
 pub enum ReportCommand {
     /// The three-way reconciliation of this day.
     Reconcile(Day),
+    /// This report on the firm as of this day.
+    AsOf(DayReport, Day),
     /// The ledger card of this matter.
     Ledger(MatterNo),
     /// This report on the firm.
@@ -164,6 +166,10 @@ fn task_of<'a>(name: &str, values: &ArgMatches<'a>) -> Option<Task<'a>>
         }),
         "check" => Some(Task::Check),
         "reconcile" => Some(Task::Report(ReportCommand::Reconcile(day_operand(values, "DAY")?))),
+        "clients" => {
+            let day = day_operand(values, "DAY")?;
+            Some(Task::Report(ReportCommand::AsOf(DayReport::Clients, day)))
+        }
         "trial" => Some(Task::Report(ReportCommand::Firm(Report::Trial))),
         "journal" => Some(Task::Report(ReportCommand::Firm(Report::Journal))),
         "retention" => Some(Task::Report(ReportCommand::Firm(Report::Retention))),
@@ -188,6 +194,7 @@ const COMMANDS: &[(&str, &[&str])] = &[
     ("serve", &["PORT", "COUNT"]),
     ("check", &[]),
     ("reconcile", &["DAY"]),
+    ("clients", &["DAY"]),
     ("trial", &[]),
     ("journal", &[]),
     ("retention", &[]),

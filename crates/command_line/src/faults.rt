@@ -231,6 +231,7 @@ fn wrong_operand<'a>(name: &str, values: &ArgMatches<'a>) -> Option<Wrong<'a>>
 {
     match name {
         "reconcile" => no_day(values.get_str("DAY")?),
+        "clients" => no_day(values.get_str("DAY")?),
         "ledger" => no_card(values.get_str("MATTER")?),
         "serve" => match no_port(values.get_str("PORT")?) {
             Some(wrong) => Some(wrong),

@@ -1,7 +1,8 @@
 -- The refusal that is told of a message is the least.
-use Rattle.portal_requests.proofs.Names.{◌≡◌, ◌∙◌, ◌<◌, ℕ, true, false, List, Option, Some, None, Result, Ok, Err, refl, sym, ap, subst, arith, bytes_eq, day_of, Line, Field, Refusal, BadField, BadMethod, NoCaller, NoRoute, Ask, Caller, Request, Message, path_of, Place, entry_ask, matter_ask, body_in, caller_of, dismissing, line_in, line_keys, day_part, entry_part, named_in, method_of, as_of, asked_at, called, of_matter, request, routed, place_of, ints, nat_tests}
+use Rattle.portal_requests.proofs.Names.{◌≡◌, ◌∙◌, ◌<◌, ℕ, true, false, List, Option, Some, None, Result, Ok, Err, refl, sym, ap, subst, arith, bytes_eq, day_of, Line, Field, Refusal, BadField, BadMethod, NoCaller, NoRoute, Ask, Caller, Request, Message, path_of, Place, entry_ask, matter_ask, body_in, caller_of, dismissing, line_in, line_keys, day_part, entry_part, named_in, report_day_part, method_of, as_of, asked_at, reported_as_of, called, of_matter, request, routed, place_of, ints, nat_tests}
 use Rattle.std.proofs.Common.{◌⊎◌, IfSome}
 use Rattle.trust_base.specs.Refusals.{number_of}
+use Rattle.trust_desk.specs.declared.requests.DayReport.{DayReport}
 use Rattle.portal_requests.specs.declared.routes.Place.TheVariants as place
 use Rattle.portal_requests.specs.LeastRefusal.{LeastRefusal, RefusesAt}
 
@@ -22,6 +23,9 @@ matter-field caller named asked r e = grind (arith, ints, nat_tests, err-same)
 day-field : (caller : Caller) (o : Option ℕ) (r : Refusal) → as_of caller o ≡ Err r → IsOfField r
 day-field caller o r e = grind (arith, ints, nat_tests, err-same)
 
+report-field : (caller : Caller) (report : DayReport) (o : Option ℕ) (r : Refusal) → reported_as_of caller report o ≡ Err r → IsOfField r
+report-field caller report o r e = grind (arith, ints, nat_tests, err-same)
+
 line-field : (caller : Caller) (o : Option Line) (r : Refusal) → dismissing caller o ≡ Err r → IsOfField r
 line-field caller o r e = grind (arith, ints, nat_tests, err-same)
 
@@ -30,6 +34,7 @@ of-field (place.Matter p) caller path body r e = matter-field caller (named_in p
 of-field (place.Entry p) caller path body r e = matter-field caller (named_in path) (entry_ask p (entry_part path) body) r e
 of-field (place.Report p) caller path body r e = absurd (cc)
 of-field place.Reconciliation caller path body r e = day-field caller (day_of (day_part path)) r e
+of-field (place.AsOf report) caller path body r e = report-field caller report (day_of (report_day_part path)) r e
 of-field place.Import caller path body r e = absurd (cc)
 of-field (place.Match p) caller path body r e = absurd (cc)
 of-field place.Dismissal caller path body r e = line-field caller (line_in (body_in line_keys body)) r e

@@ -29,9 +29,9 @@ pub use Rattle.portal_requests.specs.Asked.{entry_ask, matter_ask, numbered_ask}
 pub use Rattle.portal_requests.specs.Bodies.{body_in, has_keys, is_key, is_object, object_with, text_in, texts}
 pub use Rattle.portal_requests.specs.Callers.{caller_of}
 pub use Rattle.portal_requests.specs.Dismissals.{dismissing, dismissing_in, line_in, line_keys}
-pub use Rattle.portal_requests.specs.Paths.{after_slash, day_part, entry_part, has_matter, named_in, up_to_slash}
+pub use Rattle.portal_requests.specs.Paths.{after_slash, day_part, entry_part, has_matter, named_in, report_day_part, up_to_slash}
 pub use Rattle.portal_requests.specs.Places.{method_of}
-pub use Rattle.portal_requests.specs.Requests.{as_of, asked_at, called, heard_as, of_matter, placed, routed}
+pub use Rattle.portal_requests.specs.Requests.{as_of, asked_at, called, heard_as, of_matter, placed, reported_as_of, routed}
 unfoldable pub use Rattle.portal_requests.specs.Requests.{heard_of, request}
 pub use Rattle.portal_requests.specs.Routing.{place_of}
 pub use Rattle.portal_requests.specs.Table.{IsTaken, row_in, rows_of}

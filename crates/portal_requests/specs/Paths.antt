@@ -21,6 +21,10 @@ entry_part path = up_to_slash (after_slash (after_slash (drop 9 path)))
 abbrev pub day_part : List ℕ → List ℕ
 day_part path = drop 21 path
 
+-- the part of a path that names a day, after /firm/, the name of a report and a slash
+abbrev pub report_day_part : List ℕ → List ℕ
+report_day_part path = after_slash (drop 6 path)
+
 abbrev pub ends_or_goes_on : List ℕ → Bool
 ends_or_goes_on [] = true
 ends_or_goes_on (b ∷ bs) = b == 47

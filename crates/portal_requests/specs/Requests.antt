@@ -8,6 +8,7 @@ use Rattle.trust_base.specs.declared.refusal.Field.{Field}
 use Rattle.trust_base.specs.declared.refusal.Field.TheVariants as field
 use Rattle.trust_matter.specs.declared.ask.Caller.{Caller}
 use Rattle.trust_matter.specs.declared.ask.Ask.{Ask}
+use Rattle.trust_desk.specs.declared.requests.DayReport.{DayReport}
 use Rattle.trust_desk.specs.declared.requests.Request.{Request}
 use Rattle.trust_desk.specs.declared.requests.Request.TheVariants as requests
 use Rattle.trust_desk.specs.Heard.{Heard, Asks, Unread}
@@ -17,7 +18,7 @@ use Rattle.portal_requests.specs.declared.routes.Place.{Place}
 use Rattle.portal_requests.specs.declared.routes.Place.TheVariants as place
 use Rattle.portal_requests.specs.Asked.{entry_ask, matter_ask}
 use Rattle.portal_requests.specs.Callers.{caller_of}
-use Rattle.portal_requests.specs.Paths.{day_part, entry_part, named_in}
+use Rattle.portal_requests.specs.Paths.{day_part, entry_part, named_in, report_day_part}
 use Rattle.portal_requests.specs.Dismissals.{dismissing_in}
 use Rattle.portal_requests.specs.Places.{method_of}
 use Rattle.portal_requests.specs.Routing.{place_of}
@@ -33,12 +34,18 @@ abbrev pub as_of : Caller → Option ℕ → Result Request Refusal
 as_of caller None = Err (BadField field.Day)
 as_of caller (Some day) = Ok (requests.Reconcile caller day)
 
+-- a report as of the day in a path
+abbrev pub reported_as_of : Caller → DayReport → Option ℕ → Result Request Refusal
+reported_as_of caller report None = Err (BadField field.Day)
+reported_as_of caller report (Some day) = Ok (requests.AsOf caller report day)
+
 abbrev pub asked_at : Place → Caller → List ℕ → List ℕ → Result Request Refusal
 asked_at (place.Matter p) caller path body = of_matter caller (named_in path) (matter_ask p body)
 asked_at (place.Entry p) caller path body =
     of_matter caller (named_in path) (entry_ask p (entry_part path) body)
 asked_at (place.Report report) caller path body = Ok (requests.Report caller report)
 asked_at place.Reconciliation caller path body = as_of caller (day_of (day_part path))
+asked_at (place.AsOf report) caller path body = reported_as_of caller report (day_of (report_day_part path))
 asked_at place.Import caller path body = Ok (requests.Import caller body)
 asked_at (place.Match text) caller path body = Ok (requests.Match caller body text)
 asked_at place.Dismissal caller path body = dismissing_in caller body

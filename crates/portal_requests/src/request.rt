@@ -13,8 +13,8 @@ ghost use Rattle.portal_requests.specs.Bodies.{body_in, field_text_at, is_object
 ghost use Rattle.portal_requests.specs.Bodies.{texts};
 ghost use Rattle.portal_requests.specs.Callers.{caller_of};
 ghost use Rattle.portal_requests.specs.Dismissals.{dismissing_in};
-ghost use Rattle.portal_requests.specs.Paths.{after_slash, day_part, named_in, up_to_slash};
-ghost use Rattle.portal_requests.specs.Requests.{as_of, of_matter, request};
+ghost use Rattle.portal_requests.specs.Paths.{after_slash, day_part, named_in, report_day_part, up_to_slash};
+ghost use Rattle.portal_requests.specs.Requests.{as_of, of_matter, reported_as_of, request};
 ghost use Rattle.trust_base.specs.Texts.{day_of};
 
 use crate::routes::{EntryPlace, MatterPlace, Place, Routes, method};
@@ -27,7 +27,7 @@ use serde_json::Value;
 use statement_csv::line_of_texts;
 use std::alloc::{AllocError, Global};
 use trust_base::{Day, EntryNo, Field, MatterNo, OwnedBytes, PersonId, Refusal};
-use trust_desk::Request;
+use trust_desk::{DayReport, Request};
 use trust_matter::{Ask, Caller, SplitAsk};
 
 /// Returns the matter that a path names, whether or not it has a route: the path is `/matters/` and the six digits of
@@ -339,6 +339,17 @@ fn read_reconciliation_at(caller: Caller, path: &[u8]) -> Result<Request, Refusa
     }
 }
 
+// Returns the request for a report as of the day in a path, which comes after `/firm/`, the report and a slash.
+fn read_day_report_at(caller: Caller, report: DayReport, path: &[u8]) -> Result<Request, Refusal>
+    ensures { Answers (reported_as_of caller report (day_of (report_day_part path.now))) result }
+{
+    let (_, day) = split_at_slash(path.get(6..).unwrap_or(&[]));
+    match Day::read(day) {
+        Some(day) => Ok(Request::AsOf(caller, report, day)),
+        None => Err(Refusal::BadField(Field::Day)),
+    }
+}
+
 // Returns the bank statement in a body. Fails if memory runs out.
 fn read_statement(alloc: Global, body: &[u8]) -> Result<OwnedBytes, AllocError>
     ensures { IfOk result (λ statement. statement ≡ body.now) }
@@ -382,6 +393,7 @@ pub fn request_of(alloc: Global, routes: &Routes, message: &Message) -> Result<R
         }
         Place::Report(report) => Ok(Request::Report(caller, report)),
         Place::Reconciliation => read_reconciliation_at(caller, path),
+        Place::AsOf(report) => read_day_report_at(caller, report, path),
         Place::Import => {
             let statement = read_statement(alloc, body)?;
             Ok(Request::Import { caller, statement })

@@ -8,7 +8,7 @@ ghost use Rattle.portal_requests.specs.Table.{the_routes};
 use matchit::{InsertError, Router};
 use std::alloc::Global;
 use std::marker::Model;
-use trust_desk::{MatchText, Report};
+use trust_desk::{DayReport, MatchText, Report};
 
 /// What a route asks of a matter as a whole.
 #[derive(Clone, Copy, PartialEq, Eq, Debug)]
@@ -50,6 +50,8 @@ pub(crate) enum Place {
     Report(Report),
     /// To the reconciliation of the day in the path.
     Reconciliation,
+    /// To a report on the firm as of the day in the path.
+    AsOf(DayReport),
     /// To the import of a bank statement.
     Import,
     /// To a text that matching a bank statement gives.
@@ -66,7 +68,8 @@ pub(crate) fn method(place: Place) -> &'static [u8]
         Place::Matter(MatterPlace::Show | MatterPlace::Accounting)
         | Place::Entry(EntryPlace::Show)
         | Place::Report(_)
-        | Place::Reconciliation => b"GET",
+        | Place::Reconciliation
+        | Place::AsOf(_) => b"GET",
         Place::Matter(_) | Place::Entry(_) | Place::Import | Place::Match(_) | Place::Dismissal =>
             b"POST",
     }
@@ -143,6 +146,7 @@ const TABLE: &[(&str, Place)] = &[
     ("/firm/trial-balance", Place::Report(Report::Trial)),
     ("/firm/journal", Place::Report(Report::Journal)),
     ("/firm/reconciliation/{day}", Place::Reconciliation),
+    ("/firm/clients/{day}", Place::AsOf(DayReport::Clients)),
     ("/firm/retention", Place::Report(Report::Retention)),
 ];
 

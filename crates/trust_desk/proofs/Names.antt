@@ -70,9 +70,11 @@ pub use Rattle.trust_matter.specs.declared.bank_line.BankLine.{BankLine}
 pub use Rattle.trust_matter.specs.declared.line_verdict.DatedEdit.{DatedEdit}
 pub use Rattle.trust_matter.specs.declared.line_verdict.LineEffect.{LineEffect}
 pub use Rattle.trust_matter.specs.declared.line_verdict.Reason.{Reason}
+pub use Rattle.trust_reports.specs.Clients.{ClientsKept, clients_of, clients_sum, no_clients, with_client_own, with_client_row}
 pub use Rattle.trust_reports.specs.Lists.{JournalKept, TrialKept, no_journal, trial_kept, trial_of, trial_sum, with_moved, with_trial_own, with_trial_row}
 pub use Rattle.trust_reports.specs.Reconciliations.{ReconciliationKept, kept_told, reconciled, reconciliation_on}
 pub use Rattle.trust_reports.specs.Retained.{Retained, none_retained, with_row_retained}
+pub use Rattle.trust_reports.specs.TextsOfClients.{clients_text}
 pub use Rattle.trust_reports.specs.TextsOfLedgers.{ledger_card, own_card_text}
 pub use Rattle.trust_reports.specs.TextsOfLists.{exception_line, exceptions_text, journal_text, retention_text, trial_text}
 pub use Rattle.trust_store.proofs.Named.{line-held, named-held}
@@ -96,7 +98,7 @@ pub use Rattle.trust_desk.specs.OnceOnly.{BalanceOnce, DayRun, FirmLineOnce, IsB
 pub use Rattle.trust_desk.specs.Plan.{IsReadFor, status_of_edit, IsReadOf}
 pub use Rattle.trust_desk.specs.Replies.{body_of, is_fault_body, is_fault_reply, made_text, refused, replied, reply_for, reply_of, said, shown_text, success_of, text_reply}
 pub use Rattle.trust_desk.specs.Reports.{text_of}
-unfoldable pub use Rattle.trust_desk.specs.Reports.{exceptions_report, has_no_statement, journal_report, own_card_report, reconciliation_report, retention_report, trial_report}
+unfoldable pub use Rattle.trust_desk.specs.Reports.{clients_report, exceptions_report, has_no_statement, journal_report, own_card_report, reconciliation_report, retention_report, trial_report}
 pub use Rattle.trust_desk.specs.Solo.{own_reply, own_rows, solo_replies, solo_rows}
 pub use Rattle.trust_desk.specs.declared.importing.Counted.{Counted}
 pub use Rattle.trust_desk.specs.declared.importing.ImportEnd.{ImportEnd}

@@ -1,6 +1,8 @@
 -- The texts of what the sinks kept are the reports.
-use Rattle.trust_desk.proofs.Names.{◌≡◌, ℕ, Result, StoreFault, AreHanded, subst, List, [], ◌∷◌, ◌++◌, fold, sym, ap, ◌∙◌, append_assoc, append-nil, codes, Firm, FirmSound, JournalKept, TrialKept, no_journal, trial_kept, trial_of, trial_sum, with_moved, Retained, none_retained, with_row_retained, exception_line, exceptions_text, journal_text, retention_text, trial_text, exceptions_report, journal_report, retention_report, trial_report, arith, ints, nat_tests, AreCountable, IsFirmLineInRange, IsMovementInRange, IsRowInRange}
+use Rattle.trust_desk.proofs.Names.{◌≡◌, ℕ, Result, StoreFault, AreHanded, subst, List, [], ◌∷◌, ◌++◌, fold, sym, ap, ◌∙◌, append_assoc, append-nil, codes, Firm, FirmSound, JournalKept, TrialKept, no_journal, trial_kept, trial_of, trial_sum, with_moved, Retained, none_retained, with_row_retained, exception_line, exceptions_text, journal_text, retention_text, trial_text, exceptions_report, journal_report, retention_report, trial_report, sound-covered, ClientsKept, clients_of, clients_sum, clients_text, clients_report, no_clients, with_client_own, with_client_row, arith, ints, nat_tests, AreCountable, IsFirmLineInRange, IsMovementInRange, IsRowInRange}
 use Rattle.std.proofs.Common.{flat_map}
+use Rattle.trust_reports.proofs.ClientRows.{clients-kept}
+use Rattle.trust_reports.proofs.ClientTotal as client_total
 use Rattle.trust_reports.proofs.Lists.{journal-kept}
 use Rattle.trust_reports.proofs.Retained.{retention-kept}
 use Rattle.trust_reports.proofs.Trial.{total-kept, trial-kept}
@@ -10,6 +12,16 @@ pub trial-told : (today : ℕ) (firm : Firm) (kept : TrialKept) → FirmSound fi
 unfolding trial_report
 trial-told today firm kept sound some few is =
     grind (arith, ints, nat_tests, trial_of, trial-kept, trial_sum, total-kept, trial_text)
+
+-- what was collected as of a day is the list of clients
+pub clients-listed : (day : ℕ) (firm : Firm) (kept : ClientsKept) → FirmSound firm → AreCountable IsRowInRange firm.rows → AreCountable IsFirmLineInRange firm.firm_lines → kept ≡ fold with_client_own (fold with_client_row (no_clients day) firm.rows) firm.firm_lines → kept ≡ clients_of day firm
+clients-listed day firm kept sound some few is = is ∙ clients-kept day firm sound.in_order some few
+
+pub clients-told : (day : ℕ) (firm : Firm) (kept : ClientsKept) → FirmSound firm → AreCountable IsRowInRange firm.rows → AreCountable IsFirmLineInRange firm.firm_lines → kept ≡ clients_of day firm → clients_text day kept.lines kept.own (clients_sum kept) ≡ clients_report day firm
+unfolding clients_report
+clients-told day firm kept sound some few is =
+    ap (λ (s : ClientsKept). clients_text day s.lines s.own (clients_sum s)) is
+    ∙ ap (clients_text day (clients_of day firm).lines (clients_of day firm).own) (client_total.total-kept sound-covered day firm sound some few)
 
 pub journal-told : (today : ℕ) (firm : Firm) (kept : JournalKept) → AreCountable IsMovementInRange firm.movements → kept ≡ fold with_moved no_journal firm.movements → journal_text today kept.lines ≡ journal_report today firm
 unfolding journal_report

@@ -4,6 +4,7 @@ use Rattle.trust_matter.specs.declared.ask.Caller.{Caller}
 use Rattle.trust_matter.specs.declared.ask.Ask.TheVariants as ask
 use Rattle.firm_rows.specs.Firm.{Firm}
 use Rattle.firm_rows.specs.FirmSound.{FirmSound}
+use Rattle.firm_figures.specs.Clients.{client_lines}
 use Rattle.firm_figures.specs.Figures.{figures_on}
 use Rattle.firm_figures.specs.Purged.{AreListsLeft, is_period_purged}
 use Rattle.trust_desk.specs.declared.requests.Request.TheVariants.{Matter}
@@ -14,10 +15,11 @@ use Rattle.trust_desk.specs.FirmStep.{firm_step}
 abbrev pub after_purge : ℕ → ℕ → Caller → Firm → Firm
 after_purge day m caller firm = (firm_step day firm (Asks (Matter m caller ask.Purge))).firm
 
--- the figures and lists of a day are what they were
+-- the figures and lists of a day, and the clients' ledgers as of it, are what they were
 pub record IsReportedAsBefore (p : ℕ) (before after : Firm) : Type 0 where
   pub figures : figures_on p after ≡ figures_on p before
   pub lists : AreListsLeft p before after
+  pub clients : client_lines p after ≡ client_lines p before
 
 -- this is so for each day whose records are complete afterwards, that is, no purged matter was closed after it
 abbrev pub PurgingChangesNoFigure : Type 0

@@ -1,12 +1,14 @@
 -- Why a request for a report of the firm is refused, and the text of the report.
-use Rattle.std.specs.Prelude.{ℕ, Bool, List, [], ◌∷◌, Option, Some, None, Result, Ok, Err}
+use Rattle.std.specs.Prelude.{ℕ, Bool, List, [], ◌∷◌, Option, Some, None, if◌then◌else◌, Result, Ok, Err}
 use Rattle.trust_base.specs.declared.refusal.Rule.TheVariants as rule
 use Rattle.trust_base.specs.declared.refusal.Refusal.{Refusal}
 use Rattle.trust_base.specs.declared.refusal.Refusal.TheVariants as refusals
 use Rattle.trust_matter.specs.declared.ask.Caller.{Caller}
 use Rattle.trust_matter.specs.Step.{first}
 use Rattle.firm_rows.specs.Firm.{Firm}
-use Rattle.trust_desk.specs.Reports.{exceptions_report, has_no_statement, is_period_purged, journal_report, own_card_report, reconciliation_report, retention_report, trial_report}
+use Rattle.trust_desk.specs.Reports.{clients_report, exceptions_report, has_no_statement, is_period_purged, journal_report, own_card_report, reconciliation_report, retention_report, trial_report}
+use Rattle.trust_desk.specs.declared.requests.DayReport.{DayReport}
+use Rattle.trust_desk.specs.declared.requests.DayReport.TheVariants.{Clients}
 use Rattle.trust_desk.specs.declared.requests.Report.{Report}
 use Rattle.trust_desk.specs.declared.requests.Report.TheVariants.{Exceptions, Trial, Journal, Retention, OwnLedger}
 use Rattle.trust_desk.specs.ImportStep.{is_not_of_firm}
@@ -47,3 +49,25 @@ reconciliation_conditions caller day firm =
 abbrev pub reconciliation_for : Caller → ℕ → ℕ → Firm → Result (List ℕ) Refusal
 reconciliation_for caller day today firm =
     text_unless (first (reconciliation_conditions caller day firm)) (reconciliation_report day firm)
+
+-- each refusal of a report as of a day with its condition, in the order of their numbers: a matter that was closed
+-- after the day has been purged since
+abbrev pub day_report_conditions : Caller → ℕ → Firm → List (Bool × Refusal)
+day_report_conditions caller day firm =
+    (is_not_of_firm caller, refusals.NotAllowed rule.Firm)
+    ∷ (is_period_purged day firm, refusals.PeriodPurged)
+    ∷ []
+
+-- the text of a report as of a day
+abbrev pub day_report_text : DayReport → ℕ → Firm → List ℕ
+day_report_text Clients day firm = clients_report day firm
+
+-- the text, unless the records of the day are no longer complete
+abbrev pub day_report_left : DayReport → ℕ → Firm → Option (List ℕ)
+day_report_left report day firm = if is_period_purged day firm then None else Some (day_report_text report day firm)
+
+-- the result of a report as of a day, on any business day: its text, or the refusal with the least number whose
+-- condition holds
+abbrev pub day_report_for : Caller → DayReport → ℕ → ℕ → Firm → Result (List ℕ) Refusal
+day_report_for caller report day today firm =
+    text_unless (first (day_report_conditions caller day firm)) (day_report_text report day firm)

@@ -2,11 +2,13 @@
 use Rattle.std.specs.Prelude.{ℕ, Bool, List, [], Option, Some, None, is_none}
 use Rattle.firm_rows.specs.Firm.{Firm}
 use Rattle.firm_rows.specs.FirmLines.{balance_of}
-use Rattle.trust_reports.specs.Figures.{closing_on}
+use Rattle.trust_reports.specs.Clients.{client_lines, clients_total}
+use Rattle.trust_reports.specs.Figures.{closing_on, own_by}
 pub use Rattle.trust_reports.specs.Purged.{is_period_purged}
 use Rattle.trust_reports.specs.Reconciliations.{ReconciliationTold, reconciliation_on}
 use Rattle.trust_reports.specs.Lists.{journal_list, trial_lines, trial_total}
 use Rattle.trust_reports.specs.Retained.{retention_list}
+use Rattle.trust_reports.specs.TextsOfClients.{clients_text}
 use Rattle.trust_reports.specs.TextsOfLedgers.{own_card_text}
 use Rattle.trust_reports.specs.TextsOfLists.{exceptions_text, journal_text, retention_text, trial_text}
 use Rattle.trust_reports.specs.TextsOfReconciliation.{reconciliation_text}
@@ -46,3 +48,7 @@ text_of day (Some r) = reconciliation_text day r
 -- the figures and the lists; empty if there is no closing balance of the day
 unfoldable pub reconciliation_report : ℕ → Firm → List ℕ
 reconciliation_report day firm = text_of day (reconciliation_on day firm)
+
+-- the ledgers of the matters that were open, with their clients, the firm's own balance, and their sum
+unfoldable pub clients_report : ℕ → Firm → List ℕ
+clients_report day firm = clients_text day (client_lines day firm) (own_by day firm) (clients_total day firm)

@@ -66,7 +66,7 @@ pub fn every_item_is_counted()
 {}
 
 /// Purging a matter of a sound firm at the desk changes no figure and no list of a day whose records are complete
-/// afterwards, that is, no purged matter was closed after it.
+/// afterwards, that is, no purged matter was closed after it, nor the clients' ledgers as of that day.
 pub fn purging_changes_no_figure()
     ensures { PurgingChangesNoFigure }
 {}

@@ -10,6 +10,9 @@
 //! - within the crate `answer_reconciliation`: of the cashier's request: NoStatement exactly if no closing balance of
 //!   the day is kept, else PeriodPurged exactly if a matter that was closed after the day has been purged, else the
 //!   text; nothing changes, after a crash neither (`IsAnswered`, `reconciliation_for`).
+//! - within the crate `find_day_report`: over every book: the bytes of each report as of a day are those of the
+//!   definition, of the book's rows, and there are none exactly if a matter that was closed after the day has been
+//!   purged (`told`); nothing changes, after a crash neither (`read`).
 //!
 //! Each report goes over the rows one at a time, and keeps sums and what it prints; the reconciliation also keeps the
 //! payments issued and not voided by its day, of which it lists those with another's instrument, and the balances dated
@@ -26,11 +29,11 @@
 //!   request to import the length, the header and the caller are tested, in this order, before anything of it is
 //!   applied.
 //! - `Desk::answer`, of reports: an ask for a matter's ledger card is answered by the card of the matter's rows, as
-//!   plain text, or by the first refusal whose condition holds. A request for a report on the firm, or for a
-//!   reconciliation, is answered by exactly the text of the definition, of the firm's rows, or by the first of
-//!   NotAllowed, NoStatement and PeriodPurged that holds. Store or Memory may stop each of them instead. None of them
-//!   changes anything, and these requests name no matter (by the same clauses). That the card's matter is read whole is
-//!   the contract of a private function.
+//!   plain text, or by the first refusal whose condition holds. A request for a report on the firm, for one as of a
+//!   day, or for a reconciliation, is answered by exactly the text of the definition, of the firm's rows, or by the
+//!   first of NotAllowed, NoStatement (of a reconciliation alone) and PeriodPurged that holds. Store or Memory may
+//!   stop each of them instead. None of them changes anything, and these requests name no matter (by the same clauses).
+//!   That the card's matter is read whole is the contract of a private function.
 //! - `Desk::answer_beside`: the same as `replied`. No clause says what it keeps of the rows.
 //! - `Desk::match_statement`: over every book: a statement whose references may be empty is refused as an import of it
 //!   would be, or becomes the two texts that the definition gives for the day and the firm's rows (`matched`); the firm
@@ -81,7 +84,7 @@
 //!   its amount, so that another of its day with that amount is a repeat, and one with another amount is an exception
 //!   for ever (`balance_once`).
 //! - `laws` `purging_changes_no_figure`: an ask to purge a matter of a sound firm, whether it is accepted or refused,
-//!   changes no figure and no list of a day whose records are complete afterwards.
+//!   changes no figure and no list of a day whose records are complete afterwards, nor a client's ledger as of it.
 //! - `laws` `dismissing_moves_nothing`, `dismissed_once`: whoever asks to dismiss a line, and whether it is dismissed
 //!   or refused: the rows of all matters, the journal, the firm's own lines and the balances stay as they are. A line
 //!   that was dismissed is no exception, and to dismiss it again is refused.
@@ -111,7 +114,7 @@ pub use desk::Desk;
 pub use firm_audit::Flaw;
 pub use importing::{Counted, ImportEnd, ImportStop};
 pub use matter_bodies::{ImportReply, entry_body, import_body, matter_body, receipt_body};
-pub use requests::{Body, End, MatchText, Reply, Report, Request, RunEnd};
+pub use requests::{Body, DayReport, End, MatchText, Reply, Report, Request, RunEnd};
 pub use statement_match::Matched;
 pub use trust_base::OwnedBytes;
 pub use unread::Unread;

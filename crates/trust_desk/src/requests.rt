@@ -23,6 +23,13 @@ pub enum Report {
     OwnLedger,
 }
 
+/// A report on the whole firm as of a day, which only the cashier may ask for.
+#[derive(Clone, Copy, PartialEq, Eq, Debug)]
+pub enum DayReport {
+    /// The list of clients: the ledger of each matter that was open, its client, the firm's own, and their sum.
+    Clients,
+}
+
 /// One of the two texts that matching a statement gives.
 #[derive(Clone, Copy, PartialEq, Eq, Debug)]
 pub enum MatchText {
@@ -60,6 +67,8 @@ pub enum Request {
     Report(Caller, Report),
     /// A caller asks for the three-way reconciliation as of a day.
     Reconcile(Caller, Day),
+    /// A caller asks for a report on the firm as of a day.
+    AsOf(Caller, DayReport, Day),
 }
 
 impl Drop for Request {
@@ -83,7 +92,9 @@ impl Drop for Request {
                 caller: _caller,
                 line: _line,
             } => (),
-            Request::Report(_caller, _) | Request::Reconcile(_caller, _) => (),
+            Request::Report(_caller, _)
+            | Request::Reconcile(_caller, _)
+            | Request::AsOf(_caller, _, _) => (),
         }
     }
 }

@@ -2,8 +2,10 @@ pub mod Texts
 pub mod Pages
 pub mod Pieces
 pub mod TextsOfLists
+pub mod TextsOfClients
 pub mod TextsOfReconciliation
 pub mod TextsOfLedgers
+pub use Rattle.firm_figures.specs.Clients
 pub use Rattle.firm_figures.specs.Lists
 pub use Rattle.firm_figures.specs.Retained
 pub use Rattle.firm_figures.specs.Figures

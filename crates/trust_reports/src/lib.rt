@@ -4,15 +4,16 @@
 //!
 //! By public call, with the clauses of its contract in brackets.
 //!
-//! - `trial_text`, `journal_text`, `retention_text`, `exceptions_text`, `reconciliation_text`, `own_card_text`: append
-//!   exactly the text of the definition, line by line, or leave the vector as it was if memory is refused (`ok`,
-//!   `err`).
+//! - `trial_text`, `journal_text`, `retention_text`, `exceptions_text`, `clients_text`, `reconciliation_text`,
+//!   `own_card_text`: append exactly the text of the definition, line by line, or leave the vector as it was if memory
+//!   is refused (`ok`, `err`).
 //! - `ledger_card`; `laws` `whole_card_is_of_rows`: the same of a matter's ledger card (ABA Model Rule 1.15(d): a full
 //!   accounting); the card of a whole matter is that of its rows, with what is left and the balances added up anew.
 #![tactic(auto)]
 
 mod card;
 mod card_entries;
+mod clients;
 mod journal;
 pub mod laws;
 mod own_card;
@@ -22,9 +23,10 @@ mod retention;
 mod trial;
 
 pub use card::ledger_card;
+pub use clients::clients_text;
 pub use firm_figures::{
-    JournalLine, JournalSink, Reconciliation, ReconciliationSink, RetentionLine, RetentionSink,
-    TrialBalance, TrialSink,
+    ClientLine, ClientList, ClientsSink, JournalLine, JournalSink, Reconciliation,
+    ReconciliationSink, RetentionLine, RetentionSink, TrialBalance, TrialSink,
 };
 pub use journal::journal_text;
 pub use own_card::own_card_text;

@@ -3,7 +3,8 @@
 
 ghost use Rattle.std.specs.Prelude.{◌≡◌, [], ◌∷◌, ◌++◌, replicate, flat_map, encode_utf8, if◌then◌else◌, OnOk, OnErr};
 ghost use Rattle.trust_base.specs.Texts.{amount_text, day_text, matter_text, signed_text};
-ghost use Rattle.trust_reports.specs.Texts.{column, further, heading, or_dash, reference_text, shown, shown_text, words_shown};
+ghost use Rattle.trust_reports.specs.Texts.{column, further, heading, left_in, or_dash, reference_text, right_in};
+ghost use Rattle.trust_reports.specs.Texts.{shown, shown_text, words_shown};
 ghost use Rattle.trust_reports.specs.Pieces.{further_piece, row_text, sum_text, text_of};
 
 use arrayvec::ArrayVec;
@@ -342,8 +343,27 @@ pub(crate) fn push_heading(page: &mut Page, name: &str, day: Day) -> Result<(), 
     push_line(page, &Piece::Word(name), &[Piece::Day(day)])
 }
 
-/// Appends a line: a left-aligned label and a right-aligned figure, each in its own width.
+/// Appends a left-aligned label and a right-aligned figure, each in its own width.
 #[tactic(auto, unfolding(crate::specs::Texts::left_in, crate::specs::Texts::right_in))]
+pub(crate) fn push_figure(
+    page: &mut Page,
+    label_places: usize,
+    figure_places: usize,
+    label: &[u8],
+    figure: Sum,
+) -> Result<(), AllocError>
+    ensures before { page.new.before ≡ page.old.before }
+    ensures text { OnOk result (page.new.text ≡ page.old.text
+        ++ (left_in label_places label.now ++ right_in figure_places (sum_text figure))) }
+{
+    let text = figure.text();
+    page.push(label)?;
+    page.push_spaces(label_places.saturating_sub(label.len()))?;
+    page.push_spaces(figure_places.saturating_sub(text.len()))?;
+    page.push(text.as_slice())
+}
+
+/// Appends a line: a left-aligned label and a right-aligned figure, each in its own width.
 pub(crate) fn push_column(
     page: &mut Page,
     label_places: usize,
@@ -355,11 +375,7 @@ pub(crate) fn push_column(
     ensures text { OnOk result (page.new.text ≡ page.old.text
         ++ column label_places figure_places label.now (sum_text figure)) }
 {
-    let text = figure.text();
-    page.push(label)?;
-    page.push_spaces(label_places.saturating_sub(label.len()))?;
-    page.push_spaces(figure_places.saturating_sub(text.len()))?;
-    page.push(text.as_slice())?;
+    push_figure(page, label_places, figure_places, label, figure)?;
     page.push(b"\n")
 }
 

@@ -49,7 +49,7 @@ pub fn write_of_now<W: fmt::Write>(
     write!(
         f,
         "the book has work of {last}: these figures are of now, not of {today}; \
-        reconcile {today} has those of that day"
+        reconcile {today} and clients {today} have those of that day"
     )
 }
 

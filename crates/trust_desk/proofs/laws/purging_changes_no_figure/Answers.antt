@@ -4,6 +4,7 @@ use Rattle.matter_parts.specs.declared.edit.Edit.TheVariants as edit
 use Rattle.matter_parts.proofs.Moved.{figures-none}
 use Rattle.trust_matter.specs.declared.ask.Ask.TheVariants as ask
 use Rattle.firm_figures.specs.Purged.{IsPurge, is_period_purged}
+use Rattle.firm_figures.proofs.PurgedClients.{no_client-left}
 use Rattle.firm_figures.proofs.PurgedPeriods.{no_figure-left, no_list-left}
 use Rattle.trust_desk.specs.Purging.{IsReportedAsBefore}
 use Rattle.trust_desk.proofs.LineFacts.{kept-by_step}
@@ -27,7 +28,7 @@ purge_ask day caller = asked_on day caller ask.Purge
 
 by-refusal : (day p m : ℕ) (caller : Caller) (firm : Firm) (o : Option Refusal) → FirmSound firm → refusal (of m firm) (purge_ask day caller) ≡ o
     → is_period_purged p (after_asked o m (purge_ask day caller) firm) ≡ false → IsReportedAsBefore p firm (after_asked o m (purge_ask day caller) firm)
-by-refusal day p m caller firm (Some r) sound told whole = record { figures = refl; lists = record { transit = refl; out = refl; early = refl; exceptions = refl } }
+by-refusal day p m caller firm (Some r) sound told whole = record { figures = refl; lists = record { transit = refl; out = refl; early = refl; exceptions = refl }; clients = refl }
 by-refusal day p m caller firm None sound accepted whole =
     let last : ℕ = last_after (of m firm).head (edit.Purge day) day in
     let kept : IsKept (of m firm) (edit.Purge day) last = kept-by_step (step (of m firm) (purge_ask day caller) (sound.matters m) tt accepted) in
@@ -35,6 +36,7 @@ by-refusal day p m caller firm None sound accepted whole =
     record {
       figures = no_figure-left sound-covered p m (purge_of day last) firm sound purge whole;
       lists = no_list-left sound-covered p m (purge_of day last) firm sound purge whole;
+      clients = no_client-left sound-covered p m (purge_of day last) firm sound purge whole;
     }
 
 pub returns : goal.returns

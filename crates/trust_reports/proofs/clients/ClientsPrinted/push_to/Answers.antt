@@ -1,0 +1,9 @@
+use Rattle.trust_reports.proofs.Names.{append-nil}
+use Rattle.std.proofs.lemmas.Result.{on_ok_weaker}
+use Rattle.trust_reports.proofs.TextFacts.{three_parts}
+use Rattle.trust_reports.proofs.clients.ClientsPrinted.push_to.Goals as goal
+
+pub returns-clause-text : goal.returns-clause-text
+returns-clause-text c =
+    let sums = simp append-nil at c.push_columns.ensures.text in
+    on_ok_weaker _ (three_parts _ _ _ _ _ _ _ c.in_ok-push_heading.ensures.text c.in_ok-push_lines.ensures.text) sums
