@@ -144,9 +144,7 @@ pub fn run_report<M: Remarks, W: Write, B: Book>(
         ReportCommand::Firm(Report::Journal) if is_past => {
             tell_rows(alloc, remarks, &NowTelling { today, remarks }, desk, today)
         }
-        ReportCommand::Firm(
-            Report::Trial | Report::Journal | Report::Retention | Report::OwnLedger,
-        )
+        ReportCommand::Firm(Report::Trial | Report::Journal | Report::Retention | Report::OwnLedger)
         | ReportCommand::AsOf(_, _)
         | ReportCommand::Ledger(_) => {}
     }

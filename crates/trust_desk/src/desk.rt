@@ -9,6 +9,7 @@ ghost use Rattle.trust_desk.specs.FirmStep.{Steps, RunsSoundly, IsUnstopped, fir
 ghost use Rattle.trust_desk.specs.ImportStep.{import_refusal, imported};
 ghost use Rattle.trust_desk.specs.Heard.{Asks, Dismisses, Heard, OfItems, OfMatter, OnlyTold, heard, kind_of};
 ghost use Rattle.trust_store.specs.Calls.{IsRead};
+ghost use Rattle.trust_desk.specs.Kept.{IsKeptOf};
 ghost use Rattle.trust_desk.specs.Isolation.{IsOwn, KeepsOthers};
 ghost use Rattle.trust_desk.specs.Replies.{is_fault_reply};
 ghost use Rattle.trust_desk.specs.ReportStep.{day_report_for, day_report_left, reconciliation_for};
@@ -191,6 +192,29 @@ fn find_day_report<B: Book>(
     }
 }
 
+// Hands all rows of a book to the sink of a reconciliation. What the rows of matters and the firm's own lines show beside
+// it is kept in `lines`.
+//
+// Returns `Store` if the book's store failed, and `Memory` if memory ran out.
+fn read_reconciliation<B: Book>(
+    alloc: Global,
+    book: &mut B,
+    as_of: Day,
+    lines: &mut ClearedLines,
+) -> Result<ReconciliationSink, StoreFault>
+    ensures kept { (B.seen book.new).clean → (B.seen book.old).stands
+        → IfOk result (λ sink. IsKeptOf as_of (B.seen book.old).firm sink) }
+    ensures read { IsRead result (B.seen book.old) (B.seen book.new) }
+{
+    let mut sink = Beside::of(alloc, ReconciliationSink::new(alloc, as_of), lines);
+    book.each_row(&mut sink)?;
+    book.each_movement(&mut sink)?;
+    book.each_firm_line(&mut sink)?;
+    book.each_exception(&mut sink)?;
+    book.each_balance(&mut sink)?;
+    Ok(sink.into_sink(lines))
+}
+
 /// Answers requests over a book. Contracts see it as the book.
 ///
 /// The trial balance of an empty book:
@@ -312,15 +336,9 @@ impl<B: Book> Desk<B> {
         if is_not_of_firm(caller) {
             return Err(Refusal::NotAllowed(Rule::Firm));
         }
-        let mut sink = Beside::of(alloc, ReconciliationSink::new(alloc, as_of), lines);
-        self.book.each_row(&mut sink)?;
-        self.book.each_movement(&mut sink)?;
-        self.book.each_firm_line(&mut sink)?;
-        self.book.each_exception(&mut sink)?;
-        self.book.each_balance(&mut sink)?;
-        let found = sink.into_sink(lines);
-        let is_purged = found.is_period_purged();
-        let Some(reconciliation) = found.finish(alloc)? else {
+        let sink = read_reconciliation(alloc, &mut self.book, as_of, lines)?;
+        let is_purged = sink.is_period_purged();
+        let Some(reconciliation) = sink.finish(alloc)? else {
             return Err(Refusal::NoStatement);
         };
         if is_purged {

@@ -16,14 +16,15 @@ returns-in_ok-trial_text-in-Trial-clause-told g c =
     let served = second.read.was_clean clean in
     let rows = first.handed served stands in
     let lines = handed-before (λ (f : Firm). f.firm_lines) (first.read.same served stands) (second.handed clean (first.read.still_stands served stands)) in
-    let kept : c.each_firm_line.new.sink ≡ trial_kept firm =
-    lines.all ∙ ap (λ s. fold with_trial_own s firm.firm_lines) (rows.all ∙ ap (λ s. fold with_trial_row s firm.rows) c.new-trial.ensures) in
+    let began = c.of-trial.ensures ∙ c.new-in-Trial.ensures in
+    let kept : c.into_sink.result ≡ trial_kept firm =
+    c.into_sink.ensures ∙ lines.all ∙ ap (λ s. fold with_trial_own s firm.firm_lines) (rows.all ∙ ap (λ s. fold with_trial_row s firm.rows) began) in
     let balance = c.finish-balance.ensures in
     let written : c.trial_text.new.out.items ≡ trial_text c.args.today c.finish-balance.result.lines.items c.finish-balance.result.own c.finish-balance.result.total = search rules in
     let told =
     written
     ∙ ((λ i. trial_text c.args.today (balance.lines i) (balance.own i) (balance.total i))
-    ∙ trial-told c.args.today firm c.each_firm_line.new.sink ((B.seen c.args.book.now).sound stands) rows.countable lines.countable kept) in
+    ∙ trial-told c.args.today firm c.into_sink.result ((B.seen c.args.book.now).sound stands) rows.countable lines.countable kept) in
     rw c.in-Trial.is told
 
 pub returns-in_ok-journal_text-in-Journal-clause-told : goal.returns-in_ok-journal_text-in-Journal-clause-told

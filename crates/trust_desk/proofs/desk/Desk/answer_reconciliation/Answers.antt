@@ -1,4 +1,4 @@
-use Rattle.trust_desk.proofs.Names.{◌≡◌, ◌∙◌, ◌++◌, ℕ, List, ap, err_from_is_err_and, false, is_fault_end, is_fault_reply, sym, refl, Err, Heard, IfOk, IsAnswered, IsKeptOf, IsRead, Ok, Reply, Refusal, Result, Text, kind_of, reply_for, text_reply, arith, ints, nat_tests}
+use Rattle.trust_desk.proofs.Names.{◌≡◌, ◌∙◌, ◌++◌, ℕ, List, ap, err_from_is_err_and, false, is_fault_end, is_fault_reply, sym, refl, Err, Heard, IfOk, IsAnswered, IsKeptOf, IsRead, Ok, Reply, Refusal, Result, Text, subst, kind_of, reply_for, text_reply}
 use Rattle.std.specs.Option.{option_map}
 use Rattle.trust_base.specs.declared.refusal.Refusal.TheVariants.{NoStatement, PeriodPurged}
 use Rattle.trust_reports.specs.Reconciliations.{told}
@@ -6,39 +6,36 @@ use Rattle.trust_reports.specs.TextsOfReconciliation.{reconciliation_text}
 use Rattle.trust_desk.specs.Heard.{OnlyTold}
 use Rattle.trust_desk.specs.ReportStep.{reconciliation_for}
 use Rattle.trust_desk.proofs.Answered.{told-answered, unread-answered}
-use Rattle.trust_desk.proofs.Calls.{read-short, read-then}
-use Rattle.trust_desk.proofs.ReconciliationAnswers.{closings-kept, found_told, kept-answers, rows-kept}
+use Rattle.trust_desk.proofs.Calls.{read-short}
+use Rattle.trust_desk.proofs.ReconciliationAnswers.{closings-kept, found_told, kept-answers}
 use Rattle.trust_desk.proofs.desk.Desk.answer_reconciliation.Goals as goal
 use Rattle.trust_desk.proofs.desk.Desk.answer_reconciliation.Goals.{In_ok-reconciliation}
 
--- all rows were handed over
-all-kept : (g : _) (c : In_ok-reconciliation g) → (g.B.Book.seen c.each_balance.new.self).clean → (g.B.Book.seen c.args.self.now).stands → IsKeptOf c.args.as_of (g.B.Book.seen c.args.self.now).firm c.into_sink-found.result
-all-kept g c = grind (arith, ints, nat_tests, rows-kept)
+-- nothing was done but to read
+all-read : (g : _) (c : In_ok-reconciliation g) → IsRead (Ok c.in_ok-sink.sink) (g.B.Book.seen c.args.self.now) (g.B.Book.seen c.read_reconciliation.new.book)
+all-read g c = subst (λ b. IsRead (Ok c.in_ok-sink.sink) (g.B.Book.seen b) (g.B.Book.seen c.read_reconciliation.new.book)) c.self.view_is c.in_ok-sink.ensures.read
 
--- and nothing else was done
-all-read : (g : _) (c : In_ok-reconciliation g) → IsRead (Ok c.in_ok-each_balance.field-0) (g.B.Book.seen c.args.self.now) (g.B.Book.seen c.each_balance.new.self)
-all-read g c = grind (arith, ints, nat_tests, read-then)
+-- all rows were handed over
+all-kept : (g : _) (c : In_ok-reconciliation g) → (g.B.Book.seen c.read_reconciliation.new.book).clean → (g.B.Book.seen c.args.self.now).stands → IsKeptOf c.args.as_of (g.B.Book.seen c.args.self.now).firm c.in_ok-sink.sink
+all-kept g c clean = subst (λ b. (g.B.Book.seen b).stands → IsKeptOf c.args.as_of (g.B.Book.seen b).firm c.in_ok-sink.sink) c.self.view_is (c.in_ok-sink.ensures.kept clean)
 
 -- what is told by what was found answers
 answered : (g : _) (c : In_ok-reconciliation g) (result : Result Reply Refusal) → IfOk result (λ reply. is_fault_reply reply ≡ false) → is_fault_end result ≡ false
     → reply_for result ≡ text_reply (found_told c.args.as_of (option_map told c.in_ok-reconciliation.field-0) c.is_period_purged-is_purged.result)
     → (day : ℕ) (h : Heard) → kind_of h ≡ OnlyTold (reconciliation_for c.args.caller.now c.args.as_of)
-    → IsAnswered day h result (g.B.Book.seen c.args.self.now) (g.B.Book.seen c.each_balance.new.self)
+    → IsAnswered day h result (g.B.Book.seen c.args.self.now) (g.B.Book.seen c.read_reconciliation.new.book)
 answered g c result plain fine says day h kind =
     told-answered day h (reconciliation_for c.args.caller.now c.args.as_of) result kind plain fine (all-read g c)
     (λ clean stands.
     let firm = (g.B.Book.seen c.args.self.now).firm in
     let sound = (g.B.Book.seen c.args.self.now).sound stands in
-    let sink = c.into_sink-found.result in
+    let sink = c.in_ok-sink.sink in
     let kept = all-kept g c clean stands in
     let found = c.in_ok-reconciliation.ensures (closings-kept c.args.as_of firm sink sound kept) in
     says
     ∙ ap text_reply
     ((λ i. found_told c.args.as_of (found i) (c.is_period_purged-is_purged.ensures i))
     ∙ kept-answers c.args.as_of day c.args.caller.now firm sink (sym c.is_not_of_firm.ensures ∙ c.if-is_not_of_firm.false) sound kept))
-
-pub returns-in_err-each_balance : goal.returns-in_err-each_balance
-returns-in_err-each_balance g c = grind (arith, ints, nat_tests, err_from_is_err_and, read-then, unread-answered)
 
 pub returns-in_default : goal.returns-in_default
 returns-in_default g c =
