@@ -1,5 +1,5 @@
 -- The parts of a path, and which matter a message names by its path.
-use Rattle.portal_requests.proofs.Names.{◌≡◌, ◌∙◌, ℕ, Bool, true, false, cond, List, [], ◌∷◌, Option, Some, None, Result, Ok, Err, refl, sym, ap, subst, arith, codes, nat_le, option_map, take, unwrap_or, ⊤, bytes_eq, IsText, Scan, parse_route, RouteOf, route_from, RowsOf, first, InsertError, Line, day_of, matter_of, Field, BadMethod, Ask, Caller, is_the, names, Message, path_of, Place, entry_ask, matter_ask, body_in, caller_of, dismissing, dismissing_in, line_in, line_keys, day_part, entry_part, has_matter, named_in, report_day_part, method_of, as_of, asked_at, reported_as_of, called, heard_as, heard_of, of_matter, placed, request, routed, place_of, TABLE, route_rows, row_in, the_routes, matchit_on_literals, ints, nat_tests}
+use Rattle.portal_requests.proofs.Names.{◌≡◌, ◌∙◌, ℕ, Bool, true, false, cond, List, [], ◌∷◌, Option, Some, None, Result, Ok, Err, refl, sym, ap, subst, arith, codes, nat_le, option_map, take, unwrap_or, ⊤, bytes_eq, IsText, Scan, parse_route, RouteOf, route_from, RowsOf, first, InsertError, Line, day_of, matter_of, Field, BadMethod, Ask, Caller, is_the, names, Message, path_of, Place, entry_ask, matter_ask, body_in, caller_of, dismissing, dismissing_in, line_in, line_keys, after_slash, day_part, entry_part, has_matter, named_in, report_day_part, method_of, as_of, asked_at, reported_as_of, called, heard_as, heard_of, of_matter, placed, request, routed, place_of, TABLE, route_rows, row_in, the_routes, matchit_on_literals, ints, nat_tests}
 use Rattle.std.specs.Borrow.{Bor}
 use Rattle.std.specs.Prelude.{drop, length}
 use Rattle.std.specs.Slice.{IsGetRangeResult}
