@@ -19,7 +19,7 @@ pub day-behind : (path : List ℕ) (got : Option (Bor (List ℕ))) (nothing part
 day-behind path got nothing part day read same none is = read ∙ ap day_of (ap (λ b. b.now) same ∙ part-behind path 21 got nothing none is)
 
 -- and the one that is read behind the name of a report
-pub day-behind_name : (path : List ℕ) (got : Option (Bor (List ℕ))) (nothing front rest : Bor (List ℕ)) (day : Option ℕ) → day ≡ day_of rest.now → rest.now ≡ after_slash front.now → front ≡ unwrap_or got nothing → nothing.now ≡ []
+pub day-behind_name : (path : List ℕ) (got : Option (Bor (List ℕ))) (nothing front : Bor (List ℕ)) (rest : List ℕ) (day : Option ℕ) → day ≡ day_of rest → rest ≡ after_slash front.now → front ≡ unwrap_or got nothing → nothing.now ≡ []
     → IsGetRangeResult path 6 (length path) got → day ≡ day_of (report_day_part path)
 day-behind_name path got nothing front rest day read behind same none is =
     read ∙ ap day_of (behind ∙ ap after_slash (ap (λ b. b.now) same ∙ part-behind path 6 got nothing none is))
