@@ -33,12 +33,10 @@ mod whole_file;
 
 pub use beginning::{is_past, tell_of_day, tell_of_new_book, tell_of_no_book};
 pub use beside::{ClearedTwice, NowTelling, TwiceTelling};
-use beside::{write_earlier_end, write_of_now, write_rows_end};
 pub use caution::Caution;
 use check::{write_flaw, write_unread};
 pub use earlier_line::{AppliedLines, EarlierLine, tell_of_earlier};
 pub use entry_line::{EntryFault, EntryLine};
-use exception::write_end;
 pub use exception::{ExceptionRemark, ExceptionTelling};
 pub use excerpt::Excerpt;
 pub use fault::RecordFault;
@@ -152,13 +150,39 @@ impl fmt::Display for Remark<'_> {
                 write!(f, "line {line}: ")?;
                 told.fmt(f)
             }
+            Remark::SheetTooLarge => f.write_str(
+                "the sheet has more than 4194304 bytes, and no record was run: send it in parts",
+            ),
             Remark::Line { place, told } => {
                 place.fmt(f)?;
                 told.fmt(f)
             }
             Remark::Header(told) => told.fmt(f),
+            Remark::StatementTooLarge { taken: 0 } => f.write_str(
+                "the statement has more than 4194304 bytes, and no line was applied: \
+                import it in parts, each with the first line",
+            ),
+            Remark::StatementTooLarge { taken } => write!(
+                f,
+                "the statement has more than 4194304 bytes, and was read up to record {taken}: \
+                import it in parts, each with the first line"
+            ),
             Remark::NothingKept => f.write_str("nothing was kept: no --db was given"),
+            Remark::MatchTooLarge => f.write_str(
+                "the statement has more than 4194304 bytes: match it in parts, each with the first line",
+            ),
+            Remark::MatchedTooLong => f.write_str(
+                "what was written has more than 4194304 bytes, and an import refuses it: \
+                match the bank's file in parts, each with the first line",
+            ),
             Remark::OfFile { line, told } => write!(f, "line {line}: {told}"),
+            Remark::NewBook(path) => write_of_path(f, path, "was not there: a new book was begun"),
+            Remark::EmptyBook(path) => write_of_path(
+                f,
+                path,
+                "was empty: a new book was begun; if it had one, put the last backup in its place",
+            ),
+            Remark::NoBook { path, why } => write_of_path(f, path, words_of(*why)),
             Remark::FarDay(day) => write!(
                 f,
                 "{day} is more than 31 days ahead of this machine's clock: what is booked locks its \
@@ -166,13 +190,22 @@ impl fmt::Display for Remark<'_> {
             ),
             Remark::Unmatched(line) => line.fmt(f),
             Remark::Exception(told) => told.fmt(f),
-            Remark::ExceptionsEnd(fault) => write_end(f, fault),
+            Remark::ExceptionsEnd(fault) => {
+                write!(f, "{fault}: no reasons are told of the other exceptions")
+            }
             Remark::ClearedTwice(told) => told.fmt(f),
-            Remark::OfNow { today, last } => write_of_now(f, *today, *last),
-            Remark::RowsEnd(fault) => write_rows_end(f, *fault),
-            Remark::EarlierEnd(fault) => write_earlier_end(f, *fault),
+            Remark::OfNow { today, last } => write!(
+                f,
+                "the book has work of {last}: these figures are of now, not of {today}; \
+                reconcile {today} and clients {today} have those of that day"
+            ),
+            Remark::RowsEnd(fault) => write!(f, "{fault}: nothing more is told beside the report"),
+            Remark::EarlierEnd(fault) => write!(
+                f,
+                "{fault}: it is not told which lines stand on another entry by an earlier import"
+            ),
             Remark::Flaw(flaw) => write_flaw(f, *flaw),
-            Remark::Unread(unread) => write_unread(f, unread),
+            Remark::Unread(unread) => write_unread(f, *unread),
             Remark::AllRead(path) => write_of_path(
                 f,
                 path,
@@ -183,41 +216,6 @@ impl fmt::Display for Remark<'_> {
                 path,
                 "could not be written, and the log beside it has what was accepted: keep both, and look whether \
                 the disk is full",
-            ),
-            Remark::NewBook(path) => write_of_path(f, path, "was not there: a new book was begun"),
-            Remark::EmptyBook(path) => write_of_path(
-                f,
-                path,
-                "was empty: a new book was begun; if it had one, put the last backup in its place",
-            ),
-            Remark::NoBook { path, why } => write_of_path(f, path, words_of(*why)),
-            _ => self.write_size(f),
-        }
-    }
-}
-
-impl Remark<'_> {
-    // Writes about what is above its size limit.
-    fn write_size<W: fmt::Write>(&self, f: &mut fmt::Formatter<W>) -> fmt::Result {
-        match self {
-            Remark::StatementTooLarge { taken: 0 } => f.write_str(
-                "the statement has more than 4194304 bytes, and no line was applied: \
-                import it in parts, each with the first line",
-            ),
-            Remark::StatementTooLarge { taken } => write!(
-                f,
-                "the statement has more than 4194304 bytes, and was read up to record {taken}: \
-                import it in parts, each with the first line"
-            ),
-            Remark::MatchTooLarge => f.write_str(
-                "the statement has more than 4194304 bytes: match it in parts, each with the first line",
-            ),
-            Remark::MatchedTooLong => f.write_str(
-                "what was written has more than 4194304 bytes, and an import refuses it: \
-                match the bank's file in parts, each with the first line",
-            ),
-            _ => f.write_str(
-                "the sheet has more than 4194304 bytes, and no record was run: send it in parts",
             ),
         }
     }

@@ -4,7 +4,7 @@ use crate::remarks::plain::Plain;
 use crate::remarks::{Remark, Remarks};
 use firm_rows::Owner;
 use std::fmt;
-use trust_base::{Day, Dollars, StoreFault};
+use trust_base::{Day, Dollars};
 use trust_desk::{ClearedLine, RowWatch};
 
 /// Two bank lines with the same date, bank reference and amount.
@@ -18,55 +18,29 @@ pub struct ClearedTwice<'a> {
     pub amount: i64,
 }
 
-/// Writes the reference of a line.
-pub fn write_owner<W: fmt::Write>(f: &mut fmt::Formatter<W>, owner: Owner) -> fmt::Result {
-    match owner {
-        Owner::Matter { matter, entry } => write!(f, "M{matter}-{entry}"),
-        Owner::Firm => f.write_str("FIRM"),
+/// The reference of a line that belongs to this.
+#[derive(Clone, Copy)]
+pub struct OwnerReference(pub Owner);
+
+impl fmt::Display for OwnerReference {
+    fn fmt<W: fmt::Write>(&self, f: &mut fmt::Formatter<W>) -> fmt::Result {
+        match self.0 {
+            Owner::Matter { matter, entry } => write!(f, "M{matter}-{entry}"),
+            Owner::Firm => f.write_str("FIRM"),
+        }
     }
 }
 
 impl fmt::Display for ClearedTwice<'_> {
     fn fmt<W: fmt::Write>(&self, f: &mut fmt::Formatter<W>) -> fmt::Result {
+        let (first, second) = (OwnerReference(self.first), OwnerReference(self.second));
         let (date, bank_ref, amount) = (self.date, self.bank_ref, Dollars(self.amount as i128));
-        write_owner(f, self.first)?;
-        f.write_str(" and ")?;
-        write_owner(f, self.second)?;
         write!(
             f,
-            " stand on lines of the same date, bank reference and amount, {date}, {bank_ref}, {amount}: \
-            look whether the bank has two"
+            "{first} and {second} stand on lines of the same date, bank reference and amount, {date}, {bank_ref}, \
+            {amount}: look whether the bank has two"
         )
     }
-}
-
-/// Writes that a report which names a business day has today's figures.
-pub fn write_of_now<W: fmt::Write>(
-    f: &mut fmt::Formatter<W>,
-    today: Day,
-    last: Day,
-) -> fmt::Result {
-    write!(
-        f,
-        "the book has work of {last}: these figures are of now, not of {today}; \
-        reconcile {today} and clients {today} have those of that day"
-    )
-}
-
-/// Writes which fault ended the remarks that go with a report.
-pub fn write_rows_end<W: fmt::Write>(f: &mut fmt::Formatter<W>, fault: StoreFault) -> fmt::Result {
-    write!(f, "{fault}: nothing more is told beside the report")
-}
-
-/// Writes which fault kept the lines that a book has before an import from being read.
-pub fn write_earlier_end<W: fmt::Write>(
-    f: &mut fmt::Formatter<W>,
-    fault: StoreFault,
-) -> fmt::Result {
-    write!(
-        f,
-        "{fault}: it is not told which lines stand on another entry by an earlier import"
-    )
 }
 
 /// Reports what the rows of a book show in addition to a report that has all figures of its day: the reconciliation and

@@ -85,16 +85,6 @@ pub fn caution_on<'a>(row: &'a ByteRecord, bytes: &[u8]) -> Option<Caution<'a>> 
     Some(Caution::SingleQuotes(place.saturating_add(1), Excerpt::new(text_at(row, place))))
 }
 
-// Writes as what a field is read, and what to do.
-fn write_read<W: fmt::Write>(
-    f: &mut fmt::Formatter<W>,
-    number: usize,
-    text: Excerpt<'_>,
-    words: &str,
-) -> fmt::Result {
-    write!(f, "field {number} is read as {text}{words}")
-}
-
 impl fmt::Display for Caution<'_> {
     fn fmt<W: fmt::Write>(&self, f: &mut fmt::Formatter<W>) -> fmt::Result {
         match *self {
@@ -103,17 +93,13 @@ impl fmt::Display for Caution<'_> {
                 "{payee} is not FIRM, the firm: if the firm is meant, have this declined, \
                 and pay FIRM from a fee that was earned"
             ),
-            Caution::LoneQuote(number, text) => write_read(
+            Caution::LoneQuote(number, text) => write!(
                 f,
-                number,
-                text,
-                ": within double quotes write a double quote twice",
+                "field {number} is read as {text}: within double quotes write a double quote twice"
             ),
-            Caution::SingleQuotes(number, text) => write_read(
+            Caution::SingleQuotes(number, text) => write!(
                 f,
-                number,
-                text,
-                ", with its single quotes: quotes around a field are double ones",
+                "field {number} is read as {text}, with its single quotes: quotes around a field are double ones"
             ),
         }
     }

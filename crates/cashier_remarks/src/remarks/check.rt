@@ -1,31 +1,15 @@
 // Remarks about rows that are not sound.
 
 use std::fmt;
-use trust_base::{EntryNo, MatterNo};
 use trust_desk::{Flaw, Unread};
-
-// Writes about a matter.
-fn write_matter<W: fmt::Write>(f: &mut fmt::Formatter<W>, matter: MatterNo) -> fmt::Result {
-    write!(
-        f,
-        "matter {matter} (matter_v2, seat_v2, entry_v2): its totals or entries are not those of sound rows"
-    )
-}
-
-// Writes what is not sound in the row of a table with this number.
-fn write_row<W: fmt::Write>(
-    f: &mut fmt::Formatter<W>,
-    number: u64,
-    table: &str,
-    words: &str,
-) -> fmt::Result {
-    write!(f, "row {number} of {table}: {words}")
-}
 
 /// Writes what is not sound in rows, with the names of their tables.
 pub fn write_flaw<W: fmt::Write>(f: &mut fmt::Formatter<W>, flaw: Flaw) -> fmt::Result {
     match flaw {
-        Flaw::Matter(matter) => write_matter(f, matter),
+        Flaw::Matter(matter) => write!(
+            f,
+            "matter {matter} (matter_v2, seat_v2, entry_v2): its totals or entries are not those of sound rows"
+        ),
         Flaw::Entry { matter, entry } => write!(
             f,
             "entry {entry} of matter {matter} (entry_v2, journal): the journal does not have what it moved"
@@ -35,66 +19,59 @@ pub fn write_flaw<W: fmt::Write>(f: &mut fmt::Formatter<W>, flaw: Flaw) -> fmt::
             "matter {matter} (journal): its movements fall below zero, go back in time or do not add up \
             to its ledger"
         ),
-        Flaw::Movement(number) => write_row(f, number, "journal", "it is of no entry"),
+        Flaw::Movement(number) => write!(f, "row {number} of journal: it is of no entry"),
         Flaw::OwnMovements => f.write_str(
             "the firm's own money (journal, firm_line): its movements are not the lines of its own ledger",
         ),
-        Flaw::FirmLine(number) => write_row(
+        Flaw::FirmLine(number) => write!(
             f,
-            number,
-            "firm_line",
-            "with it the firm's own money is outside 0.00 to 500.00",
+            "row {number} of firm_line: with it the firm's own money is outside 0.00 to 500.00"
         ),
         Flaw::Exception(number) => {
-            write_row(f, number, "exception", "it is not behind the one before")
+            write!(
+                f,
+                "row {number} of exception: it is not behind the one before"
+            )
         }
         Flaw::Balance(number) => {
-            write_row(f, number, "balance", "it is not behind the one before")
+            write!(
+                f,
+                "row {number} of balance: it is not behind the one before"
+            )
         }
-    }
-}
-
-// Writes about a row with this number.
-fn write_number<W: fmt::Write>(f: &mut fmt::Formatter<W>, table: &str, number: u64) -> fmt::Result {
-    write!(f, "row {number} of {table} stands for nothing")
-}
-
-// Writes about a row that is told by its matter.
-fn write_of_matter<W: fmt::Write>(
-    f: &mut fmt::Formatter<W>,
-    row: &str,
-    matter: &MatterNo,
-) -> fmt::Result {
-    write!(f, "{row} matter {matter} stands for nothing")
-}
-
-// Writes about an entry.
-fn write_entry<W: fmt::Write>(
-    f: &mut fmt::Formatter<W>,
-    matter: &MatterNo,
-    after: &Option<EntryNo>,
-) -> fmt::Result {
-    match after {
-        None => write_of_matter(f, "the first row of entry_v2 of", matter),
-        Some(entry) => write!(
-            f,
-            "the row of entry_v2 behind entry {entry} of matter {matter} stands for nothing"
-        ),
     }
 }
 
 /// Writes which row can't be read, with the name of its table.
-pub fn write_unread<W: fmt::Write>(f: &mut fmt::Formatter<W>, unread: &Unread) -> fmt::Result {
+pub fn write_unread<W: fmt::Write>(f: &mut fmt::Formatter<W>, unread: Unread) -> fmt::Result {
     match unread {
-        Unread::Matter(matter) => write_matter(f, *matter),
+        Unread::Matter(matter) => write_flaw(f, Flaw::Matter(matter)),
         Unread::Head(None) => f.write_str("the first row of matter_v2 stands for nothing"),
-        Unread::Head(Some(matter)) => write_of_matter(f, "the row of matter_v2 behind", matter),
-        Unread::Seat(matter) => write_of_matter(f, "a row of seat_v2 of", matter),
-        Unread::Entry { matter, after } => write_entry(f, matter, after),
-        Unread::Movement(number) => write_number(f, "journal", *number),
-        Unread::FirmLine(number) => write_number(f, "firm_line", *number),
-        Unread::Exception(number) => write_number(f, "exception", *number),
-        Unread::Balance(number) => write_number(f, "balance", *number),
+        Unread::Head(Some(matter)) => write!(
+            f,
+            "the row of matter_v2 behind matter {matter} stands for nothing"
+        ),
+        Unread::Seat(matter) => {
+            write!(f, "a row of seat_v2 of matter {matter} stands for nothing")
+        }
+        Unread::Entry {
+            matter,
+            after: None,
+        } => write!(
+            f,
+            "the first row of entry_v2 of matter {matter} stands for nothing"
+        ),
+        Unread::Entry {
+            matter,
+            after: Some(entry),
+        } => write!(
+            f,
+            "the row of entry_v2 behind entry {entry} of matter {matter} stands for nothing"
+        ),
+        Unread::Movement(number) => write!(f, "row {number} of journal stands for nothing"),
+        Unread::FirmLine(number) => write!(f, "row {number} of firm_line stands for nothing"),
+        Unread::Exception(number) => write!(f, "row {number} of exception stands for nothing"),
+        Unread::Balance(number) => write!(f, "row {number} of balance stands for nothing"),
         Unread::Elsewhere => f.write_str("the rows can't be read together"),
     }
 }

@@ -3,7 +3,7 @@
 ghost use Rattle.trust_desk.specs.Checking.{AreReads};
 
 use crate::folder::Folder;
-use crate::remarks::beside::write_owner;
+use crate::remarks::beside::OwnerReference;
 use crate::remarks::plain::Plain;
 use crate::remarks::statement::StatementTelling;
 use crate::remarks::{Remark, Remarks};
@@ -44,9 +44,12 @@ impl<'a> EarlierLine<'a> {
 impl fmt::Display for EarlierLine<'_> {
     fn fmt<W: fmt::Write>(&self, f: &mut fmt::Formatter<W>) -> fmt::Result {
         let (bank_ref, date, amount) = (self.bank_ref, self.date, Dollars(self.amount as i128));
-        write!(f, "{bank_ref} of {date}, {amount}, stands on ")?;
-        write_owner(f, self.before)?;
-        f.write_str(" already, by an earlier import: look whether the bank has two")
+        let before = OwnerReference(self.before);
+        write!(
+            f,
+            "{bank_ref} of {date}, {amount}, stands on {before} already, by an earlier import: \
+            look whether the bank has two"
+        )
     }
 }
 

@@ -90,7 +90,10 @@ fn last_reference(entry: &Entry) -> &[u8] {
         },
         Entry::Payment(payment) => match &payment.state {
             PaymentState::Cleared(paid) => paid.clearing.bank_ref.as_slice(),
-            _ => &[],
+            PaymentState::Proposed
+            | PaymentState::Declined
+            | PaymentState::Issued(_)
+            | PaymentState::Voided(_) => &[],
         },
         Entry::Fee(_) | Entry::Claim(_) => &[],
     }
@@ -172,47 +175,34 @@ impl<'a> EntryLine<'a> {
             bank_ref: reference_there(line, matter),
         }
     }
+}
 
-    // What is told of a day, before and after it.
-    fn words_of_day(&self) -> Option<(&'static str, Day, &'static str)> {
+// Writes only the reason, without the entry.
+impl fmt::Display for EntryLine<'_> {
+    fn fmt<W: fmt::Write>(&self, f: &mut fmt::Formatter<W>) -> fmt::Result {
+        let (matter, entry, bank_ref) = (self.matter, self.entry, self.bank_ref);
         match self.fault {
-            EntryFault::AfterToday(today) => Some(("dated after today, ", today, "")),
-            EntryFault::Voided(day) => Some((
-                "the payment was voided on ",
-                day,
-                ": look at the number, or ask the bank why it was paid",
-            )),
-            EntryFault::Cancelled(day) => Some((
-                "the deposit was cancelled on ",
-                day,
-                ": look at the number, or book it as a new entry",
-            )),
-            _ => None,
-        }
-    }
-
-    // What is told of the matter, before and after its number.
-    fn words_of_matter(&self) -> Option<(&'static str, &'static str)> {
-        match self.fault {
-            EntryFault::NeverOpened => Some(("", " was never opened: look at the number")),
-            EntryFault::Purged => Some(("", " was purged: look at the number")),
-            EntryFault::Uncovered => Some((
-                "the bank took the deposit back, and ",
-                " has less than that: put the money back in, and import the file again",
-            )),
-            _ => None,
-        }
-    }
-
-    // Writes about anything else.
-    fn write_own<W: fmt::Write>(&self, f: &mut fmt::Formatter<W>) -> fmt::Result {
-        let (matter, entry, bank_ref) = (self.matter, self.entry, &self.bank_ref);
-        match &self.fault {
+            EntryFault::AfterToday(today) => write!(f, "dated after today, {today}"),
+            EntryFault::NeverOpened => {
+                write!(f, "matter {matter} was never opened: look at the number")
+            }
+            EntryFault::Purged => write!(f, "matter {matter} was purged: look at the number"),
             EntryFault::NoEntry => write!(f, "matter {matter} has no entry {entry}"),
             EntryFault::NeverCleared(kind) => write!(f, "{kind}: no line of the bank clears it"),
             EntryFault::NotApproved => {
                 f.write_str("the payment is not approved yet: a lawyer approves it first")
             }
+            EntryFault::Declined => f.write_str(
+                "the payment was declined: look at the number, or ask the bank why it was paid",
+            ),
+            EntryFault::Voided(day) => write!(
+                f,
+                "the payment was voided on {day}: look at the number, or ask the bank why it was paid"
+            ),
+            EntryFault::Cancelled(day) => write!(
+                f,
+                "the deposit was cancelled on {day}: look at the number, or book it as a new entry"
+            ),
             EntryFault::ClearedBefore(kind, day) => write!(
                 f,
                 "the {kind} was cleared by another line, of {day} with {bank_ref}: \
@@ -225,27 +215,15 @@ impl<'a> EntryLine<'a> {
             EntryFault::OtherAmount { there, here } => {
                 write!(f, "the amount is {there} there, and {here} here")
             }
+            EntryFault::Uncovered => write!(
+                f,
+                "the bank took the deposit back, and matter {matter} has less than that: \
+                put the money back in, and import the file again"
+            ),
             EntryFault::WorkOf(last) => write!(
                 f,
                 "matter {matter} has work of {last}: --today is that day or a later one"
             ),
-            _ => f.write_str(
-                "the payment was declined: look at the number, or ask the bank why it was paid",
-            ),
-        }
-    }
-}
-
-// Writes only the reason, without the entry.
-impl fmt::Display for EntryLine<'_> {
-    fn fmt<W: fmt::Write>(&self, f: &mut fmt::Formatter<W>) -> fmt::Result {
-        let matter = self.matter;
-        if let Some((front, day, end)) = self.words_of_day() {
-            write!(f, "{front}{day}{end}")
-        } else if let Some((front, end)) = self.words_of_matter() {
-            write!(f, "{front}matter {matter}{end}")
-        } else {
-            self.write_own(f)
         }
     }
 }

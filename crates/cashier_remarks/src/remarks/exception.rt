@@ -5,7 +5,7 @@ use crate::remarks::plain::Plain;
 use crate::remarks::{Remark, Remarks};
 use firm_rows::Owner;
 use std::fmt;
-use trust_base::{BankAmount, Day, Line, StoreFault};
+use trust_base::{BankAmount, Day, Line};
 use trust_desk::{ImportStop, ItemWatch, NotApplied};
 
 /// An exception, without its text, and why it is one, or that an import would accept it.
@@ -35,11 +35,6 @@ impl fmt::Display for ExceptionRemark<'_> {
         write!(f, ", {amount}: ")?;
         self.told.write_reason(f)
     }
-}
-
-/// Writes which fault ended the report on the exceptions.
-pub fn write_end<W: fmt::Write>(f: &mut fmt::Formatter<W>, fault: &StoreFault) -> fmt::Result {
-    write!(f, "{fault}: no reasons are told of the other exceptions")
 }
 
 /// Reports why each exception of a book is one on a business day.

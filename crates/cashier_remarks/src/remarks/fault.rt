@@ -3,12 +3,20 @@
 use crate::record::{Verb, VerbForm, field_bytes, form_of, is_dismissal, is_text};
 use crate::remarks::excerpt::Excerpt;
 use crate::remarks::fields::{form_of as form_of_field, noun_of, place_of, text_at};
-use crate::remarks::line_fault::{LineFault, fault_of_dismissed};
+use crate::remarks::line_fault::{LineFault, OPEN_QUOTE, fault_of_dismissed};
 use crate::remarks::sum_meant::{sum_meant, sum_of_two};
 use crate::remarks::verb_fault::{VerbFault, fault_of_verb};
 use csv::ByteRecord;
 use std::fmt;
 use trust_base::{BankAmount, Field, MAX_AMOUNT};
+
+/// How many fields a verb takes, and how many its record has.
+#[derive(Clone, Copy)]
+pub struct FieldCount {
+    verb: &'static str,
+    wanted: usize,
+    found: usize,
+}
 
 /// What is wrong with a record that can't be read.
 #[derive(Clone, Copy)]
@@ -17,16 +25,16 @@ pub enum RecordFault<'a> {
     OpenQuote,
     /// The first field is not a verb of a sheet.
     NoVerb(VerbFault<'a>),
-    /// The record has this many fields, more than the verb takes.
-    TooMany(&'static VerbForm, usize),
-    /// The record has this many fields, more than the verb takes, because this amount was written with a comma.
-    Comma(&'static VerbForm, usize, BankAmount),
-    /// The record has this many fields, more than the verb takes; the extra ones are empty.
-    Padded(&'static VerbForm, usize),
-    /// The record has this many fields, fewer than the verb takes.
-    TooFew(&'static VerbForm, usize),
-    /// The verb takes no entry, but one is given.
-    NeedlessEntry(&'static VerbForm),
+    /// There are more fields than the verb takes; its records are of this pattern.
+    TooMany(FieldCount, &'static str),
+    /// There are more fields than the verb takes, because this amount was written with a comma.
+    Comma(FieldCount, BankAmount),
+    /// There are more fields than the verb takes; the extra ones are empty.
+    Padded(FieldCount),
+    /// There are fewer fields than the verb takes; its records are of this pattern.
+    TooFew(FieldCount, &'static str),
+    /// The verb with this name takes no entry, but one is given.
+    NeedlessEntry(&'static str),
     /// The record does not have the fields of a line to dismiss.
     NoLine,
     /// The record has the fields of a line to dismiss, but one is invalid.
@@ -84,30 +92,35 @@ fn amount_with_comma(form: &VerbForm, row: &ByteRecord) -> Option<BankAmount> {
         Verb::Deposit | Verb::Propose | Verb::Claim | Verb::Award => {
             sum_of_two(text_at(row, 3), text_at(row, 4))
         }
-        _ => None,
-    }
-}
-
-// The fault for too many fields.
-fn fault_of_many<'a>(form: &'static VerbForm, row: &ByteRecord) -> RecordFault<'a> {
-    match amount_with_comma(form, row) {
-        Some(amount) => RecordFault::Comma(form, row.len(), amount),
-        None => RecordFault::TooMany(form, row.len()),
+        Verb::Open
+        | Verb::Seat
+        | Verb::Drop
+        | Verb::Cancel
+        | Verb::Close
+        | Verb::Purge
+        | Verb::Entry
+        | Verb::Show => None,
     }
 }
 
 // The fault for a wrong number of fields, if it is wrong.
 fn fault_of_count<'a>(form: &'static VerbForm, row: &ByteRecord) -> Option<RecordFault<'a>> {
-    let found = row.len();
-    let wanted = form.field_count;
-    if found < wanted {
-        Some(RecordFault::TooFew(form, found))
-    } else if found == wanted {
+    let count = FieldCount {
+        verb: form.name,
+        wanted: form.field_count,
+        found: row.len(),
+    };
+    if count.found == count.wanted {
         None
-    } else if is_empty_from(row, wanted) {
-        Some(RecordFault::Padded(form, found))
+    } else if count.found < count.wanted {
+        Some(RecordFault::TooFew(count, form.pattern))
+    } else if is_empty_from(row, count.wanted) {
+        Some(RecordFault::Padded(count))
     } else {
-        Some(fault_of_many(form, row))
+        match amount_with_comma(form, row) {
+            Some(amount) => Some(RecordFault::Comma(count, amount)),
+            None => Some(RecordFault::TooMany(count, form.pattern)),
+        }
     }
 }
 
@@ -132,7 +145,7 @@ fn fault_of_form(row: &ByteRecord) -> RecordFault<'_> {
         return fault;
     }
     if !form.names_entry && !field_bytes(row, 2).is_empty() {
-        return RecordFault::NeedlessEntry(form);
+        return RecordFault::NeedlessEntry(form.name);
     }
     RecordFault::NotText(first_not_text(row))
 }
@@ -145,7 +158,7 @@ fn fault_of_amount<'a>(field: Field, text: &'a str, least: i64) -> RecordFault<'
         Some(amount) if least <= amount.get() && amount.get() <= MAX_AMOUNT as i64 => {
             RecordFault::NoAmount(excerpt, amount)
         }
-        _ => RecordFault::BadField(field, excerpt),
+        Some(_) | None => RecordFault::BadField(field, excerpt),
     }
 }
 
@@ -172,73 +185,42 @@ pub fn fault_of(row: &ByteRecord, field: Field) -> RecordFault<'_> {
     }
 }
 
-// Writes how many fields a verb takes, and how many there are.
-fn write_count<W: fmt::Write>(
-    f: &mut fmt::Formatter<W>,
-    form: &VerbForm,
-    found: usize,
-) -> fmt::Result {
-    let (name, count) = (form.name, form.field_count);
-    write!(f, "{name} takes {count} fields, {found} are here: ")
-}
-
-// Writes about an invalid field.
-fn write_field<W: fmt::Write>(
-    f: &mut fmt::Formatter<W>,
-    field: Field,
-    text: Excerpt<'_>,
-) -> fmt::Result {
-    let (noun, form) = (noun_of(field), form_of_field(field));
-    if text.is_empty() {
-        write!(f, "the {noun} is empty: write {form}")
-    } else {
-        write!(f, "{text} is no {noun}: write {form}")
-    }
-}
-
-impl RecordFault<'_> {
-    // Writes about numbers of fields, and about amounts.
-    fn write_numbers<W: fmt::Write>(&self, f: &mut fmt::Formatter<W>) -> fmt::Result {
-        match *self {
-            RecordFault::TooMany(form, found) => {
-                write_count(f, form, found)?;
-                let pattern = form.pattern;
-                write!(f, "{pattern}, and a field with a comma in double quotes")
-            }
-            RecordFault::Comma(form, found, amount) => {
-                write_count(f, form, found)?;
-                write!(f, "write the amount without a comma, {amount}")
-            }
-            RecordFault::Padded(form, found) => {
-                write_count(f, form, found)?;
-                f.write_str("take the empty ones off its end")
-            }
-            RecordFault::TooFew(form, found) => {
-                write_count(f, form, found)?;
-                f.write_str(form.pattern)
-            }
-            RecordFault::NoAmount(text, amount) => {
-                write!(f, "{text} is no amount: write {amount}")
-            }
-            RecordFault::Minus(text) => write!(
-                f,
-                "{text} is below zero: write it without a sign, since the verb tells which way it goes"
-            ),
-            _ => Ok(()),
-        }
-    }
-}
-
 impl fmt::Display for RecordFault<'_> {
     fn fmt<W: fmt::Write>(&self, f: &mut fmt::Formatter<W>) -> fmt::Result {
-        match self {
-            RecordFault::OpenQuote => f.write_str(
-                "a double quote is opened here and not closed in its line: close it, or take it away",
-            ),
+        match *self {
+            RecordFault::OpenQuote => f.write_str(OPEN_QUOTE),
             RecordFault::NoVerb(fault) => fault.fmt(f),
-            RecordFault::NeedlessEntry(form) => {
-                let name = form.name;
-                write!(f, "{name} names no entry: its third field stays empty")
+            RecordFault::TooMany(count, pattern) => {
+                let (verb, wanted, found) = (count.verb, count.wanted, count.found);
+                write!(
+                    f,
+                    "{verb} takes {wanted} fields, {found} are here: {pattern}, \
+                    and a field with a comma in double quotes"
+                )
+            }
+            RecordFault::Comma(count, amount) => {
+                let (verb, wanted, found) = (count.verb, count.wanted, count.found);
+                write!(
+                    f,
+                    "{verb} takes {wanted} fields, {found} are here: write the amount without a comma, {amount}"
+                )
+            }
+            RecordFault::Padded(count) => {
+                let (verb, wanted, found) = (count.verb, count.wanted, count.found);
+                write!(
+                    f,
+                    "{verb} takes {wanted} fields, {found} are here: take the empty ones off its end"
+                )
+            }
+            RecordFault::TooFew(count, pattern) => {
+                let (verb, wanted, found) = (count.verb, count.wanted, count.found);
+                write!(
+                    f,
+                    "{verb} takes {wanted} fields, {found} are here: {pattern}"
+                )
+            }
+            RecordFault::NeedlessEntry(verb) => {
+                write!(f, "{verb} names no entry: its third field stays empty")
             }
             RecordFault::NoLine => f.write_str(
                 "a line is dismissed as the list of exceptions has it: dismiss,,,DATE,REFERENCE,BANK_REF,AMOUNT,TEXT",
@@ -250,8 +232,21 @@ impl fmt::Display for RecordFault<'_> {
             RecordFault::NeedlessFund => {
                 f.write_str("general is of no entry: its sixth field stays empty")
             }
-            RecordFault::BadField(field, text) => write_field(f, *field, *text),
-            _ => self.write_numbers(f),
+            RecordFault::NoAmount(text, amount) => {
+                write!(f, "{text} is no amount: write {amount}")
+            }
+            RecordFault::Minus(text) => write!(
+                f,
+                "{text} is below zero: write it without a sign, since the verb tells which way it goes"
+            ),
+            RecordFault::BadField(field, text) => {
+                let (noun, form) = (noun_of(field), form_of_field(field));
+                if text.is_empty() {
+                    write!(f, "the {noun} is empty: write {form}")
+                } else {
+                    write!(f, "{text} is no {noun}: write {form}")
+                }
+            }
         }
     }
 }

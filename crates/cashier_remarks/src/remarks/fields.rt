@@ -64,6 +64,16 @@ pub fn form_of(field: Field) -> &'static str {
             "dollars and cents as 1234.50, no $ and no comma, from 0.00 to 999999999.99"
         }
         Field::From => "general, fee or claim",
-        _ => "1 to 80 bytes, no tab and no other control character",
+        Field::Client
+        | Field::Source
+        | Field::Description
+        | Field::Payee
+        | Field::Purpose
+        | Field::Instrument
+        | Field::Claimant
+        | Field::Reason => "1 to 80 bytes, no tab and no other control character",
+        Field::Record | Field::Day | Field::Body | Field::On | Field::Header => {
+            "it as docs/SHEET.md tells"
+        }
     }
 }

@@ -49,39 +49,26 @@ pub fn remark_on_header(found: Found<'_>) -> HeaderRemark<'_> {
     }
 }
 
-// Writes what the record on a line is, and what to do.
-fn write_line<W: fmt::Write>(f: &mut fmt::Formatter<W>, line: u64, words: &str) -> fmt::Result {
-    write!(f, "line {line}: this is {words}")
-}
-
 impl fmt::Display for HeaderRemark<'_> {
     fn fmt<W: fmt::Write>(&self, f: &mut fmt::Formatter<W>) -> fmt::Result {
-        match self {
-            HeaderRemark::Other { line, here } => {
-                write!(
-                    f,
-                    "line {line}: the first line must be {HEADER}; here it is {here}; \
-                    bank-to-statement makes a statement of a bank's own file"
-                )
-            }
-            HeaderRemark::Sheet { line } => write_line(
+        match *self {
+            HeaderRemark::Other { line, here } => write!(
                 f,
-                *line,
-                "a record of a sheet, not of a statement: the command sheet takes it",
+                "line {line}: the first line must be {HEADER}; here it is {here}; \
+                bank-to-statement makes a statement of a bank's own file"
             ),
-            HeaderRemark::NotText { line } => {
-                write_line(
-                    f,
-                    *line,
-                    "no text in UTF-8: save the statement as CSV in UTF-8",
-                )
-            }
-            HeaderRemark::Empty => {
-                write!(
-                    f,
-                    "the first line must be {HEADER}; here is none, the file is empty"
-                )
-            }
+            HeaderRemark::Sheet { line } => write!(
+                f,
+                "line {line}: this is a record of a sheet, not of a statement: the command sheet takes it"
+            ),
+            HeaderRemark::NotText { line } => write!(
+                f,
+                "line {line}: this is no text in UTF-8: save the statement as CSV in UTF-8"
+            ),
+            HeaderRemark::Empty => write!(
+                f,
+                "the first line must be {HEADER}; here is none, the file is empty"
+            ),
             HeaderRemark::Unseen => write!(f, "the first line must be {HEADER}"),
         }
     }

@@ -1,6 +1,6 @@
 // Remarks about lines of a statement as it is imported, and about exceptions.
 
-use crate::remarks::beside::write_owner;
+use crate::remarks::beside::OwnerReference;
 use crate::remarks::earlier_line::EarlierLine;
 use crate::remarks::entry_line::EntryLine;
 use crate::remarks::line_fault::{LineFault, fault_of_line};
@@ -68,34 +68,6 @@ pub fn remark_on_item<'a>(
     }
 }
 
-// Writes about a reference that names nothing.
-fn write_stray<W: fmt::Write>(f: &mut fmt::Formatter<W>, reference: &Plain<'_>) -> fmt::Result {
-    f.write_str(if reference.is_empty() {
-        "it has no reference: let match fill it in, or write M and six digits, - and four, or FIRM; \
-        import that, and dismiss this one"
-    } else {
-        "no reference of an entry: write M and six digits, - and four, or FIRM, OPEN, CLOSE"
-    })
-}
-
-// Writes about an exception that an import would apply.
-fn write_would_apply<W: fmt::Write>(f: &mut fmt::Formatter<W>, is_out: bool) -> fmt::Result {
-    f.write_str(if is_out {
-        "an import would clear the payment, or take the deposit back, by it: \
-        import it again only if the bank has it so; if it was mistyped, dismiss it"
-    } else {
-        "an import would apply it now: import the statement again; if it was mistyped, dismiss it"
-    })
-}
-
-// Writes about a fault that stopped an import.
-fn write_fault<W: fmt::Write>(f: &mut fmt::Formatter<W>, fault: &StoreFault) -> fmt::Result {
-    write!(
-        f,
-        "{fault}: this line and those after it were not applied; import the whole file again"
-    )
-}
-
 impl LineRemark<'_> {
     // Writes a comma and the reference, if it is known and not empty.
     fn write_reference<W: fmt::Write>(&self, f: &mut fmt::Formatter<W>) -> fmt::Result {
@@ -108,12 +80,16 @@ impl LineRemark<'_> {
                 let reference = line.reference();
                 write!(f, ", {reference}")
             }
-            LineRemark::Stray(reference) if !reference.is_empty() => write!(f, ", {reference}"),
+            LineRemark::Stray(reference) if reference.is_empty() => Ok(()),
+            LineRemark::Stray(reference) => write!(f, ", {reference}"),
             LineRemark::Earlier(line) => {
-                f.write_str(", ")?;
-                write_owner(f, line.owner)
+                let owner = OwnerReference(line.owner);
+                write!(f, ", {owner}")
             }
-            _ => Ok(()),
+            LineRemark::Unreadable(_)
+            | LineRemark::NotRun(_)
+            | LineRemark::WouldApply { is_out: _ }
+            | LineRemark::WouldRepeat => Ok(()),
         }
     }
 
@@ -122,10 +98,25 @@ impl LineRemark<'_> {
         match self {
             LineRemark::OfMatter(line) => write!(f, "{line}"),
             LineRemark::Own(line) => write!(f, "{line}"),
-            LineRemark::Stray(reference) => write_stray(f, reference),
+            LineRemark::Stray(reference) if reference.is_empty() => f.write_str(
+                "it has no reference: let match fill it in, or write M and six digits, - and four, or FIRM; \
+                import that, and dismiss this one",
+            ),
+            LineRemark::Stray(_) => f.write_str(
+                "no reference of an entry: write M and six digits, - and four, or FIRM, OPEN, CLOSE",
+            ),
             LineRemark::Unreadable(fault) => write!(f, "{fault}"),
-            LineRemark::NotRun(fault) => write_fault(f, fault),
-            LineRemark::WouldApply { is_out } => write_would_apply(f, *is_out),
+            LineRemark::NotRun(fault) => write!(
+                f,
+                "{fault}: this line and those after it were not applied; import the whole file again"
+            ),
+            LineRemark::WouldApply { is_out: true } => f.write_str(
+                "an import would clear the payment, or take the deposit back, by it: \
+                import it again only if the bank has it so; if it was mistyped, dismiss it",
+            ),
+            LineRemark::WouldApply { is_out: false } => f.write_str(
+                "an import would apply it now: import the statement again; if it was mistyped, dismiss it",
+            ),
             LineRemark::WouldRepeat => f.write_str(
                 "it is in the book already: import the statement again, and it is no exception any more",
             ),

@@ -13,6 +13,10 @@ use trust_base::{BankAmount, Day, MAX_BANK_TEXT, MAX_LINE_TEXT};
 /// The header of a statement.
 pub const HEADER: &str = "date,reference,bank_ref,amount,text";
 
+/// Of a record of a sheet or a statement that continues after its line.
+pub const OPEN_QUOTE: &str =
+    "a double quote is opened here and not closed in its line: close it, or take it away";
+
 /// What is wrong with a record of a statement that is not a valid line.
 #[derive(Clone, Copy)]
 pub enum LineFault<'a> {
@@ -154,67 +158,39 @@ pub fn fault_of_line(row: &ByteRecord) -> LineFault<'_> {
     }
 }
 
-// How a field is written: of an empty one, of another one, and what comes after that.
-#[derive(Clone, Copy)]
-struct Form {
-    noun: &'static str,
-    empty: &'static str,
-    other: &'static str,
-    end: &'static str,
-}
-
-const DAY: Form = Form {
-    noun: "day",
-    empty: "it as 2026-03-16",
-    other: "year, month and day as 2026-03-16",
-    end: "",
-};
-
-const AMOUNT: Form = Form {
-    noun: "amount",
-    empty: "dollars and cents as 1234.50",
-    other: "dollars and cents as 1234.50",
-    end: ", no $ and no comma",
-};
-
-// Writes about a field that is not valid: how it is written, or what is meant, if that is clear.
-fn write_form<W: fmt::Write, T: fmt::Display + Copy>(
-    f: &mut fmt::Formatter<W>,
-    form: Form,
-    text: Excerpt<'_>,
-    meant: Option<T>,
-) -> fmt::Result {
-    let (noun, empty, other, end) = (form.noun, form.empty, form.other, form.end);
-    if text.is_empty() {
-        return write!(f, "the {noun} is empty: write {empty}");
-    }
-    match meant {
-        Some(meant) => write!(f, "{text} is no {noun}: write {meant}{end}"),
-        None => write!(f, "{text} is no {noun}: write {other}{end}"),
-    }
-}
-
 impl fmt::Display for LineFault<'_> {
     fn fmt<W: fmt::Write>(&self, f: &mut fmt::Formatter<W>) -> fmt::Result {
         match *self {
             LineFault::Unseen => write!(f, "it is no line of a statement: {HEADER}"),
-            LineFault::OpenQuote => f.write_str(
-                "a double quote is opened here and not closed in its line: close it, or take it away",
-            ),
+            LineFault::OpenQuote => f.write_str(OPEN_QUOTE),
             LineFault::Count(1) => {
                 write!(f, "it has 1 field, a line of a statement has 5: {HEADER}")
             }
-            LineFault::Count(count) => {
-                write!(
-                    f,
-                    "it has {count} fields, a line of a statement has 5: {HEADER}"
-                )
-            }
+            LineFault::Count(count) => write!(
+                f,
+                "it has {count} fields, a line of a statement has 5: {HEADER}"
+            ),
             LineFault::NotText(number) => {
                 write!(f, "field {number} is not UTF-8: save the file as UTF-8")
             }
-            LineFault::NoDay(text, meant) => write_form(f, DAY, text, meant),
-            LineFault::NoAmount(text, meant) => write_form(f, AMOUNT, text, meant),
+            LineFault::NoDay(text, _) if text.is_empty() => {
+                f.write_str("the day is empty: write it as 2026-03-16")
+            }
+            LineFault::NoDay(text, Some(meant)) => write!(f, "{text} is no day: write {meant}"),
+            LineFault::NoDay(text, None) => write!(
+                f,
+                "{text} is no day: write year, month and day as 2026-03-16"
+            ),
+            LineFault::NoAmount(text, _) if text.is_empty() => {
+                f.write_str("the amount is empty: write dollars and cents as 1234.50")
+            }
+            LineFault::NoAmount(text, Some(meant)) => {
+                write!(f, "{text} is no amount: write {meant}, no $ and no comma")
+            }
+            LineFault::NoAmount(text, None) => write!(
+                f,
+                "{text} is no amount: write dollars and cents as 1234.50, no $ and no comma"
+            ),
             LineFault::NoReference(noun, text) => write!(
                 f,
                 "{text} is no {noun}: write at most 64 printed characters of ASCII"

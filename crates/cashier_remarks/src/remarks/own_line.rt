@@ -24,22 +24,6 @@ pub enum OwnLine {
     },
 }
 
-// The reference in the line of a balance.
-fn reference_of(kind: BalanceKind) -> &'static str {
-    match kind {
-        BalanceKind::Opening => "OPEN",
-        BalanceKind::Closing => "CLOSE",
-    }
-}
-
-// What a balance is called.
-fn name_of(kind: BalanceKind) -> &'static str {
-    match kind {
-        BalanceKind::Opening => "opening",
-        BalanceKind::Closing => "closing",
-    }
-}
-
 impl OwnLine {
     /// The remark about a line of the firm's own that does not fit the ledger on a business day.
     pub fn of_firm(line: &Line, ledger: &FirmLedger, today: Day) -> OwnLine {
@@ -69,10 +53,13 @@ impl OwnLine {
 
     /// The reference of the line.
     pub(crate) fn reference(&self) -> &'static str {
-        match self {
+        match *self {
             OwnLine::AfterToday(_) | OwnLine::Nothing | OwnLine::Beyond(_) => "FIRM",
             OwnLine::BalanceAfterToday(kind, _) | OwnLine::OtherBalance { kind, .. } => {
-                reference_of(*kind)
+                match kind {
+                    BalanceKind::Opening => "OPEN",
+                    BalanceKind::Closing => "CLOSE",
+                }
             }
         }
     }
@@ -81,7 +68,7 @@ impl OwnLine {
 // Writes only the reason, without the reference.
 impl fmt::Display for OwnLine {
     fn fmt<W: fmt::Write>(&self, f: &mut fmt::Formatter<W>) -> fmt::Result {
-        match self {
+        match *self {
             OwnLine::AfterToday(today) | OwnLine::BalanceAfterToday(_, today) => {
                 write!(f, "dated after today, {today}")
             }
@@ -96,7 +83,10 @@ impl fmt::Display for OwnLine {
                 there,
                 here,
             } => {
-                let name = name_of(*kind);
+                let name = match kind {
+                    BalanceKind::Opening => "opening",
+                    BalanceKind::Closing => "closing",
+                };
                 write!(
                     f,
                     "another {name} balance is kept for {day}: {there} there, and {here} here"

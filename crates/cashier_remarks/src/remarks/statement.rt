@@ -138,10 +138,11 @@ impl<'a, F: Folder, M: Remarks> StatementTelling<'a, F, M> {
 
     /// Reports why a statement is not matched.
     pub fn tell_refused(&self, refusal: &Refusal) {
-        match refusal {
-            Refusal::BadField(Field::Header) => self.tell_header(),
-            Refusal::TooLarge => self.remarks.tell(&Remark::MatchTooLarge),
-            _ => (),
+        if *refusal == Refusal::BadField(Field::Header) {
+            self.tell_header();
+        }
+        if *refusal == Refusal::TooLarge {
+            self.remarks.tell(&Remark::MatchTooLarge);
         }
     }
 }
@@ -150,7 +151,7 @@ impl<'a, F: Folder, M: Remarks> StatementTelling<'a, F, M> {
 fn found_in(again: &Again, is_there: bool) -> Option<Found<'_>> {
     match again {
         Again::Open(records) if is_there => Some(records.found()),
-        _ => None,
+        Again::Open(_) | Again::Unopened | Again::Lost => None,
     }
 }
 

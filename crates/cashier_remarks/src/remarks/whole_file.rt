@@ -21,25 +21,23 @@ pub enum FileRemark {
 
 impl fmt::Display for FileRemark {
     fn fmt<W: fmt::Write>(&self, f: &mut fmt::Formatter<W>) -> fmt::Result {
-        let (front, line, end) = match *self {
-            FileRemark::GoesOn { last } => (
-                "this record goes on to",
-                last,
-                ", since a double quote is opened here and not closed in its line: \
-                if that is not meant, close it, or take it away",
+        match *self {
+            FileRemark::GoesOn { last } => write!(
+                f,
+                "this record goes on to line {last}, since a double quote is opened here and not closed in its line: \
+                if that is not meant, close it, or take it away"
             ),
-            FileRemark::Again { before } => (
-                "the same day, reference, bank reference and amount as",
-                before,
-                ": applied once; if the bank has both, give this one a bank_ref of its own",
+            FileRemark::Again { before } => write!(
+                f,
+                "the same day, reference, bank reference and amount as line {before}: \
+                applied once; if the bank has both, give this one a bank_ref of its own"
             ),
-            FileRemark::Twice { before } => (
-                "the same day, bank reference and amount as",
-                before,
-                ", under another reference: look whether the bank has both, or the sum of them",
+            FileRemark::Twice { before } => write!(
+                f,
+                "the same day, bank reference and amount as line {before}, under another reference: \
+                look whether the bank has both, or the sum of them"
             ),
-        };
-        write!(f, "{front} line {line}{end}")
+        }
     }
 }
 
