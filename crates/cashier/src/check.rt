@@ -228,7 +228,7 @@ fn tell_found<M: Remarks>(remarks: &M, found: &Result<CheckFound, StoreFault>) {
     match found {
         Ok(CheckFound::Flawed(flaw)) => remarks.tell(&Remark::Flaw(*flaw)),
         Ok(CheckFound::Unreadable(row)) => remarks.tell(&Remark::Unread(*row)),
-        _ => (),
+        Ok(CheckFound::Sound(_)) | Err(_) => (),
     }
 }
 

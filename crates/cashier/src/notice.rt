@@ -84,7 +84,8 @@ fn source_of<'a>(alloc: Global, words: &'a [&'a str]) -> Option<Source<'a>>
         Task::Match(path) if is_printable(path) => Some(Source::File(path)),
         Task::Sheet => Some(Source::Input),
         Task::Stream => Some(Source::Input),
-        _ => None,
+        Task::Import(_) | Task::Match(_) | Task::Serve { .. } | Task::Report(_) | Task::Check =>
+            None,
     }
 }
 
@@ -107,7 +108,12 @@ fn port_served<'a>(alloc: Global, words: &'a [&'a str]) -> Option<u16>
     };
     match plan.task {
         Task::Serve { port, .. } => Some(port),
-        _ => None,
+        Task::Sheet
+        | Task::Import(_)
+        | Task::Match(_)
+        | Task::Stream
+        | Task::Report(_)
+        | Task::Check => None,
     }
 }
 
@@ -140,6 +146,8 @@ pub fn notice_of<'a>(alloc: Global, outcome: Outcome, words: &'a [&'a str]) -> O
         Outcome::FileFault => Some(Notice::FileFault(source_of(alloc, words))),
         Outcome::StoreFault => Some(Notice::StoreFault(book_path(alloc, words))),
         Outcome::NetworkFault => Some(Notice::NetworkFault(port_served(alloc, words))),
-        _ => bare_notice_of(outcome),
+        Outcome::Done | Outcome::Refused | Outcome::OutputFault | Outcome::MemoryFault => {
+            bare_notice_of(outcome)
+        }
     }
 }

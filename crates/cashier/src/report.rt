@@ -126,7 +126,10 @@ pub fn run_report<M: Remarks, W: Write, B: Book>(
 {
     let mut lines = match &command {
         ReportCommand::Reconcile(day) if remarks.are_told() => ClearedLines::up_to(alloc, *day),
-        _ => ClearedLines::none(alloc),
+        ReportCommand::Reconcile(_)
+        | ReportCommand::AsOf(_, _)
+        | ReportCommand::Ledger(_)
+        | ReportCommand::Firm(_) => ClearedLines::none(alloc),
     };
     let outcome = print_report(alloc, command, today, desk, &mut lines, writer);
     let Outcome::Done = outcome else {

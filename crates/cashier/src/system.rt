@@ -35,7 +35,7 @@ impl<R: Files> Folder for SystemFiles<'_, R> {
         };
         let length = match reader.metadata() {
             Ok(metadata) if metadata.is_file() => Some(metadata.len()),
-            _ => None,
+            Ok(_) | Err(_) => None,
         };
         Some(Opened { reader, length })
     }

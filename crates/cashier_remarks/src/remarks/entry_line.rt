@@ -70,50 +70,44 @@ fn fault_of_payment(state: &PaymentState) -> EntryFault {
     }
 }
 
-// The fault for an entry in a state in which no line clears it, or of a kind that bank lines do not clear.
-fn fault_of_entry(entry: &Entry) -> EntryFault {
+// The fault for the entry that a line names: its state or its kind, in which no line clears it, or that there is none.
+fn fault_of_entry(entry: Option<&Entry>) -> EntryFault {
     match entry {
-        Entry::Deposit(deposit) => fault_of_deposit(&deposit.state),
-        Entry::Payment(payment) => fault_of_payment(&payment.state),
-        Entry::Fee(_) => EntryFault::NeverCleared("a fee"),
-        Entry::Claim(_) => EntryFault::NeverCleared("a claim"),
+        Some(Entry::Deposit(deposit)) => fault_of_deposit(&deposit.state),
+        Some(Entry::Payment(payment)) => fault_of_payment(&payment.state),
+        Some(Entry::Fee(_)) => EntryFault::NeverCleared("a fee"),
+        Some(Entry::Claim(_)) => EntryFault::NeverCleared("a claim"),
+        None => EntryFault::NoEntry,
     }
 }
 
 // The bank's reference on the last line of an entry; empty if it had none.
-fn last_reference(entry: &Entry) -> &[u8] {
+fn last_reference(entry: Option<&Entry>) -> &[u8] {
     match entry {
-        Entry::Deposit(deposit) => match &deposit.state {
+        Some(Entry::Deposit(deposit)) => match &deposit.state {
             DepositState::Cleared(clearing) => clearing.bank_ref.as_slice(),
             DepositState::Returned(back) => back.returning.bank_ref.as_slice(),
             DepositState::Held | DepositState::Cancelled(_) => &[],
         },
-        Entry::Payment(payment) => match &payment.state {
+        Some(Entry::Payment(payment)) => match &payment.state {
             PaymentState::Cleared(paid) => paid.clearing.bank_ref.as_slice(),
             PaymentState::Proposed
             | PaymentState::Declined
             | PaymentState::Issued(_)
             | PaymentState::Voided(_) => &[],
         },
-        Entry::Fee(_) | Entry::Claim(_) => &[],
-    }
-}
-
-// The bank's reference on the last line of the entry that a line names.
-fn reference_there<'a>(line: &BankLine, matter: &'a Matter) -> Plain<'a> {
-    match matter.find(line.entry) {
-        Some(kept) => Plain::new(last_reference(&kept.entry)),
-        None => Plain::new(&[]),
+        Some(Entry::Fee(_) | Entry::Claim(_)) | None => &[],
     }
 }
 
 // The amount that a line for this entry needs to have.
-fn amount_of(entry: &Entry) -> Dollars {
+fn amount_of(entry: Option<&Entry>) -> Dollars {
     match entry {
-        Entry::Deposit(deposit) => Dollars(deposit.amount.get() as i128),
-        Entry::Payment(payment) => Dollars(-(payment.amount.get() as i128)),
-        Entry::Fee(fee) => Dollars(fee.amount.get() as i128),
-        Entry::Claim(claim) => Dollars(claim.amount.get() as i128),
+        Some(Entry::Deposit(deposit)) => Dollars(deposit.amount.get() as i128),
+        Some(Entry::Payment(payment)) => Dollars(-(payment.amount.get() as i128)),
+        Some(Entry::Fee(fee)) => Dollars(fee.amount.get() as i128),
+        Some(Entry::Claim(claim)) => Dollars(claim.amount.get() as i128),
+        None => Dollars(0),
     }
 }
 
@@ -134,45 +128,33 @@ fn fault_of_return(matter: &Matter, today: Day) -> EntryFault {
     }
 }
 
-// The fault for the entry that a line names, if the matter has it.
-fn fault_there(line: &BankLine, matter: &Matter) -> EntryFault {
-    match matter.find(line.entry) {
-        Some(kept) => fault_of_entry(&kept.entry),
-        None => EntryFault::NoEntry,
-    }
-}
-
-// The amount that a line for the named entry needs to have.
-fn amount_there(line: &BankLine, matter: &Matter) -> Dollars {
-    match matter.find(line.entry) {
-        Some(kept) => amount_of(&kept.entry),
-        None => Dollars(0),
-    }
-}
-
-// The fault for a line, given the first reason against it.
-fn fault_of(line: &BankLine, matter: &Matter, reason: Reason, today: Day) -> EntryFault {
-    match reason {
-        Reason::Future => EntryFault::AfterToday(today),
-        Reason::NoMatter => fault_of_matter(matter),
-        Reason::NoEntry => EntryFault::NoEntry,
-        Reason::WrongKind | Reason::WrongState => fault_there(line, matter),
-        Reason::WrongAmount => EntryFault::OtherAmount {
-            there: amount_there(line, matter),
-            here: line.line.amount,
-        },
-        Reason::Uncovered => fault_of_return(matter, today),
-    }
+// The entry that a line names, if the matter has it.
+fn entry_named<'a>(line: &BankLine, matter: &'a Matter) -> Option<&'a Entry> {
+    let kept = matter.find(line.entry)?;
+    Some(&kept.entry)
 }
 
 impl<'a> EntryLine<'a> {
-    /// Makes the remark about a line on a business day, given its matter as it was loaded.
+    /// Makes the remark about a line on a business day, given its matter as it was loaded and the first reason against
+    /// the line.
     pub fn new(line: &BankLine, matter: &'a Matter, reason: Reason, today: Day) -> EntryLine<'a> {
+        let entry = entry_named(line, matter);
+        let fault = match reason {
+            Reason::Future => EntryFault::AfterToday(today),
+            Reason::NoMatter => fault_of_matter(matter),
+            Reason::NoEntry => EntryFault::NoEntry,
+            Reason::WrongKind | Reason::WrongState => fault_of_entry(entry),
+            Reason::WrongAmount => EntryFault::OtherAmount {
+                there: amount_of(entry),
+                here: line.line.amount,
+            },
+            Reason::Uncovered => fault_of_return(matter, today),
+        };
         EntryLine {
             matter: line.matter,
             entry: line.entry,
-            fault: fault_of(line, matter, reason, today),
-            bank_ref: reference_there(line, matter),
+            fault,
+            bank_ref: Plain::new(last_reference(entry)),
         }
     }
 }

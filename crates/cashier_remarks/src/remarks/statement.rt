@@ -174,10 +174,8 @@ fn place_of(found: Option<Found<'_>>, number: u64) -> Place {
 
 // Returns the fields of a record that was found.
 fn row_of<'a>(found: Option<Found<'a>>) -> Option<&'a ByteRecord> {
-    match found {
-        Some(found) => Some(found.row),
-        None => None,
-    }
+    let found = found?;
+    Some(found.row)
 }
 
 impl<F: Folder, M: Remarks> ItemWatch for StatementTelling<'_, F, M> {
