@@ -10,7 +10,7 @@ ghost use Rattle.cashier.specs.Outcome.{MatchFileEnds};
 
 use crate::outcome::{Outcome, outcome_of_refusal, write_refusal};
 use crate::statement::is_told_longer;
-use cashier_remarks::{Folder, Opened, Remarks, StatementTelling};
+use cashier_remarks::{Folder, Opened, Remarks, tell_matched, tell_not_matched};
 use std::alloc::Global;
 use std::io::{Read, Write};
 use trust_base::{Day, InputFault, MAX_FILE_BYTES, Refusal, read_whole, send};
@@ -19,10 +19,11 @@ use trust_matter::Caller;
 use trust_store::Book;
 
 // Matches the statement in a file for the cashier, or returns why not. `None` if a read failed. The book is not read if
-// the file is above 4,194,304 bytes.
+// the file is above 4,194,304 bytes. The bytes that were matched are kept in `bytes`, for the remarks.
 fn found_in<R: Read + Drop, B: Book>(
     alloc: Global,
     file: Opened<R>,
+    bytes: &mut Vec<u8>,
     desk: &mut Desk<B>,
     today: Day,
 ) -> Option<Result<Matched, Refusal>>
@@ -40,8 +41,10 @@ fn found_in<R: Read + Drop, B: Book>(
         return Some(Err(Refusal::TooLarge));
     }
     match read_whole(alloc, &mut reader, MAX_FILE_BYTES) {
-        Ok(Some(bytes)) => {
-            Some(desk.match_statement(alloc, &Caller::Cashier, bytes.as_slice(), today))
+        Ok(Some(read)) => {
+            let found = desk.match_statement(alloc, &Caller::Cashier, read.as_slice(), today);
+            *bytes = read;
+            Some(found)
         }
         Ok(None) => Some(Err(Refusal::TooLarge)),
         Err(InputFault::Reader) => None,
@@ -51,8 +54,10 @@ fn found_in<R: Read + Drop, B: Book>(
 
 // Prints the matched statement, and reports to a person what in it has to be looked at; or prints the line of its
 // refusal, and reports why.
-fn print_found<W: Write, F: Folder, M: Remarks>(
-    telling: &StatementTelling<'_, F, M>,
+fn print_found<W: Write, M: Remarks>(
+    alloc: Global,
+    bytes: Vec<u8>,
+    remarks: &M,
     writer: &mut W,
     found: &Result<Matched, Refusal>,
 ) -> Outcome
@@ -65,7 +70,7 @@ fn print_found<W: Write, F: Folder, M: Remarks>(
             let Ok(()) = send(writer, matched.statement.as_slice()) else {
                 return Outcome::OutputFault;
             };
-            telling.tell_matched(matched);
+            tell_matched(alloc, remarks, bytes, matched);
             if matched.is_left {
                 Outcome::Refused
             } else {
@@ -76,18 +81,18 @@ fn print_found<W: Write, F: Folder, M: Remarks>(
             let Ok(()) = write_refusal(writer, refusal) else {
                 return Outcome::OutputFault;
             };
-            telling.tell_refused(refusal);
+            tell_not_matched(alloc, remarks, bytes, refusal);
             outcome_of_refusal(refusal)
         }
     }
 }
 
 // Matches the statement in a file, and prints the result.
-fn match_in<R: Read + Drop, F: Folder, M: Remarks, W: Write, B: Book>(
+fn match_in<R: Read + Drop, M: Remarks, W: Write, B: Book>(
     alloc: Global,
     file: Opened<R>,
     today: Day,
-    telling: &StatementTelling<'_, F, M>,
+    remarks: &M,
     desk: &mut Desk<B>,
     writer: &mut W,
 ) -> Outcome
@@ -99,8 +104,9 @@ fn match_in<R: Read + Drop, F: Folder, M: Remarks, W: Write, B: Book>(
     ensures crash { (B.seen desk.new).sure → (B.seen desk.old).clean → (B.seen desk.old).stands
         → LeavesOr (B.seen desk.old).firm (B.seen desk.old).leaves (B.seen desk.new).leaves }
 {
-    match found_in(alloc, file, desk, today) {
-        Some(found) => print_found(telling, writer, &found),
+    let mut bytes = Vec::new(alloc);
+    match found_in(alloc, file, &mut bytes, desk, today) {
+        Some(found) => print_found(alloc, bytes, remarks, writer, &found),
         None => Outcome::FileFault,
     }
 }
@@ -114,11 +120,11 @@ fn match_in<R: Read + Drop, F: Folder, M: Remarks, W: Write, B: Book>(
 /// was printed, and it is `StoreFault` or `MemoryFault`. If the file can't be opened or a read failed, it is
 /// `FileFault`, and nothing was printed. If a write failed, it is `OutputFault`, and only a prefix of the text or line
 /// was printed.
-pub fn run_match<'a, F: Folder, M: Remarks, W: Write, B: Book>(
+pub fn run_match<F: Folder, M: Remarks, W: Write, B: Book>(
     alloc: Global,
-    folder: &'a F,
-    path: &'a str,
-    remarks: &'a M,
+    folder: &F,
+    path: &str,
+    remarks: &M,
     writer: &mut W,
     desk: &mut Desk<B>,
     today: Day,
@@ -136,7 +142,5 @@ pub fn run_match<'a, F: Folder, M: Remarks, W: Write, B: Book>(
     let Some(file) = folder.open(path) else {
         return Outcome::FileFault;
     };
-    let is_file = file.length.is_some();
-    let telling = StatementTelling::new(alloc, folder, path, is_file, today, remarks, None);
-    match_in(alloc, file, today, &telling, desk, writer)
+    match_in(alloc, file, today, remarks, desk, writer)
 }

@@ -20,5 +20,6 @@ pub use remarks::{
     ExceptionRemark, ExceptionTelling, Excerpt, FileRemark, HeaderRemark, LineFault, LineRemark,
     NoRemarks, NowTelling, OwnLine, Place, Plain, RecordFault, RecordRemark, RefusedRecord, Remark,
     Remarks, StatementTelling, Telling, TwiceTelling, UnmatchedLine, VerbFault, is_past,
-    is_printable, tell_of_day, tell_of_earlier, tell_of_loss, tell_of_new_book, tell_of_no_book,
+    is_printable, tell_matched, tell_not_matched, tell_of_day, tell_of_earlier, tell_of_loss,
+    tell_of_new_book, tell_of_no_book,
 };

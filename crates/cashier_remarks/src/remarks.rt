@@ -57,7 +57,7 @@ pub use telling::Telling;
 use trust_base::{Day, StoreFault};
 use trust_desk::{Flaw, Unread};
 use trust_store::NoBook;
-pub use unmatched::UnmatchedLine;
+pub use unmatched::{UnmatchedLine, tell_matched, tell_not_matched};
 pub use verb_fault::VerbFault;
 pub use whole_file::FileRemark;
 

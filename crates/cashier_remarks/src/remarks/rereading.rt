@@ -1,4 +1,4 @@
-// Reads the records of a statement's file again, for the remarks about them.
+// Reads the records of a statement's bytes again, for the remarks about them.
 
 use crate::folder::Folder;
 use crate::remarks::telling::line_of;
@@ -18,7 +18,7 @@ pub struct Found<'a> {
     pub row: &'a ByteRecord,
 }
 
-/// The records of a statement's file, read again. They have to be asked for in order.
+/// The records of a statement's bytes, read again. They have to be asked for in order.
 #[derive(Drop)]
 pub struct Rereading {
     records: Reader<Cursor<Vec<u8>>>,
@@ -28,21 +28,24 @@ pub struct Rereading {
 }
 
 impl Rereading {
+    /// The records of these bytes, from the first.
+    pub fn of(alloc: Global, bytes: Vec<u8>) -> Rereading {
+        let mut builder = ReaderBuilder::new();
+        builder.has_headers(false).flexible(true);
+        Rereading {
+            records: builder.from_reader(alloc, Cursor::new(bytes)),
+            row: ByteRecord::new(alloc),
+            taken: 0,
+        }
+    }
+
     /// Opens the file at a path at its first record, if it can be read whole.
     pub fn open<F: Folder>(alloc: Global, folder: &F, path: &str) -> Option<Rereading> {
         let mut file = folder.open(path)?;
         let Ok(Some(bytes)) = read_whole(alloc, &mut file.reader, MAX_FILE_BYTES) else {
             return None;
         };
-        let mut builder = ReaderBuilder::new();
-        builder.has_headers(false).flexible(true);
-        let records = builder.from_reader(alloc, Cursor::new(bytes));
-        let row = ByteRecord::new(alloc);
-        Some(Rereading {
-            records,
-            row,
-            taken: 0,
-        })
+        Some(Rereading::of(alloc, bytes))
     }
 
     /// Reads records up to the one with this number; the header has number 0. Whether that one exists, and is the last

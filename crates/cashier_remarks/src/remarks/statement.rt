@@ -6,15 +6,14 @@ use crate::remarks::header::{HeaderRemark, remark_on_header};
 use crate::remarks::line::{LineRemark, remark_on_item};
 use crate::remarks::place::Place;
 use crate::remarks::rereading::{Found, Rereading};
-use crate::remarks::unmatched::tell_unmatched;
 use crate::remarks::whole_file::tell_of_records;
 use crate::remarks::{Remark, Remarks};
 use csv::ByteRecord;
 use firm_rows::Owner;
 use std::alloc::Global;
 use std::cell::RefCell;
-use trust_base::{Day, Field, Line, MAX_FILE_BYTES, Refusal, StoreFault};
-use trust_desk::{AppliedLine, EarlierWatch, ImportStop, ItemWatch, Matched, NotApplied};
+use trust_base::{Day, Field, Line, Refusal, StoreFault};
+use trust_desk::{AppliedLine, EarlierWatch, ImportStop, ItemWatch, NotApplied};
 
 // The file, which is read again once there is something to report about it.
 #[derive(Drop)]
@@ -25,7 +24,7 @@ enum Again {
     Lost,
 }
 
-/// Reports about the lines of a statement that is imported or matched on a business day.
+/// Reports about the lines of a statement that is imported on a business day.
 #[derive(Drop)]
 pub struct StatementTelling<'a, F, M> {
     alloc: Global,
@@ -60,7 +59,7 @@ impl<'a, F: Folder, M: Remarks> StatementTelling<'a, F, M> {
             today,
             remarks,
             applied,
-            again: RefCell::new(if is_file {
+            again: RefCell::new(if is_file && remarks.are_told() {
                 Again::Unopened
             } else {
                 Again::Lost
@@ -113,7 +112,7 @@ impl<'a, F: Folder, M: Remarks> StatementTelling<'a, F, M> {
 
     // Reports what only the file shows about its records, which are read once more from the start. Line ends within a
     // record are also reported if the record is reported as not valid.
-    fn tell_of_file(&self, is_match: bool) {
+    fn tell_of_file(&self) {
         let Ok(mut again) = self.again.try_borrow_mut() else {
             return;
         };
@@ -122,27 +121,7 @@ impl<'a, F: Folder, M: Remarks> StatementTelling<'a, F, M> {
         }
         *again = Again::Lost;
         if let Some(mut records) = Rereading::open(self.alloc, self.folder, self.path) {
-            tell_of_records(&mut records, self.remarks, is_match);
-        }
-    }
-
-    /// Reports what in a matched statement has to be looked at, whether what was written is longer than an import
-    /// takes, and what only its file shows.
-    pub fn tell_matched(&self, matched: &Matched) {
-        tell_unmatched(self.remarks, matched.unmatched.as_slice());
-        if MAX_FILE_BYTES < matched.statement.len() {
-            self.remarks.tell(&Remark::MatchedTooLong);
-        }
-        self.tell_of_file(true);
-    }
-
-    /// Reports why a statement is not matched.
-    pub fn tell_refused(&self, refusal: &Refusal) {
-        if *refusal == Refusal::BadField(Field::Header) {
-            self.tell_header();
-        }
-        if *refusal == Refusal::TooLarge {
-            self.remarks.tell(&Remark::MatchTooLarge);
+            tell_of_records(&mut records, self.remarks, false);
         }
     }
 }
@@ -204,7 +183,7 @@ impl<F: Folder, M: Remarks> ItemWatch for StatementTelling<'_, F, M> {
             ImportStop::Refused(Refusal::BadField(Field::Header)) => self.tell_header(),
             ImportStop::Refused(Refusal::Store) => self.tell_not_run(next, StoreFault::Store),
             ImportStop::Refused(Refusal::Memory) => self.tell_not_run(next, StoreFault::Memory),
-            ImportStop::Done => self.tell_of_file(false),
+            ImportStop::Done => self.tell_of_file(),
             ImportStop::Refused(_) | ImportStop::ReadFault => (),
         }
     }
