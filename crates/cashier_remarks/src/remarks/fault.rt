@@ -185,39 +185,32 @@ pub fn fault_of(row: &ByteRecord, field: Field) -> RecordFault<'_> {
     }
 }
 
+// Writes how many fields a verb takes, and how many there are.
+fn write_count<W: fmt::Write>(f: &mut fmt::Formatter<W>, count: FieldCount) -> fmt::Result {
+    let (verb, wanted, found) = (count.verb, count.wanted, count.found);
+    write!(f, "{verb} takes {wanted} fields, {found} are here: ")
+}
+
 impl fmt::Display for RecordFault<'_> {
     fn fmt<W: fmt::Write>(&self, f: &mut fmt::Formatter<W>) -> fmt::Result {
         match *self {
             RecordFault::OpenQuote => f.write_str(OPEN_QUOTE),
             RecordFault::NoVerb(fault) => fault.fmt(f),
             RecordFault::TooMany(count, pattern) => {
-                let (verb, wanted, found) = (count.verb, count.wanted, count.found);
-                write!(
-                    f,
-                    "{verb} takes {wanted} fields, {found} are here: {pattern}, \
-                    and a field with a comma in double quotes"
-                )
+                write_count(f, count)?;
+                write!(f, "{pattern}, and a field with a comma in double quotes")
             }
             RecordFault::Comma(count, amount) => {
-                let (verb, wanted, found) = (count.verb, count.wanted, count.found);
-                write!(
-                    f,
-                    "{verb} takes {wanted} fields, {found} are here: write the amount without a comma, {amount}"
-                )
+                write_count(f, count)?;
+                write!(f, "write the amount without a comma, {amount}")
             }
             RecordFault::Padded(count) => {
-                let (verb, wanted, found) = (count.verb, count.wanted, count.found);
-                write!(
-                    f,
-                    "{verb} takes {wanted} fields, {found} are here: take the empty ones off its end"
-                )
+                write_count(f, count)?;
+                f.write_str("take the empty ones off its end")
             }
             RecordFault::TooFew(count, pattern) => {
-                let (verb, wanted, found) = (count.verb, count.wanted, count.found);
-                write!(
-                    f,
-                    "{verb} takes {wanted} fields, {found} are here: {pattern}"
-                )
+                write_count(f, count)?;
+                f.write_str(pattern)
             }
             RecordFault::NeedlessEntry(verb) => {
                 write!(f, "{verb} names no entry: its third field stays empty")
