@@ -37,8 +37,9 @@ function listOf(day, { matters, firm, total }) {
         cells: cellsOf,
         first: FIRST,
     });
-    return el('div', { class: 'on-screen' }, list, p('With ', money(firm), ' of the firm\u2019s own that is ', money(total),
-        ': LEDGERS of the ', link(`#/reconciliation/${day}`, 'reconciliation of that day'), '.'));
+    const sums = p('With ', money(firm), ' of the firm\u2019s own that is ', money(total), ': LEDGERS of the ',
+        link(`#/reconciliation/${day}`, 'reconciliation of that day'), '.');
+    return el('div', { class: 'on-screen' }, list, sums);
 }
 
 export async function clients(page, day = null) {
