@@ -1,0 +1,87 @@
+# shellcheck shell=bash
+# What tools/try-package and tools/try-machines have in common: counting, and machines of bare Debian under a systemd of
+# their own. `room` is a folder that is deleted at the end, `bare` that of a bare Debian.
+
+passed=0 failed=0
+declare -A nspawn=() leader=()
+
+fail() {
+    echo "${0##*/}: $1" >&2
+    exit 1
+}
+
+# Counts a thing that was looked at: what it is, and whether it is so.
+count() {
+    if "${@:2}"; then
+        passed=$((passed + 1))
+    else
+        failed=$((failed + 1))
+        echo "NOT SO: $1"
+    fi
+}
+
+# is WHAT WANTED GOT
+is() {
+    count "$1: $3 for $2" [ "$3" = "$2" ]
+}
+
+make_bare() {
+    [ -d "$bare/usr" ] && [ ! -d "$bare/debootstrap" ] && return
+    echo "${0##*/}: a bare Debian is made in $bare" >&2
+    debootstrap --variant=minbase --include=systemd,systemd-sysv,dbus bookworm "$bare" >"$room/log" 2>&1 ||
+        fail "debootstrap failed: $(tail -n 1 "$room/log")"
+}
+
+# A command of a machine's administrator: on MACHINE COMMAND
+on() {
+    nsenter -t "${leader[$1]}" -a -- env -i PATH=/usr/sbin:/usr/bin:/sbin:/bin HOME=/root \
+        DEBIAN_FRONTEND=noninteractive bash -c "${*:2}" 2>>"$room/log"
+}
+
+# Begins the machine whose files are in the folder of its name, and waits until all that begins with it has begun. Each
+# has a group of processes of its own: begin MACHINE NSPAWN-WORD..
+begin() {
+    local name=$1 state tries part
+    (
+        for part in /sys/fs/cgroup/unified /sys/fs/cgroup/systemd /sys/fs/cgroup; do
+            if [ -e "$part/cgroup.procs" ]; then
+                mkdir -p "$part/try.$$.$name" && echo "$BASHPID" >"$part/try.$$.$name/cgroup.procs"
+            fi
+        done 2>/dev/null
+        SYSTEMD_NSPAWN_UNIFIED_HIERARCHY=1 exec systemd-nspawn --register=no --keep-unit -q -D "$room/$name" \
+            --machine="$name" --hostname="$name" --timezone=off --system-call-filter=bpf \
+            --capability=CAP_BPF,CAP_PERFMON --boot "${@:2}" </dev/null >"$room/$name.console" 2>&1
+    ) &
+    nspawn[$name]=$!
+    for ((tries = 0; tries < 600; tries++)); do
+        sleep 0.2
+        leader[$name]=$(pgrep -P "${nspawn[$name]}" | head -n 1)
+        state=$([ -z "${leader[$name]}" ] || on "$name" systemctl is-system-running)
+        case $state in running | degraded) return ;; esac
+    done
+    fail "the machine $name did not begin: $(tail -n 1 "$room/$name.console")"
+}
+
+# Ends a machine as its administrator does.
+halt() {
+    [ -n "${nspawn[$1]-}" ] || return
+    on "$1" systemctl poweroff
+    wait "${nspawn[$1]}"
+    nspawn[$1]=''
+}
+
+# Ends a machine as a failing power supply does.
+lose() {
+    kill -KILL "${nspawn[$1]}"
+    wait "${nspawn[$1]}" 2>/dev/null
+    nspawn[$1]=''
+}
+
+clean() {
+    local name
+    for name in "${!nspawn[@]}"; do
+        [ -z "${nspawn[$name]}" ] || { kill "${nspawn[$name]}" && wait "${nspawn[$name]}"; } 2>/dev/null
+        rmdir /sys/fs/cgroup/{unified,systemd}/"try.$$.$name" 2>/dev/null
+    done
+    rm -rf --one-file-system -- "$room"
+}
