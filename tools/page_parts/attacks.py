@@ -201,7 +201,7 @@ def try_fields(firm: Firm, checks: Checks) -> None:
 
 def limit(text: str) -> str:
     """The configuration with limits that a slow machine reaches too."""
-    return text.replace("rate=100r/s", "rate=1r/m").replace("burst=400", "burst=5")
+    return re.sub(r"burst=(400|1000|2000)", "burst=5", re.sub(r"rate=[0-9]+r/s", "rate=1r/m", text))
 
 
 def try_limits(firm: Firm, folder: pathlib.Path, checks: Checks) -> None:
