@@ -32,6 +32,13 @@ make_bare() {
         fail "debootstrap failed: $(tail -n 1 "$room/log")"
 }
 
+# A machine's folder, over a tree that stays as it is: layer TREE MACHINE
+layer() {
+    mkdir "$room/$2" "$room/$2.own" "$room/$2.work" &&
+        mount -t overlay overlay -o "lowerdir=$1,upperdir=$room/$2.own,workdir=$room/$2.work" "$room/$2" ||
+        fail "no overlay for $2"
+}
+
 # A command of a machine's administrator: on MACHINE COMMAND
 on() {
     nsenter -t "${leader[$1]}" -a -- env -i PATH=/usr/sbin:/usr/bin:/sbin:/bin HOME=/root \
@@ -83,6 +90,7 @@ clean() {
     for name in "${!nspawn[@]}"; do
         [ -z "${nspawn[$name]}" ] || { kill "${nspawn[$name]}" && wait "${nspawn[$name]}"; } 2>/dev/null
         rmdir /sys/fs/cgroup/{unified,systemd}/"try.$$.$name" 2>/dev/null
+        umount -l "$room/$name" 2>/dev/null
     done
     rm -rf --one-file-system -- "$room"
 }
