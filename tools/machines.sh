@@ -49,6 +49,8 @@ on() {
 # has a group of processes of its own: begin MACHINE NSPAWN-WORD..
 begin() {
     local name=$1 state tries part
+    # What a machine that was lost left there would be in the way.
+    rm -rf --one-file-system "/run/systemd/nspawn/propagate/try-$$-$name"
     (
         for part in /sys/fs/cgroup/unified /sys/fs/cgroup/systemd /sys/fs/cgroup; do
             if [ -e "$part/cgroup.procs" ]; then
@@ -56,7 +58,7 @@ begin() {
             fi
         done 2>/dev/null
         SYSTEMD_NSPAWN_UNIFIED_HIERARCHY=1 exec systemd-nspawn --register=no --keep-unit -q -D "$room/$name" \
-            --machine="$name" --hostname="$name" --timezone=off --system-call-filter=bpf \
+            --machine="try-$$-$name" --hostname="$name" --timezone=off --system-call-filter=bpf \
             --capability=CAP_BPF,CAP_PERFMON --boot "${@:2}" </dev/null >"$room/$name.console" 2>&1
     ) &
     nspawn[$name]=$!
