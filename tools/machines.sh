@@ -82,7 +82,7 @@ halt() {
 # Ends a machine as a failing power supply does.
 lose() {
     [ -n "${nspawn[$1]-}" ] || return
-    kill -KILL "${nspawn[$1]}"
+    kill -KILL "${leader[$1]}" "${nspawn[$1]}"
     wait "${nspawn[$1]}" 2>/dev/null
     nspawn[$1]=''
 }
