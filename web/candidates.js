@@ -40,22 +40,5 @@ export function together(entries, line, reason) {
     return sets.find((each) => makesIt(line, each)) ?? [];
 }
 
-// What the firm's own money would be with a line, and whether it may be that.
-export function ownWith(own, amount) {
-    const sum = cents(own) + cents(amount);
-    return { sum: amountOf(sum), mayBe: sum >= 0n && sum <= MOST_OWN };
-}
-
+// What the firm's own money may still become.
 export const leftOfOwn = (own) => amountOf(MOST_OWN - cents(own));
-
-// Of lines in the order of an import, those that the firm's own money could not take, each with what it would be.
-export function tooMuchOwn(own, lines) {
-    const found = new Map();
-    let now = own;
-    for (const line of lines.filter(({ reference, amount }) => reference === 'FIRM' && isAmount(amount))) {
-        const { sum, mayBe } = ownWith(now, line.amount);
-        if (mayBe) now = sum;
-        else found.set(line.number, sum);
-    }
-    return found;
-}

@@ -1,7 +1,7 @@
 // What the desk tells of a bank's file: the statement that an import takes, and what is left of it.
 
 import { linesOf, NAMES } from './bank-file.js';
-import { bytesOf, recordsOf, textOf } from './csv.js';
+import { textOf } from './csv.js';
 
 const MATCH = '/firm/statements/match';
 const UNMATCHED = '/firm/statements/unmatched';
@@ -124,33 +124,6 @@ export async function areInBook(page, fields) {
     const told = readLeft(unmatched.text, linesOf(textOf(body))).told.map(({ line }) => line).filter(Boolean);
     const open = new Set([...linesOf(textOf(statement.bytes)), ...told].map(lineKey));
     return fields.map((each) => !open.has(lineKey(each)));
-}
-
-// A statement without some of its records, which are numbered from 1.
-function without(bytes, numbers) {
-    const text = textOf(bytes);
-    const records = recordsOf(text);
-    const startOf = (number) => records[number]?.[0].from ?? text.length;
-    const kept = records.flatMap((_, number) =>
-        (numbers.has(number) ? [] : [text.slice(startOf(number), startOf(number + 1))]));
-    return bytesOf(kept.join(''));
-}
-
-// Takes lines out of what would be imported: `isOut` says of a line whether it is. They are to be looked at then, for
-// the reason that `reasonOfLine` gives.
-export function takeOut(found, file, isOut, reasonOfLine) {
-    const out = found.lines.filter(isOut);
-    const open = file.sent().filter(({ isWhole, reference }) => isWhole && !reference);
-    const told = out.map((line) => ({ line: open.find((each) => lineKey(each) === lineKey(line)) ?? line,
-        reason: reasonOfLine(line) }));
-    return {
-        ...found,
-        bytes: without(found.bytes, new Set(out.map(({ number }) => number))),
-        lines: found.lines.filter((line) => !isOut(line)),
-        written: found.written - out.length,
-        left: found.left + out.length,
-        told: [...found.told, ...told],
-    };
 }
 
 // Whether another answer has the same statement.

@@ -191,13 +191,14 @@ def take_too_much_for_the_firm(bank: Bank) -> None:
     for line in lines:
         next(each for each in line.find_elements("css selector", "button") if each.text == "FIRM").click()
     bank.browser.press("Match again")
-    bank.has("Some of these lines match nothing as they stand", "Import these all the same",
+    bank.has("2 lines would be imported, 0 in the book already, 1 to be looked at.",
+             "Some of these lines match nothing as they stand", "Import these all the same",
              "the firm's own money would be 935.50 with it, and stays from 0.00 to 500.00")
     bank.browser.press("Import these all the same")
     bank.has("Match nothing (exceptions)\n1", "Lines that found their place\n1")
     bank.checks.same("the box is green", bank.browser.find(".box.done"), [])
     bank.browser.to("#/report/exceptions")
-    bank.has("The firm's own money is 323.00; with this line it would be 1,135.50, and it stays from 0.00 to 500.00.")
+    bank.has("the firm's own money would be 1,135.50 with it, and stays from 0.00 to 500.00")
     bank.put_away()
 
 

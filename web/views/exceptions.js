@@ -5,12 +5,10 @@ import { grouped } from '../amounts.js';
 import { change } from '../asks.js';
 import { BankFile } from '../bank-file.js';
 import { doneBox, noteBox, refusedBox } from '../boxes.js';
-import { ownWith } from '../candidates.js';
 import { textOf } from '../csv.js';
 import { button, el, label, money, number, p } from '../elements.js';
 import { isEntry, readExceptions } from '../exceptions.js';
 import { areInBook, openFile, reasonsOf } from '../matched.js';
-import { readTrial } from '../reports.js';
 import { FILE } from '../shelf.js';
 import { column, longTable } from '../tables.js';
 import { reasonWords, referenceLink } from './left.js';
@@ -58,14 +56,9 @@ const cellsOf = (page, place) => (line) => (line.fields
 
 const APPLIED = 'It would be applied now: bring the same file in again.';
 
-// Why a line with this reference is an exception. Of the firm's own lines the desk tells no reason.
-function reasonIn(told, { reference, amount }, own) {
-    if (told === '' && isEntry(reference)) return APPLIED;
-    if (told !== '' || reference !== 'FIRM' || own === null) return told;
-    const { sum, mayBe } = ownWith(own, amount);
-    return mayBe ? APPLIED : `The firm's own money is ${grouped(own)}; with this line it would be ${grouped(sum)}, and `
-        + 'it stays from 0.00 to 500.00.';
-}
+// Why a line with this reference is an exception: the desk tells no reason of one that would be applied.
+const reasonIn = (told, { reference }) =>
+    (told === '' && (isEntry(reference) || reference === 'FIRM') ? APPLIED : told);
 
 // The lines, with why each that could be read matches nothing, and whether the book has it by another reference.
 async function withReasons(page, lines) {
@@ -74,10 +67,8 @@ async function withReasons(page, lines) {
     const all = whole.map(({ fields }) => fields);
     const told = await reasonsOf(page, all);
     const isKnown = await areInBook(page, all);
-    const trial = await page.desk.read('/firm/trial-balance');
-    const own = trial.isDone ? readTrial(trial.text).firm : null;
     const found = new Map(whole.map((line, i) =>
-        [line, { reason: reasonIn(told[i], line.fields, own), isKnown: isKnown[i] }]));
+        [line, { reason: reasonIn(told[i], line.fields), isKnown: isKnown[i] }]));
     return lines.map((line) => ({ ...line, ...found.get(line) }));
 }
 

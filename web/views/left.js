@@ -25,10 +25,14 @@ export function referenceLink(reference) {
 // As in the file, where it is no day or no amount.
 export const dayOf = (date) => (/^\d{4}-\d\d-\d\d$/.test(date) ? number(date) : label(date));
 export const amountOf = (amount) => (/^-?\d+\.\d\d$/.test(amount) ? money(amount) : label(amount));
+const amountOrDay = (part) => (/^-?\d+\.\d\d$/.test(part) ? money(part) : dayOf(part));
 
-// The entries that a reason names can be looked at; its days are not broken.
-export const reasonWords = (reason) => reason.split(/(M\d{6}-\d{4}|\d{4}-\d\d-\d\d)/u).map((part) =>
-    (entryAt(part) ? referenceLink(part) : dayOf(part)));
+// The parts of a reason that are not broken: references, days, and what the firm's own money would be.
+const PARTS = /(M\d{6}-\d{4}|\d{4}-\d\d-\d\d|(?<=^the firm's own money would be )-?\d+\.\d\d)/u;
+
+// The entries that a reason names can be looked at.
+export const reasonWords = (reason) => reason.split(PARTS).map((part) =>
+    (entryAt(part) ? referenceLink(part) : amountOrDay(part)));
 
 const ENTRY_COLUMNS = [column('Reference', 'tight'), column('Client'), column('Day', 'tight'), column('Words'),
     column('Amount', 'right'), column('Use', 'tight')];

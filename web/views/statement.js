@@ -2,16 +2,15 @@
 // brought in as it is. It is kept in the browser until it is done with.
 
 import { readAtBank } from '../at-bank.js';
-import { grouped } from '../amounts.js';
 import { kindOf } from '../bank/file.js';
 import { BankFile } from '../bank-file.js';
 import { doneBox, failedBox, noteBox, tellRefusal, warningBox } from '../boxes.js';
-import { ownWith, referencesIn, tooMuchOwn } from '../candidates.js';
+import { referencesIn } from '../candidates.js';
 import { textOf } from '../csv.js';
 import { entryPath } from '../desk.js';
 import { button, el, facts, link, p } from '../elements.js';
 import { movementOf, readByMovement } from '../exceptions.js';
-import { areInBook, isSameAs, matchFile, reasonsOf, takeOut } from '../matched.js';
+import { areInBook, isSameAs, matchFile, reasonsOf } from '../matched.js';
 import { readTrial } from '../reports.js';
 import { STATEMENT } from '../shelf.js';
 import { dismissOffers } from './exceptions.js';
@@ -71,8 +70,6 @@ const isNoStatement = ({ status }) => status === 413 || status === 422;
 const isOf = (line, { date, bank_ref: number, amount }) =>
     line.date === date && line.bank_ref === number && line.amount === amount;
 
-const ownWords = (sum) => `the firm's own money would be ${grouped(sum)} with it, and stays from 0.00 to 500.00`;
-
 // What stands in the book and in its exceptions beside what the desk made of the file.
 class Beside {
     constructor(own, exceptions) {
@@ -89,15 +86,7 @@ class Beside {
         const all = [...new Set(lines.flatMap((line) => this.of(line)))];
         if (!all.length) return;
         const reasons = await reasonsOf(page, all);
-        all.forEach((each, i) => {
-            const { sum, mayBe } = ownWith(this.own ?? '0.00', each.amount);
-            this.reasons.set(each, each.reference === 'FIRM' && !mayBe ? ownWords(sum) : reasons[i] ?? '');
-        });
-    }
-
-    reasonOf(line, reference) {
-        const same = this.of(line).find((each) => each.reference === reference);
-        return same ? this.reasons.get(same) ?? '' : '';
+        all.forEach((each, i) => this.reasons.set(each, reasons[i] ?? ''));
     }
 
     // What is told of a line's exceptions.
@@ -113,22 +102,14 @@ async function readBeside(page) {
     return new Beside(trial.isDone ? readTrial(trial.text).firm : null, exceptions);
 }
 
-// What the desk makes of the file, and what it can't know: that a line is filled with the reference under which it is
-// an exception, and that the firm's own money would be too much.
+// What the desk makes of the file, and the exceptions that its lines are already.
 async function look(page, file) {
     const found = await matchFile(page, file);
     if (found.refused) return found;
     const beside = await readBeside(page);
     const open = [...found.lines, ...found.told.map(({ line }) => line)].filter((line) => line?.isWhole);
     await beside.readReasons(page, open);
-    const isRetried = (line) => line.by === 'filled' && beside.reasonOf(line, line.reference) !== '';
-    const looked = takeOut(found, file, isRetried, (line) => `it is an exception under ${line.reference}`);
-    const firm = file.sent().filter(({ isWhole, reference }) => isWhole && reference === 'FIRM');
-    const isKnown = await areInBook(page, firm);
-    const tooMuch = beside.own ? tooMuchOwn(beside.own, firm.filter((_, i) => !isKnown[i])) : new Map();
-    const told = firm.filter(({ number }) => tooMuch.has(number))
-        .map((line) => ({ line, reason: ownWords(tooMuch.get(line.number)) }));
-    return { ...looked, left: looked.left + told.length, told: [...looked.told, ...told], beside };
+    return { ...found, beside };
 }
 
 // Cleared deposits that lines below zero may take back, by the lines' numbers: of the entries that the reasons name.
