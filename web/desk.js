@@ -61,6 +61,12 @@ async function ask(method, path, body) {
     }
 }
 
+// The firm's name, its bank and account: the lines of a file beside the page. None where there is no such file.
+export async function askFirm() {
+    const { status, text } = await ask('GET', '/page/firm.txt');
+    return status === 200 ? text.split('\n').map((line) => line.trim()).filter(Boolean) : [];
+}
+
 // Who is signed on is told by the front end, with each answer. This one never reaches the desk.
 export const askWho = () => ask('HEAD', '/');
 

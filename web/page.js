@@ -2,8 +2,8 @@
 
 import { unanswered } from './asks.js';
 import { failedBox, refusedBox } from './boxes.js';
-import { Desk, Refused, askWho } from './desk.js';
-import { button, el, link, p } from './elements.js';
+import { Desk, Refused, askFirm, askWho } from './desk.js';
+import { button, el, label, link, p } from './elements.js';
 import { Shelf } from './shelf.js';
 import { clients } from './views/clients.js';
 import { showEntry } from './views/entry.js';
@@ -141,6 +141,7 @@ async function begin() {
         return;
     }
     const page = new Page(answer.person);
+    byId('firm').replaceChildren(...(await askFirm()).map((line) => el('span', {}, label(line))));
     window.addEventListener('hashchange', () => page.draw());
     byId('skip').addEventListener('click', skip);
     await page.draw();

@@ -32,8 +32,8 @@ const ADVICE = [
     [/^no entry of its amount/, MISSING],
     [/^its reference is that of an entry|^the book has no deposit or payment of its reference/,
         'As it stands it would be an exception. Look at the reference, and mend it.'],
-    [/^it is an exception under /, 'It was imported before, and matched nothing. Mend the entry of that reference, or use '
-        + 'another, and dismiss each of these exceptions that is a slip.'],
+    [/^it is an exception under /, 'It was imported before, and matched nothing. Mend the entry of that reference, or '
+        + 'use another, and dismiss each of these exceptions that is a slip.'],
     [/^the firm's own money would be |^an amount of 0\.00 moves nothing/,
         "As it stands it would be an exception. FIRM is the firm's own money alone. Name its entry, or leave it."],
 ];

@@ -20,6 +20,7 @@ import urllib.request
 ROOT = pathlib.Path(__file__).resolve().parent.parent.parent
 CONFIGURATION = ROOT / "examples" / "operations" / "nginx.conf"
 PEOPLE = ["cashier", "lee", "sato", "ada", "bob", "cleo", "eve", "Lee"]
+NAME, ACCOUNT = "Lee & Sato LLP", "First Bank of Springfield, trust account ending in 4417"  # on what is printed
 STARTED = 10_800  # ./cashier may prove and build the program first
 LATE = 15  # seconds until nginx gives up, in the place of the configuration's
 HEAD = "date,reference,bank_ref,amount,text\n"  # the first line of a statement
@@ -204,6 +205,7 @@ class FrontEnd:
             f"{user} daemon off; pid nginx.pid; error_log nginx.err; events {{}}\n"
             f"http {{ include /etc/nginx/mime.types; {form} {temporary}\n"
             "include gekuipo.conf; }\n", encoding="utf-8")
+        (self.folder / "office.txt").write_text(f"{NAME}\n{ACCOUNT}\n", encoding="utf-8")
         (self.folder / "office.people").touch()
         for person in PEOPLE:
             self.admit(person)
