@@ -36,6 +36,20 @@ export function balanceOfCard({ entries, balances }) {
     return [...points].map(([day, at]) => ({ day, sum: at }));
 }
 
+// What each entry moved in its matter's ledger, held deposits included, and the ledger with it and those before it; by
+// the entries' numbers. One that moved nothing, or was undone, is not among them.
+export function movedBy(card) {
+    const found = new Map();
+    if (!balanceOfCard(card).length) return found;
+    let sum = 0n;
+    for (const each of card.entries) {
+        const moved = movementsOf(each).reduce((all, [, part]) => all + part, 0n);
+        sum += moved;
+        if (moved !== 0n) found.set(each.entry, { moved: amountOf(moved), sum: amountOf(sum) });
+    }
+    return found;
+}
+
 export const sumText = ({ sum }) => amountOf(sum);
 
 export const greatestOf = (points) => points.reduce((most, each) => (each.sum > most.sum ? each : most));

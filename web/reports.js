@@ -31,8 +31,8 @@ export const readRetention = (text) =>
 
 export const readJournal = (text) =>
     linesOf(text).slice(1).map((line) => {
-        const [day, , , sum] = line.split(' ');
-        return { day, sum };
+        const [day, reference, amount, sum] = line.split(' ');
+        return { day, reference, amount, sum };
     });
 
 export const countLines = (text) => linesOf(text).length - 1;
@@ -41,6 +41,11 @@ export const countLines = (text) => linesOf(text).length - 1;
 export const readBreaks = (text) => linesOf(text)
     .map((line) => /^OPENING (\S+) (-?\d+\.\d\d) AFTER (\S+) (-?\d+\.\d\d)$/.exec(line)).filter(Boolean)
     .map(([, day, opening, before, closing]) => ({ day, opening, before, closing }));
+
+// What a reconciliation lists of the entries that the bank has not shown.
+export const readUnshown = (text) => linesOf(text)
+    .map((line) => /^(TRANSIT|OUT) M(\d{6})-(\d{4}) (\S+) (-?\d+\.\d\d)$/.exec(line)).filter(Boolean)
+    .map(([, list, matter, entry, day, amount]) => ({ list, matter, entry, day, amount }));
 
 // The figures of a reconciliation by their names, which stand in its first lines.
 export function readFigures(text) {

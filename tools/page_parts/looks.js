@@ -55,6 +55,10 @@ function smallControls() {
 // By how many pixels the page is wider than the window.
 const widthAside = () => Math.max(0, document.documentElement.scrollWidth - document.documentElement.clientWidth);
 
+// How many reports are wider than their box.
+const cutReports = () => [...document.querySelectorAll('.report')]
+    .filter(({ scrollWidth, clientWidth }) => scrollWidth > clientWidth).length;
+
 // How many rows the list of matters shows.
 function rowsOfMatters() {
     const tables = [...document.querySelectorAll('table')];

@@ -9,7 +9,7 @@ from selenium.webdriver.common.keys import Keys
 from . import firms
 from .browser import PHONE, WIDE, Browser
 from .checks import Checks
-from .firm import Desk, Firm
+from .firm import ACCOUNT, NAME, Desk, Firm
 
 DAY = "2026-03-31"
 NARROW = 320  # a page magnified to four times its size has this width
@@ -80,10 +80,30 @@ def look_at_all(firm: Firm, matter: str, entries: range, what: str, checks: Chec
                 failed = [box.text for box in browser.find(".refused") if "The page failed" in box.text]
                 checks.same(f"{at}: the faults", failed, [])
                 checks.same(f"{at}: what stands aside", see(browser, "widthAside()"), 0)
+                if width != WIDE:
+                    checks.same(f"{at}: the reports that are cut", see(browser, "cutReports()"), 0)
                 if width == WIDE:
                     look(browser, at, checks)
             checks.same(f"{what}, the log of {person} at {width} px", browser.faults(), [])
             browser.quit()
+
+
+def read_with_names(firm: Firm, checks: Checks) -> None:
+    """Reports have names and grouped sums beside the desk's own text, and entries a sign and the ledger behind them."""
+    browser = Browser("cashier", firm.origin)
+    for view, words in (
+            ("#/report/trial-balance", ("Whose money it is", "000001 Ada Chen 2,915.00",
+                                        "All ledgers together 6,838.00", "TOTAL                          6838.00")),
+            ("#/report/journal", (f"{DAY} FIRM the firm -3.18 6,838.00", "M000001-0002 Ada Chen -435.00")),
+            (f"#/reconciliation/{DAY}", ("The bank\u2019s closing balance 5,563.00", "Deposits in transit",
+                                         "Outstanding payments", "Cleo Marsh", "Sunrise Reporting", "| 1007 -650.00")),
+            ("#/m/000001", ("5,000.00 5,000.00", "-435.00 4,565.00", "-1,650.00 2,915.00"))):
+        browser.to(view)
+        browser.settle()
+        text = browser.text()
+        for each in words:
+            checks.so(f"{view} has {each!r}", each in text, text)
+    browser.quit()
 
 
 def read_tables_on_a_phone(firm: Firm, checks: Checks) -> None:
@@ -147,6 +167,7 @@ def print_views(firm: Firm, folder: pathlib.Path, checks: Checks) -> None:
         path.write_bytes(base64.b64decode(browser.web.execute_cdp_cmd("Page.printToPDF", sheet)["data"]))
         done = subprocess.run(["pdftotext", "-layout", str(path), "-"], stdout=subprocess.PIPE, check=True)
         text = done.stdout.decode()
+        checks.so(f"{view} is printed with the firm and its account", NAME in text and ACCOUNT in text, text)
         checks.so(f"{view} is printed", words in text and f"Printed by cashier, the desk's day {DAY}" in text, text)
         left = [word for word in ("Save as text", "Read again", "Overview", "Propose a payment") if word in text]
         checks.same(f"{view}: the buttons that are printed", left, [])
@@ -167,6 +188,12 @@ def find_among_many(firm: Firm, checks: Checks) -> None:
         field.clear()
         field.send_keys(words or " ")
         checks.same(f"the matters that have {words!r}", see(browser, "rowsOfMatters()"), count)
+    for words, told in (("1004", "M000004-0011 Client 4 of the firm"), ("court clerk", "Entries found: 10 of 50"),
+                        ("nothing such", "No entry of an open matter has that.")):
+        field = browser.find("#find-entry")[0]
+        field.clear()
+        field.send_keys(words)
+        checks.so(f"an entry is found by {words!r}", told in browser.text(), browser.text())
     browser.quit()
 
 
@@ -175,6 +202,7 @@ def play(program: str, folder: pathlib.Path, checks: Checks) -> None:
     month = Firm(Desk(program, folder / "month.db", DAY), folder / "month")
     try:
         look_at_all(month, "000001", range(1, 6), "three matters", checks)
+        read_with_names(month, checks)
         read_tables_on_a_phone(month, checks)
         propose_by_keys(month, checks)
         print_views(month, folder, checks)

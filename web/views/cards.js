@@ -26,7 +26,7 @@ export const stateOf = ({ kind, state, left }) => (kind === 'fee'
     ? el('span', { class: 'state', 'data-state': state }, money(left), ' left')
     : el('span', { class: 'state', 'data-state': state }, STATES[state][0]));
 
-const entriesOf = (cards) => cards.flatMap((card) =>
+export const entriesOf = (cards) => cards.flatMap((card) =>
     card.entries.map((each) => ({ ...each, matter: card.matter, client: card.client })));
 
 const isWaiting = ({ kind, state }) => kind === 'payment' && state === 'proposed';
@@ -78,6 +78,20 @@ export const atBankTable = (cards) => longTable({
     columns: BANK_COLUMNS,
     items: entriesOf(cards).filter(isAtBank),
     cells: bankCells,
+    first: FIRST,
+});
+
+const FOUND_COLUMNS = [column('Reference', 'tight'), column('Client'), column('Day', 'tight'), column('Words'),
+    column('State'), column('Amount', 'right')];
+
+const foundCells = (each) => [link(`#/m/${each.matter}/e/${each.entry}`, number(`M${each.matter}-${each.entry}`)),
+    label(each.client), each.day, label(each.texts), stateOf(each), money(each.amount)];
+
+export const foundTable = (entries) => longTable({
+    caption: 'Entries found',
+    columns: FOUND_COLUMNS,
+    items: entries,
+    cells: foundCells,
     first: FIRST,
 });
 

@@ -1,9 +1,9 @@
 // A matter: its sums, what whoever looks can do, what waits, and its entries.
 
-import { isNothing } from '../amounts.js';
+import { grouped, isNothing } from '../amounts.js';
 import { change } from '../asks.js';
 import { askFirst } from '../boxes.js';
-import { balanceOfCard } from '../balance.js';
+import { balanceOfCard, movedBy } from '../balance.js';
 import { readCard } from '../card.js';
 import { chart } from '../chart.js';
 import { cardPath, entryPath, matterPath } from '../desk.js';
@@ -64,16 +64,23 @@ const sumsOf = ({ balances }) =>
     sums(BALANCES.map(([name, words, means]) => [name, words, money(balances[name]), means]));
 
 const ENTRY_COLUMNS = [column('Entry', 'tight'), column('Day', 'tight'), column('What', 'tight'), column('Words'),
-    column('State'), column('Amount', 'right')];
+    column('State'), column('Amount', 'right'), column('Ledger', 'right')];
 
-const entryCells = (no) => (each) => [entryLink({ matter: no, entry: each.entry }), each.day, KINDS[each.kind],
-    label(each.texts), stateOf(each), money(each.amount)];
+// What is paid out has a minus; the ledger is told behind each entry that moved it.
+function entryCells(no, moved) {
+    return (each) => {
+        const { moved: amount, sum } = moved.get(each.entry) ?? {};
+        return [entryLink({ matter: no, entry: each.entry }), each.day, KINDS[each.kind], label(each.texts),
+            stateOf(each), amount ? money(amount) : el('span', { class: 'money nothing' }, grouped(each.amount)),
+            sum && money(sum)];
+    };
+}
 
-const entriesOf = ({ matter, entries }) => longTable({
+const entriesOf = (card) => longTable({
     caption: 'Entries, newest first',
     columns: ENTRY_COLUMNS,
-    items: [...entries].reverse(),
-    cells: entryCells(matter),
+    items: [...card.entries].reverse(),
+    cells: entryCells(card.matter, movedBy(card)),
     first: NEWEST,
 });
 

@@ -1,13 +1,14 @@
 // What the cashier sees first: what waits for a lawyer and for the bank, the account by day, and all matters.
 
+import { grouped } from '../amounts.js';
 import { balanceOfJournal } from '../balance.js';
 import { noteBox } from '../boxes.js';
 import { chart } from '../chart.js';
 import { Refused } from '../desk.js';
-import { el, link, money, number, p, readAgain, sums } from '../elements.js';
+import { el, link, money, number, p, quiet, readAgain, sums } from '../elements.js';
 import { countLines, dayOf, readRetention, readTrial } from '../reports.js';
 import { column, rowOf, table } from '../tables.js';
-import { MATTER_COLUMNS, atBankTable, cardOf, matterCells, waitingIn } from './cards.js';
+import { MATTER_COLUMNS, atBankTable, cardOf, entriesOf, foundTable, matterCells, waitingIn } from './cards.js';
 
 // From so many matters on there is a field to look for one.
 const MANY = 10;
@@ -27,16 +28,29 @@ const sumsOf = (books, exceptions) => sums([
 const firstRow = ({ matter, ledger }) => rowOf(MATTER_COLUMNS,
     [link(`#/m/${matter}`, number(matter)), '\u2026', '', '', '', '', '', money(ledger)]);
 
+const wordsIn = ({ value }) => value.trim().toLowerCase();
+
+const findField = (id, words, hint, find) => el('div', { class: 'field find' }, el('label', { for: id }, words),
+    el('input', { id, type: 'search', autocomplete: 'off', spellcheck: 'false', 'aria-describedby': `${id}-hint`,
+        input: ({ target }) => find(wordsIn(target)) }),
+    el('p', { class: 'hint', id: `${id}-hint` }, hint));
+
 // Shows the matters whose number or client has these letters.
-function findIn(rows) {
-    const find = ({ target }) => {
-        const wanted = target.value.trim().toLowerCase();
-        for (const row of rows.values()) row.hidden = !row.textContent.toLowerCase().includes(wanted);
+const findIn = (rows) => findField('find', 'Find a matter', 'By number or client', (wanted) => {
+    for (const row of rows.values()) row.hidden = !row.textContent.toLowerCase().includes(wanted);
+});
+
+// Shows the entries of open matters that have these letters, from the second one on.
+function findEntries(cards) {
+    const all = entriesOf(cards).map((each) =>
+        [`${each.texts} ${each.amount} ${grouped(each.amount)}`.toLowerCase(), each]);
+    const place = el('div', { 'aria-live': 'polite' });
+    const find = (wanted) => {
+        const found = wanted.length < 2 ? [] : all.filter(([words]) => words.includes(wanted)).map(([, each]) => each);
+        const told = foundTable(found) ?? (wanted.length > 1 && quiet('No entry of an open matter has that.'));
+        place.replaceChildren(...[told].filter(Boolean));
     };
-    return el('div', { class: 'field find' }, el('label', { for: 'find' }, 'Find a matter'),
-        el('input', { id: 'find', type: 'search', autocomplete: 'off', spellcheck: 'false', input: find,
-            'aria-describedby': 'find-hint' }),
-        el('p', { class: 'hint', id: 'find-hint' }, 'By number or client'));
+    return [findField('find-entry', 'Find an entry', 'By payee, source, purpose, check number or amount', find), place];
 }
 
 // Fills the rows in as the cards come, four at a time, and then tells what waits.
@@ -51,6 +65,7 @@ async function fillIn(page, rows, places, isStill) {
     if (!isStill()) return;
     places.waiting.replaceChildren(...waiting.filter(Boolean));
     places.bank.replaceChildren(...[atBankTable(cards)].filter(Boolean));
+    places.entries.replaceChildren(...(cards.length ? findEntries(cards) : []));
     places.waiting.removeAttribute('aria-busy');
 }
 
@@ -68,6 +83,7 @@ export async function overview(page) {
     const places = {
         waiting: el('div', { 'aria-busy': rows.size ? 'true' : null }, rows.size > 0 && p('Reading the matters\u2026')),
         bank: el('div', {}),
+        entries: el('div', {}),
     };
     const parts = [
         otherDay(page.desk.day),
@@ -75,6 +91,7 @@ export async function overview(page) {
         places.waiting,
         places.bank,
         chart('The account by day, as the journal has it', balanceOfJournal(journal.text), page.desk.day),
+        places.entries,
         rows.size > MANY && findIn(rows),
         table(`Matters: ${rows.size}`, MATTER_COLUMNS, [...rows.values()]),
         closedTable(readRetention(retention.text)),

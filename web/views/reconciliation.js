@@ -2,12 +2,14 @@
 
 import { grouped, isNothing } from '../amounts.js';
 import { doneBox, noteBox, refusedBox, warningBox } from '../boxes.js';
-import { button, explained, link, number, p, printed, quiet, strong } from '../elements.js';
+import { button, el, explained, label, link, money, number, p, printed, quiet, strong } from '../elements.js';
 import { form } from '../forms.js';
 import { dayBefore, readDay } from '../names.js';
-import { dayOf, readBreaks, readFigures } from '../reports.js';
+import { dayOf, readBreaks, readFigures, readUnshown } from '../reports.js';
 import { STATEMENT } from '../shelf.js';
+import { column, longTable, table } from '../tables.js';
 import { meansOf } from '../words.js';
+import { cardOf } from './cards.js';
 
 // The desk has no list of days, so it is asked backwards from today, for so many.
 const DAYS_BACK = 100;
@@ -71,6 +73,40 @@ const breaksBox = (breaks) => breaks.length > 0 && warningBox(
 const EXPLAINED = ['CLOSING', 'IN TRANSIT', 'OUTSTANDING', 'ADJUSTED BANK', 'JOURNAL', 'LEDGERS', 'DIFFERENCE',
     'EXCEPTIONS', 'EARLY', 'GAP', 'DOUBLE', 'OPENING'];
 
+const FIGURES = { CLOSING: 'The bank\u2019s closing balance', 'IN TRANSIT': 'Deposits in transit',
+    OUTSTANDING: 'Outstanding payments', 'ADJUSTED BANK': 'Adjusted bank balance', JOURNAL: 'Journal',
+    LEDGERS: 'Ledgers of clients and firm', DIFFERENCE: 'Difference', EXCEPTIONS: 'Exceptions', EARLY: 'Early lines',
+    GAP: 'Gap' };
+
+const figuresTable = (figures) => table('Bank, journal and ledgers', [column('What'), column('Amount', 'right')],
+    Object.entries(FIGURES).filter(([name]) => figures[name]).map(([name, words]) => [words, money(figures[name])]));
+
+const UNSHOWN = [column('Entry', 'tight'), column('Day', 'tight'), column('Client'), column('Words'),
+    column('Amount', 'right')];
+
+// So many of a list are shown at first.
+const FIRST = 100;
+
+// What the bank has not shown, with clients, payees and check numbers, as the cards tell them by now.
+function unshownTables(unshown, cards) {
+    const cells = ({ matter, entry, day, amount }) => {
+        const card = cards.get(matter);
+        const found = card?.entries.find((each) => each.entry === entry);
+        return [link(`#/m/${matter}/e/${entry}`, number(`M${matter}-${entry}`)), number(day),
+            card ? label(card.client) : '\u2026', found ? label(found.texts) : '', money(amount)];
+    };
+    return [['TRANSIT', 'Deposits in transit'], ['OUT', 'Outstanding payments']].map(([list, caption]) =>
+        longTable({ caption, columns: UNSHOWN, cells, first: FIRST,
+            items: unshown.filter((each) => each.list === list) })).filter(Boolean);
+}
+
+async function nameUnshown(page, unshown, place, isStill) {
+    const matters = [...new Set(unshown.map(({ matter }) => matter))];
+    const found = await Promise.all(matters.map((matter) => cardOf(page, matter)));
+    const cards = new Map(found.map(({ matter, card }) => [matter, card]));
+    if (isStill()) place.replaceChildren(...unshownTables(unshown, cards));
+}
+
 export async function reconciliation(page, day = null) {
     const asked = dayForm(page, day ?? page.shelf.read(STATEMENT)[0]);
     if (!day) {
@@ -79,8 +115,12 @@ export async function reconciliation(page, day = null) {
     }
     const path = `/firm/reconciliation/${day}`;
     const { text } = await page.desk.get(path);
+    const figures = readFigures(text);
+    const unshown = readUnshown(text);
+    const place = el('div', {}, unshownTables(unshown, new Map()));
     const listed = quiet('Beside it is filed ', link(`#/clients/${day}`, 'the list of clients as of that day'), '.');
-    const parts = [breaksBox(readBreaks(text)), resultBox(readFigures(text)), explained(meansOf(EXPLAINED)),
-        printed(text, path, `reconciliation-${day}.txt`), listed, asked];
-    return { title: ['Reconciliation of ', number(day)], parts };
+    const parts = [breaksBox(readBreaks(text)), resultBox(figures), figuresTable(figures), place,
+        explained(meansOf(EXPLAINED)), printed(text, path, `reconciliation-${day}.txt`), listed, asked];
+    const later = (isStill) => nameUnshown(page, unshown, place, isStill);
+    return { title: ['Reconciliation of ', number(day)], parts, later };
 }
