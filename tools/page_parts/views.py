@@ -13,6 +13,7 @@ from .firm import ACCOUNT, NAME, Desk, Firm
 
 DAY = "2026-03-31"
 NARROW = 320  # a page magnified to four times its size has this width
+WIDTHS = WIDTHS_OF_MANY = (WIDE, PHONE, NARROW)
 
 REPORTS = ["#/report/trial-balance", "#/report/journal", "#/report/exceptions", "#/report/retention",
            "#/reconciliation", "#/reconciliation/2026-03-31", "#/clients", "#/clients/2026-03-31"]
@@ -70,11 +71,11 @@ def look(browser: Browser, at: str, checks: Checks) -> None:
     checks.same(f"{at}: what is lower than 24 px to touch", see(browser, "smallControls()"), [])
 
 
-def look_at_all(firm: Firm, matter: str, entries: range, what: str, checks: Checks) -> None:
+def look_at_all(firm: Firm, entries: range, what: str, widths: tuple[int, ...], checks: Checks) -> None:
     for person in FORMS:
-        for width in (WIDE, PHONE, NARROW):
+        for width in widths:
             browser = Browser(person, firm.origin, width)
-            for view in views_of(person, matter, entries):
+            for view in views_of(person, "000001", entries):
                 at = f"{what}, {person} {view} at {width} px"
                 browser.to(view)
                 failed = [box.text for box in browser.find(".refused") if "The page failed" in box.text]
@@ -201,7 +202,7 @@ def play(program: str, folder: pathlib.Path, checks: Checks) -> None:
     firms.play_month(program, folder / "month.db", until="messages/18-close.http")
     month = Firm(Desk(program, folder / "month.db", DAY), folder / "month")
     try:
-        look_at_all(month, "000001", range(1, 6), "three matters", checks)
+        look_at_all(month, range(1, 6), "three matters", WIDTHS, checks)
         read_with_names(month, checks)
         read_tables_on_a_phone(month, checks)
         propose_by_keys(month, checks)
@@ -212,7 +213,7 @@ def play(program: str, folder: pathlib.Path, checks: Checks) -> None:
     firms.play_many(desk)
     many = Firm(desk, folder / "many")
     try:
-        look_at_all(many, "000001", range(1, 2), "200 matters", checks)
+        look_at_all(many, range(1, 2), "200 matters", WIDTHS_OF_MANY, checks)
         find_among_many(many, checks)
     finally:
         many.end()
