@@ -205,7 +205,7 @@ impl fmt::Display for Remark<'_> {
                 "{fault}: it is not told which lines stand on another entry by an earlier import"
             ),
             Remark::Flaw(flaw) => write_flaw(f, *flaw),
-            Remark::Unread(unread) => write_unread(f, *unread),
+            Remark::Unread(unread) => write_unread(f, unread),
             Remark::AllRead(path) => write_of_path(
                 f,
                 path,

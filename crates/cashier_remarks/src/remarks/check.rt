@@ -1,15 +1,21 @@
 // Remarks about rows that are not sound.
 
 use std::fmt;
+use trust_base::{EntryNo, MatterNo};
 use trust_desk::{Flaw, Unread};
+
+// Writes about a matter.
+fn write_matter<W: fmt::Write>(f: &mut fmt::Formatter<W>, matter: MatterNo) -> fmt::Result {
+    write!(
+        f,
+        "matter {matter} (matter_v2, seat_v2, entry_v2): its totals or entries are not those of sound rows"
+    )
+}
 
 /// Writes what is not sound in rows, with the names of their tables.
 pub fn write_flaw<W: fmt::Write>(f: &mut fmt::Formatter<W>, flaw: Flaw) -> fmt::Result {
     match flaw {
-        Flaw::Matter(matter) => write!(
-            f,
-            "matter {matter} (matter_v2, seat_v2, entry_v2): its totals or entries are not those of sound rows"
-        ),
+        Flaw::Matter(matter) => write_matter(f, matter),
         Flaw::Entry { matter, entry } => write!(
             f,
             "entry {entry} of matter {matter} (entry_v2, journal): the journal does not have what it moved"
@@ -42,10 +48,28 @@ pub fn write_flaw<W: fmt::Write>(f: &mut fmt::Formatter<W>, flaw: Flaw) -> fmt::
     }
 }
 
+// Writes that an entry of a matter can't be read: the one after this, or the first.
+fn write_entry<W: fmt::Write>(
+    f: &mut fmt::Formatter<W>,
+    matter: MatterNo,
+    after: Option<EntryNo>,
+) -> fmt::Result {
+    match after {
+        None => write!(
+            f,
+            "the first row of entry_v2 of matter {matter} stands for nothing"
+        ),
+        Some(entry) => write!(
+            f,
+            "the row of entry_v2 behind entry {entry} of matter {matter} stands for nothing"
+        ),
+    }
+}
+
 /// Writes which row can't be read, with the name of its table.
-pub fn write_unread<W: fmt::Write>(f: &mut fmt::Formatter<W>, unread: Unread) -> fmt::Result {
+pub fn write_unread<W: fmt::Write>(f: &mut fmt::Formatter<W>, unread: &Unread) -> fmt::Result {
     match unread {
-        Unread::Matter(matter) => write_flaw(f, Flaw::Matter(matter)),
+        Unread::Matter(matter) => write_matter(f, *matter),
         Unread::Head(None) => f.write_str("the first row of matter_v2 stands for nothing"),
         Unread::Head(Some(matter)) => write!(
             f,
@@ -54,20 +78,7 @@ pub fn write_unread<W: fmt::Write>(f: &mut fmt::Formatter<W>, unread: Unread) ->
         Unread::Seat(matter) => {
             write!(f, "a row of seat_v2 of matter {matter} stands for nothing")
         }
-        Unread::Entry {
-            matter,
-            after: None,
-        } => write!(
-            f,
-            "the first row of entry_v2 of matter {matter} stands for nothing"
-        ),
-        Unread::Entry {
-            matter,
-            after: Some(entry),
-        } => write!(
-            f,
-            "the row of entry_v2 behind entry {entry} of matter {matter} stands for nothing"
-        ),
+        Unread::Entry { matter, after } => write_entry(f, *matter, *after),
         Unread::Movement(number) => write!(f, "row {number} of journal stands for nothing"),
         Unread::FirmLine(number) => write!(f, "row {number} of firm_line stands for nothing"),
         Unread::Exception(number) => write!(f, "row {number} of exception stands for nothing"),

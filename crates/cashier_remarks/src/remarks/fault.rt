@@ -191,29 +191,62 @@ fn write_count<W: fmt::Write>(f: &mut fmt::Formatter<W>, count: FieldCount) -> f
     write!(f, "{verb} takes {wanted} fields, {found} are here: ")
 }
 
+// Writes about an amount that is written in another way.
+fn write_amount<W: fmt::Write>(
+    f: &mut fmt::Formatter<W>,
+    text: Excerpt<'_>,
+    meant: BankAmount,
+) -> fmt::Result {
+    write!(f, "{text} is no amount: write {meant}")
+}
+
+// Writes about a negative amount.
+fn write_minus<W: fmt::Write>(f: &mut fmt::Formatter<W>, text: Excerpt<'_>) -> fmt::Result {
+    write!(
+        f,
+        "{text} is below zero: write it without a sign, since the verb tells which way it goes"
+    )
+}
+
+// Writes about an invalid field.
+fn write_field<W: fmt::Write>(
+    f: &mut fmt::Formatter<W>,
+    field: Field,
+    text: Excerpt<'_>,
+) -> fmt::Result {
+    let (noun, form) = (noun_of(field), form_of_field(field));
+    if text.is_empty() {
+        write!(f, "the {noun} is empty: write {form}")
+    } else {
+        write!(f, "{text} is no {noun}: write {form}")
+    }
+}
+
 impl fmt::Display for RecordFault<'_> {
     fn fmt<W: fmt::Write>(&self, f: &mut fmt::Formatter<W>) -> fmt::Result {
-        match *self {
+        match self {
             RecordFault::OpenQuote => f.write_str(OPEN_QUOTE),
             RecordFault::NoVerb(fault) => fault.fmt(f),
             RecordFault::TooMany(count, pattern) => {
-                write_count(f, count)?;
-                write!(f, "{pattern}, and a field with a comma in double quotes")
+                write_count(f, *count)?;
+                f.write_str(pattern)?;
+                f.write_str(", and a field with a comma in double quotes")
             }
             RecordFault::Comma(count, amount) => {
-                write_count(f, count)?;
+                write_count(f, *count)?;
                 write!(f, "write the amount without a comma, {amount}")
             }
             RecordFault::Padded(count) => {
-                write_count(f, count)?;
+                write_count(f, *count)?;
                 f.write_str("take the empty ones off its end")
             }
             RecordFault::TooFew(count, pattern) => {
-                write_count(f, count)?;
+                write_count(f, *count)?;
                 f.write_str(pattern)
             }
             RecordFault::NeedlessEntry(verb) => {
-                write!(f, "{verb} names no entry: its third field stays empty")
+                f.write_str(verb)?;
+                f.write_str(" names no entry: its third field stays empty")
             }
             RecordFault::NoLine => f.write_str(
                 "a line is dismissed as the list of exceptions has it: dismiss,,,DATE,REFERENCE,BANK_REF,AMOUNT,TEXT",
@@ -225,21 +258,9 @@ impl fmt::Display for RecordFault<'_> {
             RecordFault::NeedlessFund => {
                 f.write_str("general is of no entry: its sixth field stays empty")
             }
-            RecordFault::NoAmount(text, amount) => {
-                write!(f, "{text} is no amount: write {amount}")
-            }
-            RecordFault::Minus(text) => write!(
-                f,
-                "{text} is below zero: write it without a sign, since the verb tells which way it goes"
-            ),
-            RecordFault::BadField(field, text) => {
-                let (noun, form) = (noun_of(field), form_of_field(field));
-                if text.is_empty() {
-                    write!(f, "the {noun} is empty: write {form}")
-                } else {
-                    write!(f, "{text} is no {noun}: write {form}")
-                }
-            }
+            RecordFault::NoAmount(text, amount) => write_amount(f, *text, *amount),
+            RecordFault::Minus(text) => write_minus(f, *text),
+            RecordFault::BadField(field, text) => write_field(f, *field, *text),
         }
     }
 }
