@@ -339,6 +339,8 @@ def read_and_close(walk: Walk) -> None:
     walk.checks.same("the green boxes of a reconciliation with an exception", cashier.find(".box.done"), [])
     cashier.find("details.explained summary")[0].click()
     walk.has(cashier, "lines that the bank had before the books")
+    cashier.to(f"#/clients/{DAY}")
+    walk.has(cashier, f"Clients as of {DAY}", f"CLIENTS {DAY}", "Ada Chen")
     cashier.to("#/reconciliation/2024-01-09")
     walk.has(cashier, "No closing balance of that day was imported.", "404 NoStatement")
     cashier.to("#/m/000001")
