@@ -112,6 +112,10 @@ def read_tables_on_a_phone(firm: Firm, checks: Checks) -> None:
     browser.to("#/m/000001")
     cells = [node for node in tree(browser) if role(node) in ("row", "cell", "columnheader", "rowheader")]
     checks.so("on a phone a table is one to a screen reader", len(cells) > 10, len(cells))
+    browser.to("#/")
+    parts = [each.text for each in browser.find("td.part") if each.is_displayed()]
+    is_short = bool(parts) and "0.00" not in parts
+    checks.so("on a phone the parts of a matter that are nothing are left out", is_short, parts)
     browser.quit()
 
 

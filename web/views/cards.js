@@ -106,8 +106,9 @@ export async function waitingIn(page, cards, isOne = false) {
 
 const SUMS = ['Available', 'Held', 'Fees', 'Disputed', 'Claims', 'Total'];
 
-export const MATTER_COLUMNS =
-    [column('Matter', 'tight'), column('Client'), ...SUMS.map((name) => column(name, 'right'))];
+// On a phone the parts that are nothing are left out.
+export const MATTER_COLUMNS = [column('Matter', 'tight'), column('Client'),
+    ...SUMS.map((name) => column(name, name === 'Total' ? 'right' : 'right part'))];
 
 export const matterCells = ({ matter, client, balances }) => [
     link(`#/m/${matter}`, number(matter)),
