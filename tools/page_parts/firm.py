@@ -191,6 +191,7 @@ class FrontEnd:
         text = CONFIGURATION.read_text(encoding="utf-8")
         for old, new in (("127.0.0.1:8000;", f"127.0.0.1:{self.port};"), ("/etc/gekuipo/", f"{self.folder}/"),
                          ("/usr/share/gekuipo;", f"{self.folder}/files;"), ("timeout 300s", f"timeout {LATE}s"),
+                         ("timeout 30m", f"timeout {LATE}s"),
                          ("/var/log/gekuipo/requests.log gekuipo if=$upstream_status;", "access.log asked;")):
             text = text.replace(old, new)
         (self.folder / "gekuipo.conf").write_text(change(text), encoding="utf-8")
