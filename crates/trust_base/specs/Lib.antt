@@ -6,3 +6,4 @@ pub use Rattle.trust_values.specs.Limits
 pub use Rattle.trust_values.specs.Retention
 pub use Rattle.trust_values.specs.declared.limits.TheConstants
 pub use Rattle.trust_values.specs.Texts
+pub use Rattle.trust_values.specs.Periods

@@ -34,5 +34,5 @@ pub use refusal_text::RefusalText;
 pub use text::{Form, Text};
 pub use trust_values::{
     BankAmount, Cents, CentsOrZero, CivilDay, Day, Dollars, EntryNo, MAX_AMOUNT, MAX_ENTRY,
-    MatterNo, day_bytes, write_amount,
+    MatterNo, Period, day_bytes, write_amount,
 };

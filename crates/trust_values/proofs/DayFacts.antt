@@ -69,6 +69,9 @@ day_injective m n a b e =
 month-days : (y : ℤ) (m : ℕ) → days_in_month y m ≤ 31
 month-days y m = grind arith
 
+first-length : (y : ℤ) (m : ℕ) → 1 ≤ days_in_month y m
+first-length y m = grind arith
+
 -- the days lie between the first and the last
 pub day-bounds : (n : ℕ) → IsDay n → (MIN_DAY ≤ n) × (n ≤ MAX_DAY)
 unfolding IsDay
@@ -105,6 +108,11 @@ pub printed_ten : (n : ℕ) → n < 100000000 →
     decimal (n / 10000000 % 10) ++ (decimal (n / 1000000 % 10) ++ (decimal (n / 100000 % 10) ++ (decimal (n / 10000 % 10) ++ (45 ∷ (decimal (n / 1000 % 10) ++ (decimal (n / 100 % 10) ++ (45 ∷ (decimal (n / 10 % 10) ++ decimal (n % 10)))))))))
     ≡ day_text n
 printed_ten n small = grind (arith, decimal_digit, ten_bytes)
+
+-- the first of a day's month is a day, and no later
+pub first_day : (n : ℕ) → IsDay n → IsDay (n / 100 * 100 + 1) × (n / 100 * 100 + 1 ≤ n)
+unfolding IsDay
+first_day n (y, (a, b), (c, d)) = grind (arith, first-length)
 
 -- what the code cites
 

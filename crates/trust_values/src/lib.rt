@@ -9,6 +9,8 @@
 //!   They take no memory.
 //! - `Day::retained_until`, `Day::first_purge_day`: the same month and day five years later, 28 February for 29
 //!   February, and the first day of the calendar after that. They take no memory, and may be after 2199.
+//! - `Period::new`, `Period::month_to`: two days of which the second is not before the first; from the first of a day's
+//!   month to the day.
 //! - `write_to` of these and of `CivilDay`; `write_amount`: append the value's text, or leave the vector as it was if
 //!   memory is refused (`ok`, `err`).
 #![tactic(auto)]
@@ -22,6 +24,7 @@ mod dollars;
 mod entry_no;
 mod limits;
 mod matter_no;
+mod period;
 mod retention;
 
 pub use bank_amount::BankAmount;
@@ -36,3 +39,4 @@ pub use limits::{
     YEARS_KEPT,
 };
 pub use matter_no::MatterNo;
+pub use period::Period;
