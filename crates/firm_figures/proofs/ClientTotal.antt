@@ -4,16 +4,9 @@ use Rattle.firm_figures.specs.declared.clients_sink.ClientLine.{ClientLine}
 use Rattle.firm_figures.specs.Clients.{client_lines, clients_total, clients_of, clients_sum, ClientsTotalIsKept}
 use Rattle.firm_figures.proofs.DifferenceTold.{ledger_by}
 use Rattle.firm_figures.proofs.Reconciling.{entry-ledger}
-use Rattle.firm_figures.proofs.Sizes.{IsWithin, MOST, CENTS, WHOLE, sum-within, wider, fits, narrow}
+use Rattle.firm_figures.proofs.Sizes.{IsWithin, MOST, CENTS, WHOLE, sum-within, wider, fits, narrow, added-from}
 use Rattle.firm_figures.proofs.Clients.{clients-sum}
 use Rattle.firm_figures.proofs.ClientRows.{row-within, own-within}
-
-sum-from : (z : ℤ) (ls : List ClientLine) → fold (λ y (l : ClientLine). added y l.ledger) (int_wrap w128 z) ls ≡ int_wrap w128 (z +ℤ sum_of (λ (l : ClientLine). l.ledger) ls)
-unfolding added
-sum-from z [] = ap (int_wrap w128) (let e : z ≡ z +ℤ pos 0 = omega (arith, ints) in e)
-sum-from z (l ∷ ls) =
-    ap (λ y. fold (λ y (l : ClientLine). int_wrap w128 (y +ℤ l.ledger)) y ls) (int_wrap-add_left w128 z l.ledger)
-    ∙ (sum-from (z +ℤ l.ledger) ls ∙ ap (int_wrap w128) (let e : (z +ℤ l.ledger) +ℤ sum_of (λ (l : ClientLine). l.ledger) ls ≡ z +ℤ (l.ledger +ℤ sum_of (λ (l : ClientLine). l.ledger) ls) = omega (arith, ints) in e))
 
 row-same : (p : ℕ) (r : Row) → of_row (ledger_share_by p) r ≡ of_row (ledger_by p) r
 row-same p (HeadRow h) = refl
@@ -30,4 +23,4 @@ total-kept law p firm sound some few =
     let same : own_by p firm +ℤ sum_of (λ (l : ClientLine). l.ledger) (client_lines p firm) ≡ clients_total p firm = omega (arith, ints) in
     let total = fits (clients_total p firm) (record { low = omega (arith, ints, own.low, lines.low); high = omega (arith, ints, own.high, lines.high) }) in
     ap (λ z. fold (λ y (l : ClientLine). added y l.ledger) z (client_lines p firm)) (sym (int_wrap_fits w128 (own_by p firm) (narrow _ own)))
-    ∙ (sum-from (own_by p firm) (client_lines p firm) ∙ (ap (int_wrap w128) same ∙ int_wrap_fits w128 (clients_total p firm) total))
+    ∙ (added-from (λ (l : ClientLine). l.ledger) (own_by p firm) (client_lines p firm) ∙ (ap (int_wrap w128) same ∙ int_wrap_fits w128 (clients_total p firm) total))

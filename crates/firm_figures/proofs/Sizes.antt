@@ -1,5 +1,5 @@
 -- The figures of lists in memory fit 128 bits.
-use Rattle.firm_figures.proofs.Names.{◌≡◌, ℕ, ◌*◌, ◌≤◌, Bool, cond, List, [], ◌∷◌, length, Some, sym, ◌∙◌, subst, arith, ℤ, pos, negsuc, ◌+ℤ◌, ◌-ℤ◌, ◌≤ℤ◌, ◌||◌, find, AllByRecursion, option_map, w128, FitsSigned, ints, fits_signed_from_abs, IsAmount, IsBankAmount, Line, Entry, entry_amount, FirmLine, BalanceRow, sum_of, IsRowInRange, IsCountable, Row, Firm, entries_in, is_by, booked_on, undone_on, returned_on, banked_on, back_on, is_banked_early, is_back_early, is_in_transit, is_outstanding, is_dated_by, is_counted, own_by, exceptions, is_closing_of, closing_on, transit_share, outstanding_share, ledger_share_by, matched_share, early_share, FiguresFit, FiguresTold, sum-same, sum-filter, all-map, cleared_amount}
+use Rattle.firm_figures.proofs.Names.{◌≡◌, ℕ, ◌*◌, ◌≤◌, Bool, cond, List, [], ◌∷◌, length, Some, sym, ◌∙◌, subst, arith, ℤ, pos, negsuc, ◌+ℤ◌, ◌-ℤ◌, ◌≤ℤ◌, ◌||◌, find, fold, AllByRecursion, option_map, int_wrap, int_wrap-add_left, w128, FitsSigned, ap, ints, fits_signed_from_abs, IsAmount, IsBankAmount, Line, Entry, entry_amount, FirmLine, BalanceRow, sum_of, IsRowInRange, IsCountable, Row, Firm, entries_in, is_by, booked_on, undone_on, returned_on, banked_on, back_on, is_banked_early, is_back_early, is_in_transit, is_outstanding, is_dated_by, is_counted, own_by, exceptions, is_closing_of, closing_on, transit_share, outstanding_share, ledger_share_by, matched_share, early_share, FiguresFit, FiguresTold, added, sum-same, sum-filter, all-map, cleared_amount}
 use Rattle.firm_figures.proofs.DifferenceTold.{ledger_by, matched_by, early_by, transit-shares, outstanding-shares, ledger-shares, matched-shares, early-shares, journal-ledgers}
 use Rattle.firm_figures.proofs.Reconciling.{entry-ledger, entry-matched, entry-early, figures-kept}
 
@@ -63,6 +63,14 @@ entries-within firm is f each =
 
 pub fits : (z : ℤ) → IsWithin 170_141_183_460_469_231_731_687_303_715_884_105_727 z → FitsSigned w128 z
 fits z is = grind (arith, ints, fits_signed_from_abs, negsuc)
+
+-- what is added up in 128 bits is the sum in 128 bits
+pub added-from : {A : Type 0} (f : A → ℤ) (z : ℤ) (xs : List A) → fold (λ y x. added y (f x)) (int_wrap w128 z) xs ≡ int_wrap w128 (z +ℤ sum_of f xs)
+unfolding added
+added-from f z [] = ap (int_wrap w128) (let e : z ≡ z +ℤ pos 0 = omega (arith, ints) in e)
+added-from f z (x ∷ xs) =
+    ap (λ y. fold (λ y x. int_wrap w128 (y +ℤ f x)) y xs) (int_wrap-add_left w128 z (f x))
+    ∙ (added-from f (z +ℤ f x) xs ∙ ap (int_wrap w128) (let e : (z +ℤ f x) +ℤ sum_of f xs ≡ z +ℤ (f x +ℤ sum_of f xs) = omega (arith, ints) in e))
 
 pub narrow : (z : ℤ) → IsWithin WHOLE z → FitsSigned w128 z
 narrow z is = fits z (wider WHOLE _ z (omega arith) is)

@@ -1,6 +1,6 @@
 -- What the trial balance's sink keeps of rows in order.
 use Rattle.firm_figures.proofs.Names.{◌≡◌, ℕ, ◌*◌, ◌<◌, Bool, true, false, cond, List, [], ◌∷◌, ◌++◌, length, map, refl, sym, ap, ◌∙◌, subst, arith, append_assoc, append-nil, ℤ, pos, ◌+ℤ◌, ◌-ℤ◌, ◌==◌, is_none, fold, AllByRecursion, int_wrap, w128, FitsSigned, ints, int_wrap-add_left, int_wrap_fits, nat_tests, map-append, Head, ledger, TrialLine, sum_of, Row, HeadRow, SeatRow, EntryRow, Firm, of, ledger_share, row_share, IsInOrder, balance_of, AreCountable, IsRowInRange, IsFirmLineInRange, FirmLine, IsAmount, DepositState, PaymentState, Entry, entry_amount, cleared_deposit, held_deposit, paid, total_share, held_share, added, all-map, open_matters, trial_lines, add_last, TrialKept, no_trial, with_trial_row, with_trial_own, trial_total, TrialIsKept, TotalIsKept, at, sum-same, of_row, rows-entries, shares-ledger, row-share}
-use Rattle.firm_figures.proofs.Sizes.{IsWithin, MOST, CENTS, WHOLE, sum-within, wider, tested, bank-within, amount-within, out-within, none-within, fits, narrow}
+use Rattle.firm_figures.proofs.Sizes.{IsWithin, MOST, CENTS, WHOLE, sum-within, wider, tested, bank-within, amount-within, out-within, none-within, fits, narrow, added-from}
 use Rattle.firm_figures.proofs.Lists.{trial-sum}
 use Rattle.firm_figures.proofs.Tidy.{After, Tidy, ordered-tidy}
 
@@ -219,13 +219,6 @@ trial-kept firm order some few =
 
 -- TOTAL.
 
-sum-from : (z : ℤ) (ls : List TrialLine) → fold (λ y (l : TrialLine). added y l.ledger) (int_wrap w128 z) ls ≡ int_wrap w128 (z +ℤ sum_of (λ (l : TrialLine). l.ledger) ls)
-unfolding added
-sum-from z [] = ap (int_wrap w128) (let e : z ≡ z +ℤ pos 0 = omega (arith, ints) in e)
-sum-from z (l ∷ ls) =
-    ap (λ y. fold (λ y (l : TrialLine). int_wrap w128 (y +ℤ l.ledger)) y ls) (int_wrap-add_left w128 z l.ledger)
-    ∙ (sum-from (z +ℤ l.ledger) ls ∙ ap (int_wrap w128) (let e : (z +ℤ l.ledger) +ℤ sum_of (λ (l : TrialLine). l.ledger) ls ≡ z +ℤ (l.ledger +ℤ sum_of (λ (l : TrialLine). l.ledger) ls) = omega (arith, ints) in e))
-
 pub total-kept : TotalIsKept
 total-kept firm sound some few =
     let own = own-within firm.firm_lines few in
@@ -233,4 +226,4 @@ total-kept firm sound some few =
     let same : balance_of firm.firm_lines +ℤ sum_of (λ (l : TrialLine). l.ledger) (trial_lines firm) ≡ trial_total firm = omega (arith, ints) in
     let total = fits (trial_total firm) (record { low = omega (arith, ints, own.low, lines.low); high = omega (arith, ints, own.high, lines.high) }) in
     ap (λ z. fold (λ y (l : TrialLine). added y l.ledger) z (trial_lines firm)) (sym (int_wrap_fits w128 (balance_of firm.firm_lines) (narrow _ own)))
-    ∙ (sum-from (balance_of firm.firm_lines) (trial_lines firm) ∙ (ap (int_wrap w128) same ∙ int_wrap_fits w128 (trial_total firm) total))
+    ∙ (added-from (λ (l : TrialLine). l.ledger) (balance_of firm.firm_lines) (trial_lines firm) ∙ (ap (int_wrap w128) same ∙ int_wrap_fits w128 (trial_total firm) total))

@@ -209,6 +209,20 @@ impl Standing {
     }
 }
 
+/// Whether an entry is a deposit in transit as of a day: booked by then, and not at the bank yet.
+pub fn is_in_transit(entry: &Entry, day: Day) -> bool
+    ensures { result ≡ is_in_transit day entry.now }
+{
+    Standing::of(entry, day).transit.is_some()
+}
+
+/// Whether an entry is an outstanding payment as of a day: issued by then, and not at the bank yet.
+pub fn is_outstanding(entry: &Entry, day: Day) -> bool
+    ensures { result ≡ is_outstanding day entry.now }
+{
+    Standing::of(entry, day).out.is_some()
+}
+
 /// Appends an entry with this day, if there is one. There is room for it.
 pub(crate) fn push_line(
     lines: &mut Vec<EntryLine>,

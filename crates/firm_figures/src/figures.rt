@@ -34,7 +34,7 @@ pub(crate) struct Sums {
 
 /// A sum in cents plus an amount, in 128 bits.
 #[tactic(auto, unfolding(crate::specs::Reconciling::added))]
-pub(crate) fn added(sum: i128, amount: i64) -> i128
+pub fn added(sum: i128, amount: i64) -> i128
     ensures { result ≡ added sum amount }
 {
     sum.wrapping_add(amount as i128)

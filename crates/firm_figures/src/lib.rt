@@ -36,6 +36,8 @@
 //!   journal, of the reconciliation of that day (`agree`); each line is what the matter's movements by that day add up
 //!   to (`moved`); none is below zero (`covered`); a purge changes the list of no day that may still be asked for
 //!   (`purged`).
+//! - `is_in_transit`, `is_outstanding`, `added`: whether an entry waits for the bank as of a day, as the reconciliation
+//!   has it; a sum in 128 bits.
 //! - `laws` `sinks_give_the_same`: what `finish` of each sink gives of all rows of a sound firm is what these give.
 #![tactic(auto)]
 
@@ -50,8 +52,10 @@ mod retention_sink;
 mod trial_sink;
 
 pub use clients_sink::{ClientLine, ClientList, ClientsSink};
-pub use day_lists::{EntryLine, Issued, OpeningLine, ReconciliationLists};
-pub use figures::Figures;
+pub use day_lists::{
+    EntryLine, Issued, OpeningLine, ReconciliationLists, is_in_transit, is_outstanding,
+};
+pub use figures::{Figures, added};
 pub use firm_rows::Owner;
 pub use journal_sink::{JournalLine, JournalSink};
 pub use of_lists::{journal_list, reconcile_at, retention_list, trial_balance};
