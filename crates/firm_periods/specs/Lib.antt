@@ -1,0 +1,5 @@
+pub mod Named
+pub use Rattle.firm_figures.specs.Figures
+pub use Rattle.firm_figures.specs.Doubles
+pub use Rattle.firm_figures.specs.Purged
+pub use Rattle.firm_figures.specs.Reconciling
