@@ -5,6 +5,7 @@ pub mod TextsOfLists
 pub mod TextsOfClients
 pub mod TextsOfReconciliation
 pub mod TextsOfLedgers
+pub mod TextsOfPeriods
 pub use Rattle.firm_figures.specs.Clients
 pub use Rattle.firm_figures.specs.Lists
 pub use Rattle.firm_figures.specs.Retained

@@ -13,8 +13,8 @@ use trust_matter::{
     PaymentState, Settlement, VoidedPayment,
 };
 
-// Appends a text after a bar.
-fn push_barred(page: &mut Page, text: &Label) -> Result<(), AllocError>
+/// Appends a text after a bar.
+pub(crate) fn push_barred(page: &mut Page, text: &Label) -> Result<(), AllocError>
     ensures before { page.new.before ≡ page.old.before }
     ensures text { OnOk result (page.new.text ≡ page.old.text ++ flat_map further (barred text.now)) }
 {

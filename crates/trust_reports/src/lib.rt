@@ -4,8 +4,8 @@
 //!
 //! By public call, with the clauses of its contract in brackets.
 //!
-//! - `trial_text`, `journal_text`, `retention_text`, `exceptions_text`, `clients_text`, `reconciliation_text`,
-//!   `own_card_text`: append exactly the text of the definition, line by line, or leave the vector as it was if memory
+//! - `trial_text`, `journal_text`, `retention_text`, `exceptions_text`, `clients_text`, `receipts_text`,
+//!   `disbursements_text`, `outstanding_text`, `reconciliation_text`, `own_card_text`: append exactly the text of the definition, line by line, or leave the vector as it was if memory
 //!   is refused (`ok`, `err`).
 //! - `ledger_card`; `laws` `whole_card_is_of_rows`: the same of a matter's ledger card (ABA Model Rule 1.15(d): a full
 //!   accounting); the card of a whole matter is that of its rows, with what is left and the balances added up anew.
@@ -18,6 +18,7 @@ mod journal;
 pub mod laws;
 mod own_card;
 mod page;
+mod periods;
 mod reconciliation;
 mod retention;
 mod trial;
@@ -30,6 +31,7 @@ pub use firm_figures::{
 };
 pub use journal::journal_text;
 pub use own_card::own_card_text;
+pub use periods::{disbursements_text, outstanding_text, receipts_text};
 pub use reconciliation::{exception_line, exceptions_text, reconciliation_text};
 pub use retention::retention_text;
 pub use trial::trial_text;

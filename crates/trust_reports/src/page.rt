@@ -243,7 +243,8 @@ fn push_words(page: &mut Page, words: &LineText) -> Result<(), AllocError>
     push_shown_text(page, text)
 }
 
-fn push_day(page: &mut Page, day: Day) -> Result<(), AllocError>
+/// Appends a day.
+pub(crate) fn push_day(page: &mut Page, day: Day) -> Result<(), AllocError>
     ensures before { page.new.before ≡ page.old.before }
     ensures text { OnOk result (page.new.text ≡ page.old.text ++ day_text day) }
 {
