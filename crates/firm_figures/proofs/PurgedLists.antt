@@ -32,7 +32,7 @@ module _ (p : ℕ) where
       let qs : pending es ≡ pos 0 = omega (arith, ints, none, pending-least p e, all-pending-least p es) in
       (unlisted e days.0 ranged.0 h q, all-unlisted es days.1 ranged.1 hs qs)
 
-  closed-unlisted : Covered → (rows : Rows) → Sound rows → IsClosedBy p rows.head → AllByRecursion IsUnlisted rows.entries
+  pub closed-unlisted : Covered → (rows : Rows) → Sound rows → IsClosedBy p rows.head → AllByRecursion IsUnlisted rows.entries
   closed-unlisted law rows sound closed = cases rows.head sound.headed closed
     where
       at-rest : (h : Head) (day : ℕ) → IsAtRest h day rows.entries → day ≤ p → AllByRecursion IsUnlisted rows.entries

@@ -3,6 +3,7 @@ use Rattle.std.specs.Prelude.{◌≡◌, ℕ, ◌≤◌, Bool, true, false, not,
 use Rattle.std.specs.List.{filter, flat_map, list_any}
 use Rattle.std.specs.Ordering.{is_lt, nat_cmp}
 use Rattle.trust_base.specs.Periods.{Span}
+use Rattle.matter_rows.specs.declared.head.Head.{Head}
 use Rattle.matter_rows.specs.declared.head.Holder.{Holder}
 use Rattle.matter_rows.specs.declared.head.Holder.TheVariants as holder
 use Rattle.matter_rows.specs.declared.deposit.DepositState.{DepositState}
@@ -17,7 +18,7 @@ use Rattle.firm_rows.specs.declared.movement.Owner.{Owner}
 use Rattle.firm_rows.specs.declared.movement.Owner.TheVariants as owner
 use Rattle.firm_rows.specs.declared.ledger.FirmLine.{FirmLine}
 use Rattle.firm_rows.specs.Sums.{sum_of}
-use Rattle.firm_rows.specs.Firm.{Row, HeadRow, SeatRow, EntryRow, Firm}
+use Rattle.firm_rows.specs.Firm.{Row, HeadRow, SeatRow, EntryRow, Firm, of, after_change}
 use Rattle.firm_rows.specs.Countable.{AreCountable, IsFirmLineInRange, IsRowInRange}
 use Rattle.firm_rows.specs.FirmSound.{FirmSound}
 use Rattle.firm_rows.specs.Journal.{is_of_entry, is_of_firm, events_moved, firm_events}
@@ -31,7 +32,8 @@ use Rattle.firm_periods.specs.declared.named_sink.Pick.{Pick}
 use Rattle.firm_periods.specs.declared.named_sink.Pick.TheVariants as pick
 use Rattle.firm_figures.specs.Doubles.{in_order}
 use Rattle.firm_figures.specs.Figures.{is_in_transit, is_outstanding, journal, outstanding, transit}
-use Rattle.firm_figures.specs.Purged.{is_day_after, is_period_purged}
+use Rattle.trust_matter.specs.Changes.{MatterChange}
+use Rattle.firm_figures.specs.Purged.{IsPurge, is_day_after, is_period_purged}
 use Rattle.firm_figures.specs.Reconciling.{added}
 
 -- What an entry has moved.
@@ -191,6 +193,23 @@ is_purged_since from firm = list_any (is_purged_from from) firm.rows
 abbrev pub journal_before : ℕ → Firm → ℤ
 journal_before day firm = sum_of (λ v. v.amount) (filter (λ v. nat_lt v.day day) firm.movements)
 
+-- the client of a matter; none if it was purged or never opened
+abbrev pub client_in_head : Option Head → Option (List ℕ)
+client_in_head None = None
+client_in_head (Some h) = client_of h.holder
+
+-- what a row adds to a list, under the client of its own matter
+abbrev pub row_named : (Entry → List Moved) → Firm → ℕ × Row → List NamedMove
+row_named pick firm (m, HeadRow h) = []
+row_named pick firm (m, SeatRow s) = []
+row_named pick firm (m, EntryRow n e) = flat_map (named (client_in_head (of m firm).head) m n e) (pick e)
+
+-- each line names the client of its matter
+abbrev pub NamesAreOfTheirMatter : Type 0
+NamesAreOfTheirMatter =
+    (pick : Entry → List Moved) (firm : Firm) → FirmSound firm
+    → named_in pick None firm.rows ≡ flat_map (row_named pick firm) firm.rows
+
 -- the receipts and the disbursements of a period add up to the change of the journal over it
 abbrev pub PeriodsAgree : Type 0
 PeriodsAgree =
@@ -218,6 +237,24 @@ pub record WaitsAgree (p : ℕ) (firm : Firm) : Type 0 where
 
 abbrev pub WaitsAlwaysAgree : Type 0
 WaitsAlwaysAgree = (p : ℕ) (firm : Firm) → WaitsAgree p firm
+
+-- What a purge leaves.
+
+-- purging a matter of a sound firm changes nothing of a period whose records are complete afterwards
+abbrev pub PurgeChangesNoPeriodLeft : Type 0
+PurgeChangesNoPeriodLeft =
+    (from to m : ℕ) (change : MatterChange) (firm : Firm)
+    → FirmSound firm → IsPurge m firm change → 1 ≤ from → is_purged_since from (after_change m change firm) ≡ false
+    → (receipts from to (after_change m change firm) ≡ receipts from to firm)
+    × (disbursements from to (after_change m change firm) ≡ disbursements from to firm)
+
+-- nor of what waits as of a day whose records are
+abbrev pub PurgeChangesNoWaitingLeft : Type 0
+PurgeChangesNoWaitingLeft =
+    (p m : ℕ) (change : MatterChange) (firm : Firm)
+    → FirmSound firm → IsPurge m firm change → is_period_purged p (after_change m change firm) ≡ false
+    → (transit_named p (after_change m change firm) ≡ transit_named p firm)
+    × (out_named p (after_change m change firm) ≡ out_named p firm)
 
 -- How they are built.
 
