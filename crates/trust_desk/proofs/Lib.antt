@@ -12,6 +12,7 @@ pub mod OwnItems
 pub mod Own
 pub mod Steps
 pub mod Answered
+pub mod DayReports
 pub mod ImportSteps
 pub mod Runs
 pub mod LineFacts

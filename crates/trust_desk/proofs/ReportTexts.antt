@@ -7,11 +7,6 @@ use Rattle.trust_reports.proofs.Lists.{journal-kept}
 use Rattle.trust_reports.proofs.Retained.{retention-kept}
 use Rattle.trust_reports.proofs.Trial.{total-kept, trial-kept}
 use Rattle.trust_reports.specs.Texts.{heading}
-use Rattle.std.specs.Prelude.{if◌then◌else◌, true, false, Some, None, Option}
-use Rattle.trust_desk.specs.Reports.{is_period_purged}
-use Rattle.trust_desk.specs.ReportStep.{day_report_left}
-use Rattle.trust_desk.specs.declared.requests.DayReport.{DayReport}
-use Rattle.trust_desk.specs.declared.requests.DayReport.TheVariants.{Clients}
 
 pub trial-told : (today : ℕ) (firm : Firm) (kept : TrialKept) → FirmSound firm → AreCountable IsRowInRange firm.rows → AreCountable IsFirmLineInRange firm.firm_lines → kept ≡ trial_kept firm → trial_text today kept.lines kept.own (trial_sum kept) ≡ trial_report today firm
 unfolding trial_report
@@ -27,13 +22,6 @@ unfolding clients_report
 clients-told day firm kept sound some few is =
     ap (λ (s : ClientsKept). clients_text day s.lines s.own (clients_sum s)) is
     ∙ ap (clients_text day (clients_of day firm).lines (clients_of day firm).own) (client_total.total-kept sound-covered day firm sound some few)
-
--- a report as of a day of which the records are complete, and of one of which they are not
-pub left-whole : (report : DayReport) (day : ℕ) (firm : Firm) (text : List ℕ) → is_period_purged day firm ≡ false → text ≡ clients_report day firm → Some text ≡ day_report_left report day firm
-left-whole Clients day firm text whole is = ap Some is ∙ sym (ap (λ b. if b then None else Some (clients_report day firm)) whole)
-
-pub left-purged : (report : DayReport) (day : ℕ) (firm : Firm) → is_period_purged day firm ≡ true → None ≡ day_report_left report day firm
-left-purged Clients day firm purged = sym (ap (λ b. if b then None else Some (clients_report day firm)) purged)
 
 pub journal-told : (today : ℕ) (firm : Firm) (kept : JournalKept) → AreCountable IsMovementInRange firm.movements → kept ≡ fold with_moved no_journal firm.movements → journal_text today kept.lines ≡ journal_report today firm
 unfolding journal_report

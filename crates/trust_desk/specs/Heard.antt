@@ -11,11 +11,11 @@ use Rattle.firm_rows.specs.Firm.{Firm}
 use Rattle.statement_csv.specs.declared.item.Item.{Item}
 use Rattle.statement_csv.specs.declared.item.Item.TheVariants as item
 use Rattle.trust_desk.specs.declared.requests.Request.{Request}
-use Rattle.trust_desk.specs.declared.requests.Request.TheVariants.{Matter, Import, Match, Dismiss, Report, Reconcile, AsOf}
+use Rattle.trust_desk.specs.declared.requests.Request.TheVariants.{Matter, Import, Match, Dismiss, Report, Reconcile, AsOf, Within}
 use Rattle.trust_desk.specs.declared.requests.Reply.{Reply}
 use Rattle.trust_desk.specs.ItemStep.{names_item}
 use Rattle.trust_desk.specs.ImportStep.{import_refusal, imported}
-use Rattle.trust_desk.specs.ReportStep.{day_report_for, reconciliation_for, report_for}
+use Rattle.trust_desk.specs.ReportStep.{day_report_for, period_report_for, reconciliation_for, report_for}
 use Rattle.trust_desk.specs.MatchStep.{match_text}
 
 -- a request, or a message that was refused before it became one; such a message may name a matter
@@ -54,6 +54,7 @@ kind_of (Asks (Match caller statement text)) = OnlyTold (match_text text caller 
 kind_of (Asks (Report caller report)) = OnlyTold (report_for caller report)
 kind_of (Asks (Reconcile caller day)) = OnlyTold (reconciliation_for caller day)
 kind_of (Asks (AsOf caller report day)) = OnlyTold (day_report_for caller report day)
+kind_of (Asks (Within caller report period)) = OnlyTold (period_report_for caller report period)
 kind_of (Unread named refusal) = NotRead named refusal
 
 -- What names a matter, and gets a reply.

@@ -4,6 +4,7 @@ pub mod ItemStep
 pub mod Imports
 pub mod ImportStep
 pub mod ReportStep
+pub mod DayReports
 pub mod Dismissing
 pub mod Dismissed
 pub mod MatchStep

@@ -1,16 +1,20 @@
 -- The reports of a firm. Each is the text of a list made from its rows.
-use Rattle.std.specs.Prelude.{ℕ, Bool, List, [], Option, Some, None, is_none}
+use Rattle.std.specs.Prelude.{ℕ, Bool, List, [], ◌∷◌, ◌++◌, Option, Some, None, is_none}
+use Rattle.trust_base.specs.Periods.{Span, month_to}
 use Rattle.firm_rows.specs.Firm.{Firm}
 use Rattle.firm_rows.specs.FirmLines.{balance_of}
 use Rattle.trust_reports.specs.Clients.{client_lines, clients_total}
 use Rattle.trust_reports.specs.Figures.{closing_on, own_by}
 pub use Rattle.trust_reports.specs.Purged.{is_period_purged}
+pub use Rattle.firm_periods.specs.Named.{is_purged_since}
+use Rattle.firm_periods.specs.Named.{disbursements, out_named, receipts, sum_moved, transit_named}
 use Rattle.trust_reports.specs.Reconciliations.{ReconciliationTold, reconciliation_on}
 use Rattle.trust_reports.specs.Lists.{journal_list, trial_lines, trial_total}
 use Rattle.trust_reports.specs.Retained.{retention_list}
 use Rattle.trust_reports.specs.TextsOfClients.{clients_text}
 use Rattle.trust_reports.specs.TextsOfLedgers.{own_card_text}
 use Rattle.trust_reports.specs.TextsOfLists.{exceptions_text, journal_text, retention_text, trial_text}
+use Rattle.trust_reports.specs.TextsOfPeriods.{disbursements_text, outstanding_text, receipts_text}
 use Rattle.trust_reports.specs.TextsOfReconciliation.{reconciliation_text}
 
 -- On a business day.
@@ -52,3 +56,39 @@ reconciliation_report day firm = text_of day (reconciliation_on day firm)
 -- the ledgers of the matters that were open, with their clients, the firm's own balance, and their sum
 unfoldable pub clients_report : ℕ → Firm → List ℕ
 clients_report day firm = clients_text day (client_lines day firm) (own_by day firm) (clients_total day firm)
+
+-- the deposits in transit and the outstanding payments, with their names, each with their sum
+unfoldable pub outstanding_report : ℕ → Firm → List ℕ
+outstanding_report day firm =
+    outstanding_text day
+    (transit_named day firm) (sum_moved (transit_named day firm))
+    (out_named day firm) (sum_moved (out_named day firm))
+
+-- Of a period.
+
+-- its receipts with their names, and their sum
+unfoldable pub receipts_report : Span → Firm → List ℕ
+receipts_report s firm = receipts_text s (receipts s.from s.to firm) (sum_moved (receipts s.from s.to firm))
+
+-- its disbursements with their names, and their sum
+unfoldable pub disbursements_report : Span → Firm → List ℕ
+disbursements_report s firm =
+    disbursements_text s (disbursements s.from s.to firm) (sum_moved (disbursements s.from s.to firm))
+
+-- Of a month's end.
+
+-- parts with an empty line between two of them
+abbrev pub parts : List ℕ → List (List ℕ) → List ℕ
+parts text [] = text
+parts text (more ∷ rest) = text ++ (10 ∷ parts more rest)
+
+-- the packet: the reconciliation, the clients and what waits as of the day, and what was received and disbursed from the
+-- first of its month on
+unfoldable pub month_report : ℕ → Firm → List ℕ
+month_report day firm =
+    parts (reconciliation_report day firm)
+    (clients_report day firm
+    ∷ outstanding_report day firm
+    ∷ receipts_report (month_to day) firm
+    ∷ disbursements_report (month_to day) firm
+    ∷ [])

@@ -1,6 +1,6 @@
 //! The desk: takes requests and returns replies, over any book.
 
-ghost use Rattle.std.specs.Prelude.{◌≡◌, ℕ, IfOk, length, option_map, take, ◌<◌, ◌∷◌, [], false};
+ghost use Rattle.std.specs.Prelude.{◌≡◌, ℕ, IfOk, length, take, ◌<◌, ◌∷◌, [], false};
 ghost use Rattle.firm_rows.specs.Firm.{Firm, of};
 ghost use Rattle.trust_desk.specs.Plan.{IsBodyOf};
 ghost use Rattle.trust_desk.specs.Crashes.{AreNoFaults, AreNoFaultsButLast, IsImport, IsMade, IsMadeInRun, MayLeave, before_fault};
@@ -9,29 +9,32 @@ ghost use Rattle.trust_desk.specs.FirmStep.{Steps, RunsSoundly, IsUnstopped, fir
 ghost use Rattle.trust_desk.specs.ImportStep.{import_refusal, imported};
 ghost use Rattle.trust_desk.specs.Heard.{Asks, Dismisses, Heard, OfItems, OfMatter, OnlyTold, heard, kind_of};
 ghost use Rattle.trust_store.specs.Calls.{IsRead};
-ghost use Rattle.trust_desk.specs.Kept.{IsKeptOf};
 ghost use Rattle.trust_desk.specs.Isolation.{IsOwn, KeepsOthers};
 ghost use Rattle.trust_desk.specs.Replies.{is_fault_reply};
-ghost use Rattle.trust_desk.specs.ReportStep.{day_report_for, day_report_left, reconciliation_for};
+ghost use Rattle.trust_desk.specs.ReportStep.{day_report_for, period_report_for, reconciliation_for};
 ghost use Rattle.trust_desk.specs.ReportStep.{report_for, report_text};
 ghost use Rattle.trust_desk.specs.Answered.{IfServed, IsAnswered, IsReplied};
 ghost use Rattle.trust_desk.specs.Calls.{Counts, KeepsBook};
 
 use crate::cleared_lines::{Beside, ClearedLines};
+use crate::day_reports::{
+    append_day_report, append_period_report, append_reconciliation, tell_within,
+};
 use crate::exceptions::{ExceptionsSink, dismiss};
 use crate::importing::{ImportEnd, ImportStop};
 use crate::requests::{
-    Body, DayReport, End, MatchText, Reply, Report, Request, RunEnd, check_import, is_not_of_firm,
+    Body, DayReport, End, MatchText, PeriodReport, Reply, Report, Request, RunEnd, check_import,
+    is_not_of_firm,
 };
 use crate::watching::NoWatch;
 use matter_bodies::{entry_body, import_body, matter_body, purge_body, receipt_body};
 use std::alloc::{AllocError, Global};
 use std::marker::Model;
-use trust_base::{Day, Line, MatterNo, OwnedBytes, Refusal, Rule, StoreFault};
+use trust_base::{Day, Line, MatterNo, OwnedBytes, Period, Refusal, Rule, StoreFault};
 use trust_matter::{Ask, Caller, Edit, Matter, decide};
 use trust_reports::{
-    ClientsSink, JournalSink, ReconciliationSink, RetentionSink, TrialSink, clients_text,
-    journal_text, ledger_card, own_card_text, reconciliation_text, retention_text, trial_text,
+    JournalSink, RetentionSink, TrialSink, journal_text, ledger_card, own_card_text,
+    retention_text, trial_text,
 };
 use trust_store::Book;
 
@@ -163,58 +166,6 @@ fn find_report<B: Book>(
     }
 }
 
-// Returns the text of a report as of a day; `None` if a matter that was closed after the day has been purged since.
-//
-// Returns `Store` if the book's store failed, and `Memory` if memory ran out.
-fn find_day_report<B: Book>(
-    alloc: Global,
-    book: &mut B,
-    report: DayReport,
-    as_of: Day,
-) -> Result<Option<Vec<u8>>, StoreFault>
-    ensures told { (B.seen book.new).clean → (B.seen book.old).stands → IfOk result
-        (λ found. option_map (λ text. text.items) found ≡ day_report_left report as_of (B.seen book.old).firm) }
-    ensures read { IsRead result (B.seen book.old) (B.seen book.new) }
-{
-    match report {
-        DayReport::Clients => {
-            let mut clients = ClientsSink::new(alloc, as_of);
-            book.each_row(&mut clients)?;
-            book.each_firm_line(&mut clients)?;
-            if clients.is_period_purged() {
-                return Ok(None);
-            }
-            let list = clients.finish();
-            let mut text = Vec::new(alloc);
-            clients_text(as_of, &list.lines, list.own, list.total, &mut text)?;
-            Ok(Some(text))
-        }
-    }
-}
-
-// Hands all rows of a book to the sink of a reconciliation. What the rows of matters and the firm's own lines show beside
-// it is kept in `lines`.
-//
-// Returns `Store` if the book's store failed, and `Memory` if memory ran out.
-fn read_reconciliation<B: Book>(
-    alloc: Global,
-    book: &mut B,
-    as_of: Day,
-    lines: &mut ClearedLines,
-) -> Result<ReconciliationSink, StoreFault>
-    ensures kept { (B.seen book.new).clean → (B.seen book.old).stands
-        → IfOk result (λ sink. IsKeptOf as_of (B.seen book.old).firm sink) }
-    ensures read { IsRead result (B.seen book.old) (B.seen book.new) }
-{
-    let mut sink = Beside::of(alloc, ReconciliationSink::new(alloc, as_of), lines);
-    book.each_row(&mut sink)?;
-    book.each_movement(&mut sink)?;
-    book.each_firm_line(&mut sink)?;
-    book.each_exception(&mut sink)?;
-    book.each_balance(&mut sink)?;
-    Ok(sink.into_sink(lines))
-}
-
 /// Answers requests over a book. Contracts see it as the book.
 ///
 /// The trial balance of an empty book:
@@ -296,6 +247,9 @@ impl<B: Book> Desk<B> {
             Request::AsOf(caller, report, as_of) => {
                 self.answer_day_report(alloc, caller, *report, *as_of)
             }
+            Request::Within(caller, report, period) => {
+                self.answer_period_report(alloc, caller, *report, *period)
+            }
         };
         answered.unwrap_or_else(Reply::refused)
     }
@@ -336,20 +290,9 @@ impl<B: Book> Desk<B> {
         if is_not_of_firm(caller) {
             return Err(Refusal::NotAllowed(Rule::Firm));
         }
-        let sink = read_reconciliation(alloc, &mut self.book, as_of, lines)?;
-        let is_purged = sink.is_period_purged();
-        let Some(reconciliation) = sink.finish(alloc)? else {
-            return Err(Refusal::NoStatement);
-        };
-        if is_purged {
-            return Err(Refusal::PeriodPurged);
-        }
         let mut text = Vec::new(alloc);
-        reconciliation_text(as_of, &reconciliation, &mut text)?;
-        Ok(Reply {
-            status: 200,
-            body: Body::Text(OwnedBytes::new(text)),
-        })
+        let limits = append_reconciliation(alloc, &mut self.book, as_of, lines, &mut text)?;
+        tell_within(limits, text)
     }
 
     // Answers with a report of the firm as of a day, or says why it is refused. Nothing changes.
@@ -366,13 +309,28 @@ impl<B: Book> Desk<B> {
         if is_not_of_firm(caller) {
             return Err(Refusal::NotAllowed(Rule::Firm));
         }
-        let Some(text) = find_day_report(alloc, &mut self.book, report, as_of)? else {
-            return Err(Refusal::PeriodPurged);
-        };
-        Ok(Reply {
-            status: 200,
-            body: Body::Text(OwnedBytes::new(text)),
-        })
+        let mut text = Vec::new(alloc);
+        let limits = append_day_report(alloc, &mut self.book, report, as_of, &mut text)?;
+        tell_within(limits, text)
+    }
+
+    // Answers with a report of the firm of a period, or says why it is refused. Nothing changes.
+    fn answer_period_report(
+        &mut self,
+        alloc: Global,
+        caller: &Caller,
+        report: PeriodReport,
+        period: Period,
+    ) -> Result<Reply, Refusal>
+        ensures { (day : ℕ) (h : Heard) → kind_of h ≡ OnlyTold (period_report_for caller.now report period)
+            → IsAnswered day h result (B.seen self.old) (B.seen self.new) }
+    {
+        if is_not_of_firm(caller) {
+            return Err(Refusal::NotAllowed(Rule::Firm));
+        }
+        let mut text = Vec::new(alloc);
+        let limits = append_period_report(alloc, &mut self.book, report, period, &mut text)?;
+        tell_within(limits, text)
     }
 
     // Dismisses a line from the exceptions.

@@ -10,9 +10,10 @@
 //! - within the crate `answer_reconciliation`: of the cashier's request: NoStatement exactly if no closing balance of
 //!   the day is kept, else PeriodPurged exactly if a matter that was closed after the day has been purged, else the
 //!   text; nothing changes, after a crash neither (`IsAnswered`, `reconciliation_for`).
-//! - within the crate `find_day_report`: over every book: the bytes of each report as of a day are those of the
-//!   definition, of the book's rows, and there are none exactly if a matter that was closed after the day has been
-//!   purged (`told`); nothing changes, after a crash neither (`read`).
+//! - within the crate `append_day_report`, `append_period_report`: over every book: the bytes of each report as of a day
+//!   and of a period, the packet of month's end among them, are those of the definition, of one state of the book's
+//!   rows, and whether they may be told is found of the same rows (`told`); nothing changes, after a crash neither
+//!   (`read`).
 //!
 //! Each report goes over the rows one at a time, and keeps sums and what it prints; the reconciliation also keeps the
 //! payments issued and not voided by its day, of which it lists those with another's instrument, and the balances dated
@@ -30,8 +31,8 @@
 //!   applied.
 //! - `Desk::answer`, of reports: an ask for a matter's ledger card is answered by the card of the matter's rows, as
 //!   plain text, or by the first refusal whose condition holds. A request for a report on the firm, for one as of a
-//!   day, or for a reconciliation, is answered by exactly the text of the definition, of the firm's rows, or by the
-//!   first of NotAllowed, NoStatement (of a reconciliation alone) and PeriodPurged that holds. Store or Memory may
+//!   day or of a period, or for a reconciliation, is answered by exactly the text of the definition, of the firm's rows,
+//!   or by the first of NotAllowed, NoStatement (of a reconciliation and of month's end) and PeriodPurged that holds. Store or Memory may
 //!   stop each of them instead. None of them changes anything, and these requests name no matter (by the same clauses).
 //!   That the card's matter is read whole is the contract of a private function.
 //! - `Desk::answer_beside`: the same as `replied`. No clause says what it keeps of the rows.
@@ -98,6 +99,7 @@
 
 mod checking;
 mod cleared_lines;
+mod day_reports;
 mod desk;
 mod exceptions;
 mod explaining;
@@ -114,7 +116,7 @@ pub use desk::Desk;
 pub use firm_audit::Flaw;
 pub use importing::{Counted, ImportEnd, ImportStop};
 pub use matter_bodies::{ImportReply, entry_body, import_body, matter_body, receipt_body};
-pub use requests::{Body, DayReport, End, MatchText, Reply, Report, Request, RunEnd};
+pub use requests::{Body, DayReport, End, MatchText, PeriodReport, Reply, Report, Request, RunEnd};
 pub use statement_match::Matched;
 pub use trust_base::OwnedBytes;
 pub use unread::Unread;

@@ -5,7 +5,7 @@ ghost use Rattle.trust_desk.specs.ImportStep.{IsChecked, import_refusal, is_not_
 
 use statement_csv::{Lines, ReadFault};
 use std::alloc::Global;
-use trust_base::{Day, Field, Line, MAX_FILE_BYTES, MatterNo, OwnedBytes, Refusal, Rule};
+use trust_base::{Day, Field, Line, MAX_FILE_BYTES, MatterNo, OwnedBytes, Period, Refusal, Rule};
 use trust_matter::{Ask, Caller};
 
 /// A report on the whole firm on a business day. The cashier is refused none of these.
@@ -28,6 +28,19 @@ pub enum Report {
 pub enum DayReport {
     /// The list of clients: the ledger of each matter that was open, its client, the firm's own, and their sum.
     Clients,
+    /// What waits for the bank: the deposits in transit and the outstanding payments, with their names.
+    Outstanding,
+    /// The packet of month's end: the reconciliation, the two above, and the receipts and disbursements of the month.
+    Month,
+}
+
+/// A report on the whole firm of a period, which only the cashier may ask for.
+#[derive(Clone, Copy, PartialEq, Eq, Debug)]
+pub enum PeriodReport {
+    /// The journal of receipts, with names.
+    Receipts,
+    /// The journal of disbursements, with names.
+    Disbursements,
 }
 
 /// One of the two texts that matching a statement gives.
@@ -69,6 +82,8 @@ pub enum Request {
     Reconcile(Caller, Day),
     /// A caller asks for a report on the firm as of a day.
     AsOf(Caller, DayReport, Day),
+    /// A caller asks for a report on the firm of a period.
+    Within(Caller, PeriodReport, Period),
 }
 
 impl Drop for Request {
@@ -94,7 +109,8 @@ impl Drop for Request {
             } => (),
             Request::Report(_caller, _)
             | Request::Reconcile(_caller, _)
-            | Request::AsOf(_caller, _, _) => (),
+            | Request::AsOf(_caller, _, _)
+            | Request::Within(_caller, _, _) => (),
         }
     }
 }

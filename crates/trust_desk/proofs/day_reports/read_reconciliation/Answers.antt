@@ -1,7 +1,7 @@
 use Rattle.trust_desk.proofs.Names.{Ok, IsRead, arith, ints, nat_tests, counted}
 use Rattle.trust_desk.proofs.Calls.{read-then}
 use Rattle.trust_desk.proofs.ReconciliationAnswers.{rows-kept}
-use Rattle.trust_desk.proofs.desk.read_reconciliation.Goals as goal
+use Rattle.trust_desk.proofs.day_reports.read_reconciliation.Goals as goal
 
 pub returns-clause-kept : goal.returns-clause-kept
 returns-clause-kept g c =
