@@ -1,10 +1,9 @@
 -- The parts of a path, and which matter a message names by its path.
-use Rattle.portal_requests.proofs.Names.{◌≡◌, ◌∙◌, ℕ, Bool, true, false, cond, List, [], ◌∷◌, Option, Some, None, Result, Ok, Err, refl, sym, ap, subst, arith, codes, nat_le, option_map, take, unwrap_or, ⊤, bytes_eq, IsText, Scan, parse_route, RouteOf, route_from, RowsOf, first, InsertError, Line, day_of, matter_of, Field, BadMethod, Ask, Caller, is_the, names, Message, path_of, Place, entry_ask, matter_ask, body_in, caller_of, dismissing, dismissing_in, line_in, line_keys, after_slash, day_part, entry_part, has_matter, named_in, report_day_part, method_of, as_of, asked_at, reported_as_of, called, heard_as, heard_of, of_matter, placed, request, routed, place_of, TABLE, route_rows, row_in, the_routes, matchit_on_literals, ints, nat_tests}
+use Rattle.portal_requests.proofs.Names.{◌≡◌, ◌∙◌, ℕ, Bool, true, false, cond, List, [], ◌∷◌, Option, Some, None, Result, Ok, Err, refl, sym, ap, subst, arith, codes, nat_le, option_map, take, unwrap_or, ⊤, bytes_eq, IsText, Scan, parse_route, RouteOf, route_from, RowsOf, first, InsertError, Line, day_of, matter_of, Field, BadMethod, Ask, Caller, is_the, names, Message, path_of, Place, entry_ask, matter_ask, body_in, caller_of, dismissing, dismissing_in, line_in, line_keys, after_slash, day_part, entry_part, first_day_part, has_matter, last_day_part, named_in, report_day_part, method_of, Span, DayReport, PeriodReport, as_of, asked_at, period_of, reported_as_of, reported_within, called, heard_as, heard_of, of_matter, placed, request, routed, place_of, TABLE, route_rows, row_in, the_routes, matchit_on_literals, ints, nat_tests}
 use Rattle.std.specs.Borrow.{Bor}
 use Rattle.std.specs.Prelude.{drop, length}
 use Rattle.std.specs.Slice.{IsGetRangeResult}
 use Rattle.std.proofs.lemmas.List.{drop_all, length-drop, take_all}
-use Rattle.trust_desk.specs.declared.requests.DayReport.{DayReport}
 use Rattle.portal_requests.specs.declared.routes.Place.TheVariants as place
 use Rattle.portal_requests.specs.NamedByPath.{NamedByPath}
 use Rattle.portal_requests.proofs.Literals.{AllRows, Starts, first-starts, placed-rows}
@@ -18,11 +17,11 @@ pub day-behind : (path : List ℕ) (got : Option (Bor (List ℕ))) (nothing part
     → IsGetRangeResult path 21 (length path) got → day ≡ day_of (day_part path)
 day-behind path got nothing part day read same none is = read ∙ ap day_of (ap (λ b. b.now) same ∙ part-behind path 21 got nothing none is)
 
--- and the one that is read behind the name of a report
-pub day-behind_name : (path : List ℕ) (got : Option (Bor (List ℕ))) (nothing front : Bor (List ℕ)) (rest : List ℕ) (day : Option ℕ) → day ≡ day_of rest → rest ≡ after_slash front.now → front ≡ unwrap_or got nothing → nothing.now ≡ []
-    → IsGetRangeResult path 6 (length path) got → day ≡ day_of (report_day_part path)
-day-behind_name path got nothing front rest day read behind same none is =
-    read ∙ ap day_of (behind ∙ ap after_slash (ap (λ b. b.now) same ∙ part-behind path 6 got nothing none is))
+-- what is behind the name of a report
+pub behind-name : (path : List ℕ) (got : Option (Bor (List ℕ))) (nothing front : Bor (List ℕ)) (rest : List ℕ) → rest ≡ after_slash front.now → front ≡ unwrap_or got nothing → nothing.now ≡ []
+    → IsGetRangeResult path 6 (length path) got → rest ≡ report_day_part path
+behind-name path got nothing front rest behind same none is =
+    behind ∙ ap after_slash (ap (λ b. b.now) same ∙ part-behind path 6 got nothing none is)
 
 -- Paths of the firm.
 
@@ -96,6 +95,9 @@ day-named n caller day = grind (arith, ints, nat_tests)
 report-named : (n : ℕ) (caller : Caller) (report : DayReport) (day : Option ℕ) → names n (heard_as None (reported_as_of caller report day)) ≡ false
 report-named n caller report day = grind (arith, ints, nat_tests)
 
+period-named : (n : ℕ) (caller : Caller) (report : PeriodReport) (period : Option Span) → names n (heard_as None (reported_within caller report period)) ≡ false
+period-named n caller report period = grind (arith, ints, nat_tests)
+
 dismissal-named : (n : ℕ) (caller : Caller) (o : Option Line) → names n (heard_as None (dismissing caller o)) ≡ false
 dismissal-named n caller o = grind (arith, ints, nat_tests)
 
@@ -105,6 +107,9 @@ at-named n (place.Entry p) caller path body e = of-named n caller (named_in path
 at-named n (place.Report p) caller path body e = sym (ap (is_the n) (firm-unnamed path (place.Report p) refl e))
 at-named n place.Reconciliation caller path body e = subst (λ (o : Option ℕ). names n (heard_as o (as_of caller (day_of (day_part path)))) ≡ is_the n o) (sym (firm-unnamed path place.Reconciliation refl e)) (day-named n caller (day_of (day_part path)))
 at-named n (place.AsOf report) caller path body e = subst (λ (o : Option ℕ). names n (heard_as o (reported_as_of caller report (day_of (report_day_part path)))) ≡ is_the n o) (sym (firm-unnamed path (place.AsOf report) refl e)) (report-named n caller report (day_of (report_day_part path)))
+at-named n (place.Within report) caller path body e =
+    let period = period_of (day_of (first_day_part path)) (day_of (last_day_part path)) in
+    subst (λ (o : Option ℕ). names n (heard_as o (reported_within caller report period)) ≡ is_the n o) (sym (firm-unnamed path (place.Within report) refl e)) (period-named n caller report period)
 at-named n place.Import caller path body e = sym (ap (is_the n) (firm-unnamed path place.Import refl e))
 at-named n (place.Match p) caller path body e = sym (ap (is_the n) (firm-unnamed path (place.Match p) refl e))
 at-named n place.Dismissal caller path body e = subst (λ (o : Option ℕ). names n (heard_as o (dismissing_in caller body)) ≡ is_the n o) (sym (firm-unnamed path place.Dismissal refl e)) (dismissal-named n caller (line_in (body_in line_keys body)))

@@ -25,6 +25,13 @@ day_part path = drop 21 path
 abbrev pub report_day_part : List ℕ → List ℕ
 report_day_part path = after_slash (drop 6 path)
 
+-- the parts of a path that name the first and the last day of a period, with a slash between them
+abbrev pub first_day_part : List ℕ → List ℕ
+first_day_part path = up_to_slash (report_day_part path)
+
+abbrev pub last_day_part : List ℕ → List ℕ
+last_day_part path = after_slash (report_day_part path)
+
 abbrev pub ends_or_goes_on : List ℕ → Bool
 ends_or_goes_on [] = true
 ends_or_goes_on (b ∷ bs) = b == 47

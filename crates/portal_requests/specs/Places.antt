@@ -37,6 +37,7 @@ method_of (place.Entry p) = entry_method p
 method_of (place.Report p) = codes "GET"
 method_of place.Reconciliation = codes "GET"
 method_of (place.AsOf p) = codes "GET"
+method_of (place.Within p) = codes "GET"
 method_of place.Import = codes "POST"
 method_of (place.Match p) = codes "POST"
 method_of place.Dismissal = codes "POST"

@@ -9,10 +9,11 @@ use Rattle.matchit.specs.declared.error.InsertError.{InsertError}
 use Rattle.portal_requests.specs.declared.routes.MatterPlace.TheVariants as matter
 use Rattle.portal_requests.specs.declared.routes.EntryPlace.TheVariants as entry
 use Rattle.trust_desk.specs.declared.requests.DayReport.TheVariants as day_report
+use Rattle.trust_desk.specs.declared.requests.PeriodReport.TheVariants as period_report
 use Rattle.trust_desk.specs.declared.requests.Report.TheVariants as report
 use Rattle.trust_desk.specs.declared.requests.MatchText.TheVariants as text
 use Rattle.portal_requests.specs.declared.routes.Place.{Place}
-use Rattle.portal_requests.specs.declared.routes.Place.TheVariants.{AsOf, Dismissal, Entry, Import, Match, Matter, Reconciliation, Report}
+use Rattle.portal_requests.specs.declared.routes.Place.TheVariants.{AsOf, Dismissal, Entry, Import, Match, Matter, Reconciliation, Report, Within}
 
 -- the rows with one more route
 abbrev pub row_in : Result Scan InsertError → Place → RowsOf (RouteOf Place) → RowsOf (RouteOf Place)
@@ -68,6 +69,10 @@ TABLE = (codes "/matters/{m}", Matter matter.Show)
     ∷ (codes "/firm/journal", Report report.Journal)
     ∷ (codes "/firm/reconciliation/{day}", Reconciliation)
     ∷ (codes "/firm/clients/{day}", AsOf day_report.Clients)
+    ∷ (codes "/firm/outstanding/{day}", AsOf day_report.Outstanding)
+    ∷ (codes "/firm/receipts/{from}/{to}", Within period_report.Receipts)
+    ∷ (codes "/firm/disbursements/{from}/{to}", Within period_report.Disbursements)
+    ∷ (codes "/firm/month/{day}", AsOf day_report.Month)
     ∷ (codes "/firm/retention", Report report.Retention) ∷ []
 
 unfoldable pub the_routes : RowsOf (RouteOf Place)

@@ -13,8 +13,9 @@ ghost use Rattle.portal_requests.specs.Bodies.{body_in, field_text_at, is_object
 ghost use Rattle.portal_requests.specs.Bodies.{texts};
 ghost use Rattle.portal_requests.specs.Callers.{caller_of};
 ghost use Rattle.portal_requests.specs.Dismissals.{dismissing_in};
-ghost use Rattle.portal_requests.specs.Paths.{after_slash, day_part, named_in, report_day_part, up_to_slash};
-ghost use Rattle.portal_requests.specs.Requests.{as_of, of_matter, reported_as_of, request};
+ghost use Rattle.portal_requests.specs.Paths.{after_slash, day_part, first_day_part, last_day_part, named_in};
+ghost use Rattle.portal_requests.specs.Paths.{report_day_part, up_to_slash};
+ghost use Rattle.portal_requests.specs.Requests.{as_of, of_matter, period_of, reported_as_of, reported_within, request};
 ghost use Rattle.trust_base.specs.Texts.{day_of};
 
 use crate::routes::{EntryPlace, MatterPlace, Place, Routes, method};
@@ -26,8 +27,8 @@ use portal_messages::{Message, path};
 use serde_json::Value;
 use statement_csv::line_of_texts;
 use std::alloc::{AllocError, Global};
-use trust_base::{Day, EntryNo, Field, MatterNo, OwnedBytes, PersonId, Refusal};
-use trust_desk::{DayReport, Request};
+use trust_base::{Day, EntryNo, Field, MatterNo, OwnedBytes, Period, PersonId, Refusal};
+use trust_desk::{DayReport, PeriodReport, Request};
 use trust_matter::{Ask, Caller, SplitAsk};
 
 /// Returns the matter that a path names, whether or not it has a route: the path is `/matters/` and the six digits of
@@ -350,6 +351,35 @@ fn read_day_report_at(caller: Caller, report: DayReport, path: &[u8]) -> Result<
     }
 }
 
+// Returns the period from one day to another. `None` if a text is no day, or the second day is earlier.
+fn read_period(from: &[u8], to: &[u8]) -> Option<Period>
+    ensures { result ≡ period_of (day_of from.now) (day_of to.now) }
+{
+    let (first, last) = (Day::read(from)?, Day::read(to)?);
+    // The contract of the call below does not say that it refuses them.
+    if last.get() < first.get() {
+        return None;
+    }
+    Period::new(first, last)
+}
+
+// Returns the request for a report of the period in a path. Its days come after `/firm/`, the report and a slash.
+fn read_period_report_at(
+    caller: Caller,
+    report: PeriodReport,
+    path: &[u8],
+) -> Result<Request, Refusal>
+    ensures { Answers (reported_within caller report
+        (period_of (day_of (first_day_part path.now)) (day_of (last_day_part path.now)))) result }
+{
+    let (_, days) = split_at_slash(path.get(6..).unwrap_or(&[]));
+    let (from, to) = split_at_slash(days);
+    match read_period(from, to) {
+        Some(period) => Ok(Request::Within(caller, report, period)),
+        None => Err(Refusal::BadField(Field::Day)),
+    }
+}
+
 // Returns the bank statement in a body. Fails if memory runs out.
 fn read_statement(alloc: Global, body: &[u8]) -> Result<OwnedBytes, AllocError>
     ensures { IfOk result (λ statement. statement ≡ body.now) }
@@ -394,6 +424,7 @@ pub fn request_of(alloc: Global, routes: &Routes, message: &Message) -> Result<R
         Place::Report(report) => Ok(Request::Report(caller, report)),
         Place::Reconciliation => read_reconciliation_at(caller, path),
         Place::AsOf(report) => read_day_report_at(caller, report, path),
+        Place::Within(report) => read_period_report_at(caller, report, path),
         Place::Import => {
             let statement = read_statement(alloc, body)?;
             Ok(Request::Import { caller, statement })

@@ -8,7 +8,7 @@ ghost use Rattle.portal_requests.specs.Table.{the_routes};
 use matchit::{InsertError, Router};
 use std::alloc::Global;
 use std::marker::Model;
-use trust_desk::{DayReport, MatchText, Report};
+use trust_desk::{DayReport, MatchText, PeriodReport, Report};
 
 /// What a route asks of a matter as a whole.
 #[derive(Clone, Copy, PartialEq, Eq, Debug)]
@@ -52,6 +52,8 @@ pub(crate) enum Place {
     Reconciliation,
     /// To a report on the firm as of the day in the path.
     AsOf(DayReport),
+    /// To a report on the firm of the period in the path.
+    Within(PeriodReport),
     /// To the import of a bank statement.
     Import,
     /// To a text that matching a bank statement gives.
@@ -69,7 +71,8 @@ pub(crate) fn method(place: Place) -> &'static [u8]
         | Place::Entry(EntryPlace::Show)
         | Place::Report(_)
         | Place::Reconciliation
-        | Place::AsOf(_) => b"GET",
+        | Place::AsOf(_)
+        | Place::Within(_) => b"GET",
         Place::Matter(_) | Place::Entry(_) | Place::Import | Place::Match(_) | Place::Dismissal =>
             b"POST",
     }
@@ -147,6 +150,19 @@ const TABLE: &[(&str, Place)] = &[
     ("/firm/journal", Place::Report(Report::Journal)),
     ("/firm/reconciliation/{day}", Place::Reconciliation),
     ("/firm/clients/{day}", Place::AsOf(DayReport::Clients)),
+    (
+        "/firm/outstanding/{day}",
+        Place::AsOf(DayReport::Outstanding),
+    ),
+    (
+        "/firm/receipts/{from}/{to}",
+        Place::Within(PeriodReport::Receipts),
+    ),
+    (
+        "/firm/disbursements/{from}/{to}",
+        Place::Within(PeriodReport::Disbursements),
+    ),
+    ("/firm/month/{day}", Place::AsOf(DayReport::Month)),
     ("/firm/retention", Place::Report(Report::Retention)),
 ];
 

@@ -1,14 +1,14 @@
-use Rattle.portal_requests.proofs.Names.{◌∙◌, ap, refl, sym, reported_as_of}
+use Rattle.portal_requests.proofs.Names.{◌∙◌, ap, day_of, refl, sym, reported_as_of}
 use Rattle.std.proofs.Common.{inr}
-use Rattle.portal_requests.proofs.PathFacts.{day-behind_name}
+use Rattle.portal_requests.proofs.PathFacts.{behind-name}
 use Rattle.portal_requests.proofs.request.read_day_report_at.Goals as goal
 
 pub returns-in-Some : goal.returns-in-Some
 returns-in-Some c =
-    let read = day-behind_name c.args.path.now _ _ _ _ _ c.read.ensures.value c.split_at_slash.ensures.after c.unwrap_or.ensures refl c.get.ensures.lookup in
+    let read = c.read.ensures.value ∙ ap day_of (behind-name c.args.path.now _ _ _ _ c.split_at_slash.ensures.after c.unwrap_or.ensures refl c.get.ensures.lookup) in
     ap (reported_as_of c.args.caller c.args.report) (sym read ∙ c.in-Some.is)
 
 pub returns-in-None : goal.returns-in-None
 returns-in-None c =
-    let read = day-behind_name c.args.path.now _ _ _ _ _ c.read.ensures.value c.split_at_slash.ensures.after c.unwrap_or.ensures refl c.get.ensures.lookup in
+    let read = c.read.ensures.value ∙ ap day_of (behind-name c.args.path.now _ _ _ _ c.split_at_slash.ensures.after c.unwrap_or.ensures refl c.get.ensures.lookup) in
     inr (refl, ap (reported_as_of c.args.caller c.args.report) (sym read ∙ c.in-None.is))
