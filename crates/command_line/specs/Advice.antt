@@ -1,5 +1,5 @@
 -- The advice for words that mean nothing: the usage of the command that they name, an example, and what is wrong.
-use Rattle.std.specs.Prelude.{◌≡◌, ◌≢◌, ◌⊎◌, ◌++◌, ◌+◌, ℕ, Bool, false, List, [], Option, Some, None, codes, fold, if◌then◌else◌, slice_get, take, ⊤}
+use Rattle.std.specs.Prelude.{◌≡◌, ◌≢◌, ◌<◌, ◌⊎◌, ◌++◌, ◌+◌, ℕ, Bool, false, List, [], Option, Some, None, codes, fold, if◌then◌else◌, slice_get, take, ⊤}
 use Rattle.std.specs.List.{list_any}
 use Rattle.std.specs.Option.{option_or}
 use Rattle.std.specs.Str.{bytes_eq}
@@ -30,6 +30,10 @@ command_text commands.Stream = codes "stream"
 command_text commands.Serve = codes "serve"
 command_text commands.Reconcile = codes "reconcile"
 command_text commands.Clients = codes "clients"
+command_text commands.Outstanding = codes "outstanding"
+command_text commands.Receipts = codes "receipts"
+command_text commands.Disbursements = codes "disbursements"
+command_text commands.Month = codes "month"
 command_text commands.Trial = codes "trial"
 command_text commands.Journal = codes "journal"
 command_text commands.Retention = codes "retention"
@@ -40,7 +44,8 @@ command_text commands.Check = codes "check"
 -- how a command is written after the options; without a command, all of them
 abbrev pub command_usage : Option CommandName → Text
 command_usage None = codes "(sheet | import FILE | match FILE | stream | serve PORT COUNT | reconcile DAY | "
-    ++ codes "clients DAY | trial | journal | retention | exceptions | ledger MATTER|FIRM | check)"
+    ++ codes "clients DAY | outstanding DAY | receipts FROM TO | disbursements FROM TO | month DAY | "
+    ++ codes "trial | journal | retention | exceptions | ledger MATTER|FIRM | check)"
 command_usage (Some commands.Sheet) = codes "sheet"
 command_usage (Some commands.Import) = codes "import FILE"
 command_usage (Some commands.Match) = codes "match FILE"
@@ -48,6 +53,10 @@ command_usage (Some commands.Stream) = codes "stream"
 command_usage (Some commands.Serve) = codes "serve PORT COUNT"
 command_usage (Some commands.Reconcile) = codes "reconcile DAY"
 command_usage (Some commands.Clients) = codes "clients DAY"
+command_usage (Some commands.Outstanding) = codes "outstanding DAY"
+command_usage (Some commands.Receipts) = codes "receipts FROM TO"
+command_usage (Some commands.Disbursements) = codes "disbursements FROM TO"
+command_usage (Some commands.Month) = codes "month DAY"
 command_usage (Some commands.Trial) = codes "trial"
 command_usage (Some commands.Journal) = codes "journal"
 command_usage (Some commands.Retention) = codes "retention"
@@ -65,6 +74,10 @@ command_example (Some commands.Stream) = codes "stream < messages.http"
 command_example (Some commands.Serve) = codes "serve 8080 100"
 command_example (Some commands.Reconcile) = codes "reconcile 2026-03-31"
 command_example (Some commands.Clients) = codes "clients 2026-03-31"
+command_example (Some commands.Outstanding) = codes "outstanding 2026-03-31"
+command_example (Some commands.Receipts) = codes "receipts 2026-03-01 2026-03-31"
+command_example (Some commands.Disbursements) = codes "disbursements 2026-03-01 2026-03-31"
+command_example (Some commands.Month) = codes "month 2026-03-31"
 command_example (Some commands.Trial) = codes "trial"
 command_example (Some commands.Journal) = codes "journal"
 command_example (Some commands.Retention) = codes "retention"
@@ -76,6 +89,7 @@ command_example (Some commands.Check) = codes "check"
 abbrev pub wrong_text : Wrong → Text
 wrong_text (wrong.Word text) = text.now ++ codes " is not taken here"
 wrong_text (wrong.NoDay text) = text.now ++ codes " is no day: write it as 2026-03-16"
+wrong_text (wrong.BeforeFirst text) = text.now ++ codes " is before the first day: write the earlier day first"
 wrong_text (wrong.NoMatter text) = text.now ++ codes " is neither a matter's number, as 000001, nor FIRM"
 wrong_text (wrong.NoPort text) = text.now ++ codes " is no port from 1024 to 65535"
 wrong_text (wrong.NoCount text) = text.now ++ codes " is no count from 1 to 1000000"
@@ -201,11 +215,36 @@ IsWrongToday values _ = ⊥
 -- the operand of the command with this name is a day
 abbrev pub TakesDay : Text → Type 0
 TakesDay name = (name ≡ codes "reconcile") ⊎ (name ≡ codes "clients")
+    ⊎ (name ≡ codes "outstanding") ⊎ (name ≡ codes "month")
+
+-- the operands of the command with this name are the two days of a period
+abbrev pub TakesPeriod : Text → Type 0
+TakesPeriod name = (name ≡ codes "receipts") ⊎ (name ≡ codes "disbursements")
+
+-- both are days, and the second is earlier
+abbrev pub AreReversed : Option ℕ → Option ℕ → Type 0
+AreReversed (Some from) (Some to) = to < from
+AreReversed _ _ = ⊥
+
+-- of two texts that give no period, this is wrong
+abbrev pub IsNoPeriod : Text → Text → Wrong → Type 0
+IsNoPeriod from to (wrong.NoDay text) = ((text.now ≡ from) ⊎ (text.now ≡ to)) × (day_of text.now ≡ None)
+IsNoPeriod from to (wrong.BeforeFirst text) = (text.now ≡ to) × AreReversed (day_of from) (day_of to)
+IsNoPeriod from to _ = ⊥
+
+-- of the values FROM and TO, this is wrong
+abbrev pub IsWrongPeriod : Option Text → Option Text → Wrong → Type 0
+IsWrongPeriod (Some from) (Some to) w = IsNoPeriod from to w
+IsWrongPeriod _ _ w = ⊥
 
 -- of the values of a command with this name, this one is wrong
 abbrev pub IsWrongOperand : Text → List Row → Wrong → Type 0
 IsWrongOperand name values (wrong.NoDay text) =
     TakesDay name × (first_of (codes "DAY") values ≡ Some text.now) × (day_of text.now ≡ None)
+    ⊎ TakesPeriod name
+    × IsWrongPeriod (first_of (codes "FROM") values) (first_of (codes "TO") values) (wrong.NoDay text)
+IsWrongOperand name values (wrong.BeforeFirst text) = TakesPeriod name
+    × IsWrongPeriod (first_of (codes "FROM") values) (first_of (codes "TO") values) (wrong.BeforeFirst text)
 IsWrongOperand name values (wrong.NoMatter text) =
     (name ≡ codes "ledger") × (first_of (codes "MATTER") values ≡ Some text.now)
     × (text.now ≢ codes "FIRM") × (matter_of text.now ≡ None)

@@ -1,5 +1,5 @@
 -- The program's command line as a parser of words sees it, and the plan that words mean.
-use Rattle.std.specs.Prelude.{◌≡◌, ◌⊎◌, ℕ, Bool, List, [], ◌∷◌, Option, Some, None, IsSomeAnd, false, true, codes, map, option_and_then, ⊤}
+use Rattle.std.specs.Prelude.{◌≡◌, ◌≤◌, ◌⊎◌, ℕ, Bool, List, [], ◌∷◌, Option, Some, None, IsSomeAnd, false, true, codes, map, option_and_then, ⊤}
 use Rattle.std.specs.Borrow.{Bor}
 use Rattle.std.specs.Option.{option_map_or}
 use Rattle.std.specs.Str.{bytes_eq}
@@ -9,6 +9,7 @@ use Rattle.clap.specs.declared.builder.ArgAction.TheVariants as action
 use Rattle.clap.specs.declared.error.kind.ErrorKind.{ErrorKind}
 use Rattle.clap.specs.declared.error.kind.ErrorKind.TheVariants as kind
 use Rattle.clap.specs.declared.parser.matches.ArgMatches.{ArgMatches}
+use Rattle.trust_base.specs.Periods.{Span}
 use Rattle.trust_base.specs.Texts.{day_of, matter_of}
 use Rattle.command_line.specs.Numerals.{IsCount, IsPort}
 use Rattle.command_line.specs.declared.command.CliFault.{CliFault}
@@ -16,9 +17,11 @@ use Rattle.command_line.specs.declared.command.CliFault.TheVariants as faults
 use Rattle.command_line.specs.declared.command.Task.{Task}
 use Rattle.command_line.specs.declared.command.Task.TheVariants as tasks
 use Rattle.command_line.specs.declared.command.ReportCommand.{ReportCommand}
-use Rattle.command_line.specs.declared.command.ReportCommand.TheVariants.{Reconcile, AsOf, Ledger, Firm}
+use Rattle.command_line.specs.declared.command.ReportCommand.TheVariants.{Reconcile, AsOf, Within, Ledger, Firm}
 use Rattle.trust_desk.specs.declared.requests.DayReport.{DayReport}
 use Rattle.trust_desk.specs.declared.requests.DayReport.TheVariants as day_reports
+use Rattle.trust_desk.specs.declared.requests.PeriodReport.{PeriodReport}
+use Rattle.trust_desk.specs.declared.requests.PeriodReport.TheVariants as period_reports
 use Rattle.trust_desk.specs.declared.requests.Report.{Report}
 use Rattle.trust_desk.specs.declared.requests.Report.TheVariants as reports
 
@@ -60,10 +63,15 @@ run_apps = command_app (codes "sheet") [] ∷ command_app (codes "import") (code
     ∷ command_app (codes "match") (codes "FILE" ∷ []) ∷ command_app (codes "stream") []
     ∷ command_app (codes "serve") (codes "PORT" ∷ codes "COUNT" ∷ []) ∷ command_app (codes "check") [] ∷ []
 
--- the commands of reports: `reconcile DAY`, `clients DAY`, `trial`, `journal`, `retention`, `exceptions`,
--- `ledger MATTER`; instead of a matter's number there may be the word FIRM
+-- the commands of reports: `reconcile DAY`, `clients DAY`, `outstanding DAY`, `receipts FROM TO`,
+-- `disbursements FROM TO`, `month DAY`, `trial`, `journal`, `retention`, `exceptions`, `ledger MATTER`; instead of a
+-- matter's number there may be the word FIRM
 unfoldable pub report_apps : List App
 report_apps = command_app (codes "reconcile") (codes "DAY" ∷ []) ∷ command_app (codes "clients") (codes "DAY" ∷ [])
+    ∷ command_app (codes "outstanding") (codes "DAY" ∷ [])
+    ∷ command_app (codes "receipts") (codes "FROM" ∷ codes "TO" ∷ [])
+    ∷ command_app (codes "disbursements") (codes "FROM" ∷ codes "TO" ∷ [])
+    ∷ command_app (codes "month") (codes "DAY" ∷ [])
     ∷ command_app (codes "trial") []
     ∷ command_app (codes "journal") [] ∷ command_app (codes "retention") [] ∷ command_app (codes "exceptions") []
     ∷ command_app (codes "ledger") (codes "MATTER" ∷ []) ∷ []
@@ -113,19 +121,34 @@ firm_report_name reports.OwnLedger = codes "ledger"
 -- the name of the command of a report as of a day
 abbrev pub day_report_name : DayReport → Text
 day_report_name day_reports.Clients = codes "clients"
+day_report_name day_reports.Outstanding = codes "outstanding"
+day_report_name day_reports.Month = codes "month"
+
+-- the name of the command of a report of a period
+abbrev pub period_report_name : PeriodReport → Text
+period_report_name period_reports.Receipts = codes "receipts"
+period_report_name period_reports.Disbursements = codes "disbursements"
 
 -- the name of the command of what is to be printed
 abbrev pub report_name : ReportCommand → Text
 report_name (Reconcile day) = codes "reconcile"
 report_name (AsOf report day) = day_report_name report
+report_name (Within report period) = period_report_name report
 report_name (Ledger matter) = codes "ledger"
 report_name (Firm report) = firm_report_name report
 
--- the values of the command are the operands: the text of a day, a matter's six digits, or, for the card of the firm's
--- own money alone, the word for the firm
+-- the values of the command are the two days of a period: the first, and one that is not earlier
+pub record IsPeriodGiven (values : List Row) (period : Span) : Type 0 where
+  pub from_given : option_and_then day_of (first_of (codes "FROM") values) ≡ Some period.from
+  pub to_given : option_and_then day_of (first_of (codes "TO") values) ≡ Some period.to
+  pub order : period.from ≤ period.to
+
+-- the values of the command are the operands: the text of a day, those of a period's days, a matter's six digits, or,
+-- for the card of the firm's own money alone, the word for the firm
 abbrev pub HasReportOperands : List Row → ReportCommand → Type 0
 HasReportOperands values (Reconcile day) = option_and_then day_of (first_of (codes "DAY") values) ≡ Some day
 HasReportOperands values (AsOf report day) = option_and_then day_of (first_of (codes "DAY") values) ≡ Some day
+HasReportOperands values (Within report period) = IsPeriodGiven values period
 HasReportOperands values (Ledger matter) = option_and_then matter_of (first_of (codes "MATTER") values) ≡ Some matter
 HasReportOperands values (Firm reports.OwnLedger) = first_of (codes "MATTER") values ≡ Some (codes "FIRM")
 HasReportOperands values (Firm report) = ⊤

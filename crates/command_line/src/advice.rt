@@ -22,6 +22,14 @@ pub enum CommandName {
     Reconcile,
     /// Print the list of the clients' ledgers as of a day.
     Clients,
+    /// Print the outstanding items as of a day.
+    Outstanding,
+    /// Print the journal of receipts of a period.
+    Receipts,
+    /// Print the journal of disbursements of a period.
+    Disbursements,
+    /// Print what is filed at month's end.
+    Month,
     /// Print the trial balance.
     Trial,
     /// Print the journal.
@@ -53,8 +61,10 @@ pub enum Wrong<'a> {
     /// The command line does not accept this word where it stands: it is no option and no command, or is one too
     /// many.
     Word(&'a str),
-    /// The value of `--today`, or the operand of `reconcile` or `clients`, is not a day.
+    /// The value of `--today`, or an operand that has to be one, is not a day.
     NoDay(&'a str),
+    /// The operand TO is a day before FROM.
+    BeforeFirst(&'a str),
     /// The operand of `ledger` is neither a matter's number nor the word for the firm.
     NoMatter(&'a str),
     /// The first operand of `serve` is not a port.
@@ -94,6 +104,10 @@ pub fn command_called(name: &str) -> Option<CommandName>
         "serve" => Some(CommandName::Serve),
         "reconcile" => Some(CommandName::Reconcile),
         "clients" => Some(CommandName::Clients),
+        "outstanding" => Some(CommandName::Outstanding),
+        "receipts" => Some(CommandName::Receipts),
+        "disbursements" => Some(CommandName::Disbursements),
+        "month" => Some(CommandName::Month),
         "trial" => Some(CommandName::Trial),
         "journal" => Some(CommandName::Journal),
         "retention" => Some(CommandName::Retention),
@@ -111,6 +125,7 @@ fn usage_of(command: Option<CommandName>) -> &'static str
     match command {
         None =>
             "(sheet | import FILE | match FILE | stream | serve PORT COUNT | reconcile DAY | clients DAY | \
+            outstanding DAY | receipts FROM TO | disbursements FROM TO | month DAY | \
             trial | journal | retention | exceptions | ledger MATTER|FIRM | check)",
         Some(CommandName::Sheet) => "sheet",
         Some(CommandName::Import) => "import FILE",
@@ -119,6 +134,10 @@ fn usage_of(command: Option<CommandName>) -> &'static str
         Some(CommandName::Serve) => "serve PORT COUNT",
         Some(CommandName::Reconcile) => "reconcile DAY",
         Some(CommandName::Clients) => "clients DAY",
+        Some(CommandName::Outstanding) => "outstanding DAY",
+        Some(CommandName::Receipts) => "receipts FROM TO",
+        Some(CommandName::Disbursements) => "disbursements FROM TO",
+        Some(CommandName::Month) => "month DAY",
         Some(CommandName::Trial) => "trial",
         Some(CommandName::Journal) => "journal",
         Some(CommandName::Retention) => "retention",
@@ -140,6 +159,10 @@ fn example_of(command: Option<CommandName>) -> &'static str
         Some(CommandName::Stream) => "stream < messages.http",
         Some(CommandName::Serve) => "serve 8080 100",
         Some(CommandName::Clients) => "clients 2026-03-31",
+        Some(CommandName::Outstanding) => "outstanding 2026-03-31",
+        Some(CommandName::Receipts) => "receipts 2026-03-01 2026-03-31",
+        Some(CommandName::Disbursements) => "disbursements 2026-03-01 2026-03-31",
+        Some(CommandName::Month) => "month 2026-03-31",
         Some(CommandName::Trial) => "trial",
         Some(CommandName::Journal) => "journal",
         Some(CommandName::Retention) => "retention",
@@ -156,6 +179,10 @@ impl fmt::Display for Wrong<'_> {
         match *self {
             Wrong::Word(text) => write!(f, "{text} is not taken here"),
             Wrong::NoDay(text) => write!(f, "{text} is no day: write it as 2026-03-16"),
+            Wrong::BeforeFirst(text) => write!(
+                f,
+                "{text} is before the first day: write the earlier day first"
+            ),
             Wrong::NoMatter(text) => write!(
                 f,
                 "{text} is neither a matter's number, as 000001, nor FIRM"

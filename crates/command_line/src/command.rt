@@ -6,7 +6,8 @@ ghost use Rattle.clap.specs.Words.{app_of, first_of, found_of, kind_of, rows_of}
 ghost use Rattle.clap.specs.declared.builder.command.Command.TheViews.{out-Command};
 ghost use Rattle.trust_base.specs.Texts.{day_of};
 ghost use Rattle.command_line.specs.Numerals.{IsCount, IsNumberBetween, IsPort};
-ghost use Rattle.command_line.specs.Program.{IsParse, IsRefused, IsTask, LeavesNoPlan, Means};
+ghost use Rattle.trust_base.specs.Periods.{Span};
+ghost use Rattle.command_line.specs.Program.{IsParse, IsPeriodGiven, IsRefused, IsTask, LeavesNoPlan, Means};
 ghost use Rattle.command_line.specs.Program.{apps_of, command_app, db_of, fault_by, quiet_of, with_commands, words_of};
 ghost use Rattle.command_line.specs.declared.command.Task.{Task};
 
@@ -14,8 +15,8 @@ use clap::error::{Error, ErrorKind};
 use clap::{Arg, ArgAction, ArgMatches, Command};
 use itoa::Buffer;
 use std::alloc::{AllocError, Global};
-use trust_base::{Day, MatterNo};
-use trust_desk::{DayReport, Report};
+use trust_base::{Day, MatterNo, Period};
+use trust_desk::{DayReport, PeriodReport, Report};
 
 /// What a run is to print.
 #[derive(Clone, Copy, PartialEq, Eq, Debug)]
@@ -24,6 +25,8 @@ pub enum ReportCommand {
     Reconcile(Day),
     /// This report on the firm as of this day.
     AsOf(DayReport, Day),
+    /// This report on the firm of this period.
+    Within(PeriodReport, Period),
     /// The ledger card of this matter.
     Ledger(MatterNo),
     /// This report on the firm.
@@ -70,8 +73,8 @@ pub struct Plan<'a> {
 /// Why words give no plan.
 #[derive(Clone, Copy, PartialEq, Eq, Debug, thiserror::Error)]
 pub enum CliFault {
-    /// The words do not fit the command line, or ask for help, or a day, a matter's number, a port or a count in them
-    /// is invalid.
+    /// The words do not fit the command line, or ask for help, or a day, a period, a matter's number, a port or a count
+    /// in them is invalid.
     #[error("the command line is invalid")]
     Line,
     /// Out of memory.
@@ -142,6 +145,20 @@ fn day_operand(values: &ArgMatches, id: &str) -> Option<Day>
     Day::read(values.get_str(id)?.as_bytes())
 }
 
+// Returns the period that the operands FROM and TO give; `None` without them, or if one is not a day, or TO is before
+// FROM.
+fn period_operand(values: &ArgMatches) -> Option<Period>
+    ensures some { IfSome result (IsPeriodGiven (rows_of (found_of values.now))) }
+    ensures none { IfNone result ((period : Span) → ¬ IsPeriodGiven (rows_of (found_of values.now)) period) }
+{
+    let (first, last) = (day_operand(values, "FROM")?, day_operand(values, "TO")?);
+    // The contract of the call below does not say that it refuses them.
+    if last.get() < first.get() {
+        return None;
+    }
+    Period::new(first, last)
+}
+
 /// Whether a text is the word FIRM, which may be given instead of a matter's number.
 pub fn is_firm(text: &str) -> bool
     ensures { result ≡ bytes_eq text.now (codes "FIRM") }
@@ -170,6 +187,22 @@ fn task_of<'a>(name: &str, values: &ArgMatches<'a>) -> Option<Task<'a>>
             let day = day_operand(values, "DAY")?;
             Some(Task::Report(ReportCommand::AsOf(DayReport::Clients, day)))
         }
+        "outstanding" => {
+            let day = day_operand(values, "DAY")?;
+            Some(Task::Report(ReportCommand::AsOf(DayReport::Outstanding, day)))
+        }
+        "receipts" => {
+            let period = period_operand(values)?;
+            Some(Task::Report(ReportCommand::Within(PeriodReport::Receipts, period)))
+        }
+        "disbursements" => {
+            let period = period_operand(values)?;
+            Some(Task::Report(ReportCommand::Within(PeriodReport::Disbursements, period)))
+        }
+        "month" => {
+            let day = day_operand(values, "DAY")?;
+            Some(Task::Report(ReportCommand::AsOf(DayReport::Month, day)))
+        }
         "trial" => Some(Task::Report(ReportCommand::Firm(Report::Trial))),
         "journal" => Some(Task::Report(ReportCommand::Firm(Report::Journal))),
         "retention" => Some(Task::Report(ReportCommand::Firm(Report::Retention))),
@@ -195,6 +228,10 @@ const COMMANDS: &[(&str, &[&str])] = &[
     ("check", &[]),
     ("reconcile", &["DAY"]),
     ("clients", &["DAY"]),
+    ("outstanding", &["DAY"]),
+    ("receipts", &["FROM", "TO"]),
+    ("disbursements", &["FROM", "TO"]),
+    ("month", &["DAY"]),
     ("trial", &[]),
     ("journal", &[]),
     ("retention", &[]),

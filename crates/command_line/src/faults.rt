@@ -5,7 +5,7 @@ ghost use Rattle.std.specs.Str.{bytes_eq};
 ghost use Rattle.std.specs.List.{list_any};
 ghost use Rattle.clap.specs.Words.{fault_of, found_of, rows_of, subcommand_rows_of};
 ghost use Rattle.trust_base.specs.Texts.{day_of, matter_of};
-ghost use Rattle.command_line.specs.Advice.{IsFront, IsWrong, IsWrongOperand, IsWrongToday, IsWrongValue};
+ghost use Rattle.command_line.specs.Advice.{IsFront, IsNoPeriod, IsWrong, IsWrongOperand, IsWrongToday, IsWrongValue};
 ghost use Rattle.command_line.specs.Advice.{LacksValue, LacksValueAt, Names, front_by, last_setting, names_day};
 ghost use Rattle.command_line.specs.Advice.{setting_named};
 ghost use Rattle.command_line.specs.Numerals.{IsCount, IsPort};
@@ -16,7 +16,7 @@ use crate::command::{count_of, is_firm, parse, port_of};
 use clap::ArgMatches;
 use clap::error::ErrorKind;
 use std::alloc::Global;
-use trust_base::{Day, MatterNo};
+use trust_base::{Day, MatterNo, Period};
 
 // Returns the kind of error with which the command line refuses the words, if it does. Out of memory is one of them.
 fn failure_of<'a>(alloc: Global, words: &'a [&'a str]) -> Option<ErrorKind>
@@ -188,6 +188,22 @@ fn no_day<'a>(text: &'a str) -> Option<Wrong<'a>>
     }
 }
 
+// Reports two texts that give no period: one of them is not a day, or the second is the earlier day.
+fn no_period<'a>(from: &'a str, to: &'a str) -> Option<Wrong<'a>>
+    ensures { IfSome result (IsNoPeriod from.entry.now to.entry.now) }
+{
+    let Some(first) = Day::read(from.as_bytes()) else {
+        return Some(Wrong::NoDay(from));
+    };
+    let Some(last) = Day::read(to.as_bytes()) else {
+        return Some(Wrong::NoDay(to));
+    };
+    match Period::new(first, last) {
+        Some(_) => None,
+        None => Some(Wrong::BeforeFirst(to)),
+    }
+}
+
 // Reports a text that is neither a matter's number nor the word for the firm.
 fn no_card<'a>(text: &'a str) -> Option<Wrong<'a>>
     ensures { IfSome result (λ wrong. (wrong ≡ Wrong.NoMatter text.entry)
@@ -230,8 +246,10 @@ fn wrong_operand<'a>(name: &str, values: &ArgMatches<'a>) -> Option<Wrong<'a>>
     ensures { IfSome result (IsWrongOperand name.now (rows_of (found_of values.now))) }
 {
     match name {
-        "reconcile" => no_day(values.get_str("DAY")?),
-        "clients" => no_day(values.get_str("DAY")?),
+        "reconcile" | "clients" | "outstanding" | "month" => no_day(values.get_str("DAY")?),
+        "receipts" | "disbursements" => {
+            no_period(values.get_str("FROM")?, values.get_str("TO")?)
+        }
         "ledger" => no_card(values.get_str("MATTER")?),
         "serve" => match no_port(values.get_str("PORT")?) {
             Some(wrong) => Some(wrong),

@@ -13,12 +13,13 @@
 //! - `command_line::advice_of`, `notice_of`: what standard error says of a wrong command line: a word is called wrong
 //!   only if it is one of the words, the grammar accepts those before it so far, and refuses them with it. A value is
 //!   called wrong only if it is that of `--today` or of an operand, and is no day, matter's number or `FIRM`, port or
-//!   count. Something is called missing or repeated only if the parser's error says so; the option that is then named
-//!   is the last one, if the words before it are accepted and it is refused as a repetition, or if it needs a value and
-//!   the next word gives none. The usage and the example are those of the command whose name stands where one is
-//!   wanted, or of the whole program (`command`, `wrong`). Of a `FileFault` it names the path that is imported or matched
-//!   by the words, or standard input; of a `NetworkFault` the port that they say. The texts are those of their
-//!   definitions (`advice_text`, `notice_text`). That something is said whenever memory suffices is only tested.
+//!   count, or is TO and a day before FROM. Something is called missing or repeated only if the parser's error says so;
+//!   the option that is then named is the last one, if the words before it are accepted and it is refused as a
+//!   repetition, or if it needs a value and the next word gives none. The usage and the example are those of the
+//!   command whose name stands where one is wanted, or of the whole program (`command`, `wrong`). Of a `FileFault` it
+//!   names the path that is imported or matched by the words, or standard input; of a `NetworkFault` the port that they
+//!   say. The texts are those of their definitions (`advice_text`, `notice_text`). That something is said whenever
+//!   memory suffices is only tested.
 //! - `command_line::laws::import_is_no_sheet`, `import_is_no_stream`, `match_reads_nothing`, `report_reads_nothing`,
 //!   `serve_reads_nothing`, `check_reads_nothing`: laws: words that mean an import, a match, a report, a check, or
 //!   serving connections mean no sheet and no stream.
