@@ -23,6 +23,7 @@ use Rattle.cashier.specs.declared.outcome.Outcome.TheVariants as outcome
 abbrev pub asked_for : ReportCommand → Request
 asked_for (commands.Reconcile day) = requests.Reconcile Cashier day
 asked_for (commands.AsOf report day) = requests.AsOf Cashier report day
+asked_for (commands.Within report period) = requests.Within Cashier report period
 asked_for (commands.Ledger matter) = requests.Matter matter Cashier Accounting
 asked_for (commands.Firm report) = requests.Report Cashier report
 

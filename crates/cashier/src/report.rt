@@ -25,6 +25,9 @@ fn request_for(command: ReportCommand) -> Request
     match command {
         ReportCommand::Reconcile(day) => Request::Reconcile(Caller::Cashier, day),
         ReportCommand::AsOf(report, day) => Request::AsOf(Caller::Cashier, report, day),
+        ReportCommand::Within(report, period) => {
+            Request::Within(Caller::Cashier, report, period)
+        }
         ReportCommand::Ledger(no) => Request::Matter {
             no,
             caller: Caller::Cashier,
@@ -128,6 +131,7 @@ pub fn run_report<M: Remarks, W: Write, B: Book>(
         ReportCommand::Reconcile(day) if remarks.are_told() => ClearedLines::up_to(alloc, *day),
         ReportCommand::Reconcile(_)
         | ReportCommand::AsOf(_, _)
+        | ReportCommand::Within(_, _)
         | ReportCommand::Ledger(_)
         | ReportCommand::Firm(_) => ClearedLines::none(alloc),
     };
@@ -149,6 +153,7 @@ pub fn run_report<M: Remarks, W: Write, B: Book>(
         }
         ReportCommand::Firm(Report::Trial | Report::Journal | Report::Retention | Report::OwnLedger)
         | ReportCommand::AsOf(_, _)
+        | ReportCommand::Within(_, _)
         | ReportCommand::Ledger(_) => {}
     }
     outcome
