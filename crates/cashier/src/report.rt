@@ -9,7 +9,7 @@ ghost use Rattle.trust_store.specs.Calls.{IsRead};
 ghost use Rattle.trust_store.specs.Crashes.{LeavesOr};
 
 use crate::outcome::{Outcome, outcome_of_reply, write_reply};
-use cashier_remarks::{ExceptionTelling, NowTelling, Remark, Remarks, TwiceTelling};
+use cashier_remarks::{ExceptionTelling, NowReport, NowTelling, Remark, Remarks, TwiceTelling};
 use command_line::ReportCommand;
 use std::alloc::Global;
 use std::io::Write;
@@ -99,11 +99,24 @@ fn tell_reasons<M: Remarks, B: Book>(alloc: Global, remarks: &M, desk: &mut Desk
     }
 }
 
+// Reports that a report goes up to a day that is after the business day.
+fn tell_of_day_to_come<M: Remarks>(remarks: &M, command: ReportCommand, today: Day) {
+    let last = match command {
+        ReportCommand::Reconcile(day) | ReportCommand::AsOf(_, day) => day,
+        ReportCommand::Within(_, period) => period.to(),
+        ReportCommand::Ledger(_) | ReportCommand::Firm(_) => return,
+    };
+    if today.get() < last.get() {
+        remarks.tell(&Remark::ToCome { today, last });
+    }
+}
+
 /// Prints a report of a desk's book on a business day, as the cashier: its text as it is, or the line of its refusal.
-/// After the exceptions, a person is told why each is one, or that an import would now accept it. After these and a
-/// reconciliation, which bank lines look like the same line. After a trial balance or a journal of a day that
-/// `is_past`, that there is later work. The contract does not say what is told. A fault that ends it is reported too,
-/// but is not a fault of the run. If nobody is told, the book is not read for it.
+/// After a report up to a day that has not come, a person is told so. After the exceptions, why each is one, or that an
+/// import would now accept it. After these and a reconciliation, which bank lines look like the same line. After a
+/// trial balance or a journal of a day that `is_past`, that there is later work. The contract does not say what is
+/// told. A fault that ends it is reported too, but is not a fault of the run. If nobody is told, the book is not read
+/// for it.
 ///
 /// The outcome is `Done` if the text was written, and `Refused` if the line of a refusal was. If the store failed or
 /// memory ran out, the line for that was printed, and it is `StoreFault` or `MemoryFault`. If a write failed, it is
@@ -142,14 +155,20 @@ pub fn run_report<M: Remarks, W: Write, B: Book>(
     if !remarks.are_told() {
         return outcome;
     }
+    tell_of_day_to_come(remarks, command, today);
     match &command {
         ReportCommand::Firm(Report::Exceptions) => tell_reasons(alloc, remarks, desk, today),
         ReportCommand::Reconcile(_) => tell_lines(remarks, &TwiceTelling { remarks }, lines),
         ReportCommand::Firm(Report::Trial) if is_past => {
-            tell_lines(remarks, &NowTelling { today, remarks }, lines)
+            tell_lines(
+                remarks,
+                &NowTelling::new(NowReport::Trial, today, remarks),
+                lines,
+            )
         }
         ReportCommand::Firm(Report::Journal) if is_past => {
-            tell_rows(alloc, remarks, &NowTelling { today, remarks }, desk, today)
+            let telling = NowTelling::new(NowReport::Journal, today, remarks);
+            tell_rows(alloc, remarks, &telling, desk, today)
         }
         ReportCommand::Firm(Report::Trial | Report::Journal | Report::Retention | Report::OwnLedger)
         | ReportCommand::AsOf(_, _)

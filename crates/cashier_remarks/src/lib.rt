@@ -18,8 +18,8 @@ pub use record::{Verb, VerbForm, answer_record};
 pub use remarks::{
     AppliedLines, AskedRemarks, Caution, ClearedTwice, EarlierLine, EntryFault, EntryLine,
     ExceptionRemark, ExceptionTelling, Excerpt, FileRemark, HeaderRemark, LineFault, LineRemark,
-    NoRemarks, NowTelling, OwnLine, Place, Plain, RecordFault, RecordRemark, RefusedRecord, Remark,
-    Remarks, StatementTelling, Telling, TwiceTelling, UnmatchedLine, VerbFault, is_past,
-    is_printable, tell_matched, tell_not_matched, tell_of_day, tell_of_earlier, tell_of_loss,
-    tell_of_new_book, tell_of_no_book,
+    NoRemarks, NowReport, NowTelling, OwnLine, Place, Plain, RecordFault, RecordRemark,
+    RefusedRecord, Remark, Remarks, StatementTelling, Telling, TwiceTelling, UnmatchedLine,
+    VerbFault, is_past, is_printable, tell_matched, tell_not_matched, tell_of_day, tell_of_earlier,
+    tell_of_loss, tell_of_new_book, tell_of_no_book,
 };

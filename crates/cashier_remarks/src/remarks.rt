@@ -32,7 +32,7 @@ mod verbs;
 mod whole_file;
 
 pub use beginning::{is_past, tell_of_day, tell_of_new_book, tell_of_no_book};
-pub use beside::{ClearedTwice, NowTelling, TwiceTelling};
+pub use beside::{ClearedTwice, LaterWork, NowReport, NowTelling, TwiceTelling};
 pub use caution::Caution;
 use check::{write_flaw, write_unread};
 pub use earlier_line::{AppliedLines, EarlierLine, tell_of_earlier};
@@ -99,7 +99,9 @@ pub enum Remark<'a> {
     /// Two bank lines look like the same line.
     ClearedTwice(ClearedTwice<'a>),
     /// A report names a business day, but has today's figures: a matter was changed on a later day.
-    OfNow { today: Day, last: Day },
+    OfNow(LaterWork),
+    /// A report goes up to a day that is after the business day.
+    ToCome { today: Day, last: Day },
     /// Reporting what goes with a report was ended by this fault.
     RowsEnd(StoreFault),
     /// The lines that a book has before an import could not be read, because of this fault.
@@ -194,10 +196,10 @@ impl fmt::Display for Remark<'_> {
                 write!(f, "{fault}: no reasons are told of the other exceptions")
             }
             Remark::ClearedTwice(told) => told.fmt(f),
-            Remark::OfNow { today, last } => write!(
+            Remark::OfNow(told) => told.fmt(f),
+            Remark::ToCome { today, last } => write!(
                 f,
-                "the book has work of {last}: these figures are of now, not of {today}; \
-                reconcile {today} and clients {today} have those of that day"
+                "{last} is after {today}, the business day: what is booked until then is not in these figures"
             ),
             Remark::RowsEnd(fault) => write!(f, "{fault}: nothing more is told beside the report"),
             Remark::EarlierEnd(fault) => write!(

@@ -65,13 +65,58 @@ impl<M: Remarks> RowWatch for TwiceTelling<'_, M> {
     fn worked_on(&self, _last: Day) {}
 }
 
-/// Reports what they show in addition to a report of today's figures that names a business day.
+/// A report of today's figures that names a business day.
+#[derive(Clone, Copy)]
+pub enum NowReport {
+    Trial,
+    Journal,
+}
+
+/// Such a report, its business day, and the last day on which a matter was changed.
+#[derive(Clone, Copy)]
+pub struct LaterWork {
+    pub report: NowReport,
+    pub today: Day,
+    pub last: Day,
+}
+
+impl fmt::Display for LaterWork {
+    fn fmt<W: fmt::Write>(&self, f: &mut fmt::Formatter<W>) -> fmt::Result {
+        let (today, last) = (self.today, self.last);
+        write!(
+            f,
+            "the book has work of {last}: these figures are of now, not of {today}; "
+        )?;
+        match self.report {
+            NowReport::Trial => write!(
+                f,
+                "reconcile {today} and clients {today} have those of that day"
+            ),
+            NowReport::Journal => write!(
+                f,
+                "receipts FROM {today} and disbursements FROM {today} have those up to that day"
+            ),
+        }
+    }
+}
+
+/// Reports what they show in addition to such a report.
 #[derive(Drop)]
 pub struct NowTelling<'a, M> {
-    /// The business day.
-    pub today: Day,
-    /// Receives the remarks.
-    pub remarks: &'a M,
+    report: NowReport,
+    today: Day,
+    remarks: &'a M,
+}
+
+impl<'a, M> NowTelling<'a, M> {
+    /// Makes it for a report that names this business day.
+    pub fn new(report: NowReport, today: Day, remarks: &'a M) -> NowTelling<'a, M> {
+        NowTelling {
+            report,
+            today,
+            remarks,
+        }
+    }
 }
 
 impl<M: Remarks> RowWatch for NowTelling<'_, M> {
@@ -79,10 +124,11 @@ impl<M: Remarks> RowWatch for NowTelling<'_, M> {
 
     fn worked_on(&self, last: Day) {
         if self.today.get() < last.get() {
-            self.remarks.tell(&Remark::OfNow {
+            self.remarks.tell(&Remark::OfNow(LaterWork {
+                report: self.report,
                 today: self.today,
                 last,
-            });
+            }));
         }
     }
 }
