@@ -9,7 +9,7 @@ use Rattle.trust_base.specs.declared.refusal.Field.{Field}
 use Rattle.trust_base.specs.declared.refusal.Field.TheVariants as field
 use Rattle.trust_matter.specs.declared.ask.Ask.{Ask}
 use Rattle.trust_desk.proofs.Own.{other-rows, same-reply, same-rows}
-use Rattle.cashier_remarks.specs.declared.record.Verb.{Verb}
+use Rattle.day_sheet.specs.declared.record.Verb.{Verb}
 
 -- ---- the matter of a record is that of what the desk hears
 

@@ -1,7 +1,7 @@
 -- The names that the proofs of this crate cite, passed on from one place. Declares nothing.
 pub use Rattle.byte_streams.specs.CsvRecords.{rest_records}
-pub use Rattle.cashier_remarks.specs.Records.{ask_of, by_cashier, dismissing, dismissing_in, heard_as, is_dismissal, of_matter, of_verb, text_at, verb_in}
-unfoldable pub use Rattle.cashier_remarks.specs.Records.{asked_of, heard_of}
+pub use Rattle.day_sheet.specs.Records.{ask_of, by_cashier, dismissing, dismissing_in, heard_as, is_dismissal, of_matter, of_verb, text_at, verb_in}
+unfoldable pub use Rattle.day_sheet.specs.Records.{asked_of, heard_of}
 pub use Rattle.clap.specs.Words.{Text}
 pub use Rattle.command_line.specs.Program.{Means, MeansNothing, db_of, words_of}
 pub use Rattle.csv.specs.Reading.{ReadRecord, Ready, default_config, source_of}

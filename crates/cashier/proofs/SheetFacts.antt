@@ -2,7 +2,7 @@
 use Rattle.cashier.proofs.Names.{◌≡◌, ◌⊎◌, ◌∙◌, ◌<◌, ◌≤◌, ◌+◌, ◌++◌, nat_lt, IfSome, ◌∷◌, ◌&&◌, ◌||◌, not, ℕ, Bool, true, false, List, [], length, take, Option, Some, None, Result, Ok, Err, inl, inr, refl, sym, ap, arith, append_assoc, length-append, Appends-trans, nat_tests, append-nil, take-append-le, Appends, concat, Refusal, Store, Memory, Firm, Steps, firm_step, Heard, is_fault_body, is_fault_reply, refused, Body, Refused, Reply, heard_of, Cut, CutsLine, Ends, LargeEnds, Leaves, RunEnds, sheet_records, all_accepted, body_line, end_of, firm_from, is_accepting, lines_from, ran_by, ran_refused, record_step, refusal_line, reply_line, RecordEnds, SheetEnd, MAX_FILE_BYTES, ints}
 use Rattle.std.proofs.Math.Seq.{take-append-add, take-append_seam}
 use Rattle.trust_base.specs.Refusals.{is_fault}
-use Rattle.cashier_remarks.proofs.RecordFacts.{steps-fault}
+use Rattle.day_sheet.proofs.RecordFacts.{steps-fault}
 use Rattle.cashier.specs.declared.sheet.SheetEnd.TheVariants as end
 
 -- ---- parts of a text that is written piece after piece

@@ -22,7 +22,7 @@ use Rattle.trust_desk.specs.Replies.{is_fault_reply}
 use Rattle.trust_desk.specs.declared.requests.Body.{Body}
 use Rattle.trust_desk.specs.declared.requests.Body.TheVariants.{Json, Refused, Text}
 use Rattle.trust_desk.specs.declared.requests.Reply.{Reply}
-use Rattle.cashier_remarks.specs.Records.{heard_of, text_at}
+use Rattle.day_sheet.specs.Records.{heard_of, text_at}
 use Rattle.cashier.specs.Sent.{IsSent}
 use Rattle.cashier.specs.declared.sheet.SheetEnd.{SheetEnd}
 use Rattle.cashier.specs.declared.sheet.SheetEnd.TheVariants as end

@@ -8,12 +8,13 @@ ghost use Rattle.cashier.specs.Calls.{CountsStore};
 ghost use Rattle.trust_desk.specs.Calls.{KeepsBook};
 ghost use Rattle.cashier.specs.Sheet.{Ends, IsCounted, LargeEnds, LinesAreKept, RecordEnds, RunEnds, TellsLine};
 ghost use Rattle.cashier.specs.Sheet.{end_of, ran_by, records_run, sheet_records};
-ghost use Rattle.cashier_remarks.specs.Records.{heard_of};
+ghost use Rattle.day_sheet.specs.Records.{heard_of};
 ghost use Rattle.trust_desk.specs.Crashes.{IsMade, MayLeave};
 
 use crate::outcome::{write_refusal, write_reply};
-use cashier_remarks::{Remark, Remarks, Telling, answer_record};
+use cashier_remarks::{Remark, Remarks, Telling};
 use csv::{ByteRecord, ReaderBuilder};
+use day_sheet::answer_record;
 use std::alloc::Global;
 use std::io::{Read, Write};
 use trust_base::{Day, InputFault, MAX_FILE_BYTES, Refusal, read_whole};

@@ -1,20 +1,15 @@
-//! What a person is told of a run as it goes, and what that is told of: a record of a day sheet, as a person types it,
-//! with what it asks; and the files that a command line names.
+//! Remarks on standard error, and what they are about: records of a day sheet, lines of a statement, files named on the
+//! command line.
 //!
 //! # What is promised
 //!
-//! By public call, with the clauses of its contract in brackets.
-//!
-//! - `answer_record`: what a record asks, by the readers of `ask_fields`, or the first field that is not of its form
-//!   (within the crate `read_request`); the desk's answer to it, as the cashier.
+//! - `tell_of_earlier`: the book is only read. No contract says what a remark is.
 #![tactic(auto)]
 
 mod folder;
-mod record;
 mod remarks;
 
 pub use folder::{Folder, Opened, Presence};
-pub use record::{Verb, VerbForm, answer_record};
 pub use remarks::{
     AppliedLines, AskedRemarks, Caution, ClearedTwice, EarlierLine, EntryFault, EntryLine,
     ExceptionRemark, ExceptionTelling, Excerpt, FileRemark, HeaderRemark, LineFault, LineRemark,

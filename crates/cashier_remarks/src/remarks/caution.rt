@@ -1,9 +1,9 @@
 // Warnings about accepted records that may not mean what was intended.
 
-use crate::record::{Verb, field_bytes, form_of};
 use crate::remarks::excerpt::Excerpt;
 use crate::remarks::fields::text_at;
 use csv::ByteRecord;
+use day_sheet::{Verb, field_bytes, form_of};
 use std::fmt;
 
 /// How an accepted record may not mean what was intended.

@@ -1,7 +1,7 @@
 // The fields of records, as remarks name them.
 
-use crate::record::field_bytes;
 use csv::ByteRecord;
+use day_sheet::field_bytes;
 use trust_base::Field;
 
 /// The text of a field at a place, counted from 0. Empty if there is none, or it is not UTF-8.

@@ -1,10 +1,10 @@
 // Remarks about a statement with another header.
 
-use crate::record::{form_of, is_dismissal};
 use crate::remarks::line_fault::HEADER;
 use crate::remarks::plain::Plain;
 use crate::remarks::rereading::Found;
 use crate::remarks::verb_fault::is_no_text;
+use day_sheet::{form_of, is_dismissal};
 use std::fmt;
 
 /// What is reported about a statement with another header.

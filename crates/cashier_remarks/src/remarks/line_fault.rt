@@ -1,12 +1,12 @@
 // What is wrong with a record of a statement that is not a valid line.
 
-use crate::record::field_bytes;
 use crate::remarks::day_meant::day_meant;
 use crate::remarks::excerpt::Excerpt;
 use crate::remarks::fault::{first_not_text, has_line_end};
 use crate::remarks::fields::text_at;
 use crate::remarks::sum_meant::sum_meant;
 use csv::ByteRecord;
+use day_sheet::field_bytes;
 use std::fmt;
 use trust_base::{BankAmount, Day, MAX_BANK_TEXT, MAX_LINE_TEXT};
 

@@ -1,9 +1,9 @@
 // Remarks about refused records, and what to do.
 
-use crate::record::{Verb, form_of};
 use crate::remarks::fault::fault_of;
 use crate::remarks::fields::text_at;
 use csv::ByteRecord;
+use day_sheet::{Verb, form_of};
 use std::fmt;
 use trust_base::{Dollars, EntryNo, Refusal};
 

@@ -1,6 +1,6 @@
 // The verbs of records, as a person types them.
 
-use crate::record::FORMS;
+use day_sheet::FORMS;
 use std::fmt;
 
 // The verb of a record that is about no matter.

@@ -1,10 +1,10 @@
 // What only the file of a statement shows about its records.
 
-use crate::record::field_bytes;
 use crate::remarks::line_fault::has_open_quote;
 use crate::remarks::rereading::{Found, Rereading};
 use crate::remarks::{Remark, Remarks};
 use csv::ByteRecord;
+use day_sheet::field_bytes;
 use std::fmt;
 use trust_base::Day;
 

@@ -1,10 +1,10 @@
-use Rattle.cashier_remarks.proofs.Names.{◌≡◌, ◌∷◌, [], Bor, List, Option, ℕ, arith, find, map, option_map, refl, rules, tests}
+use Rattle.day_sheet.proofs.Names.{◌≡◌, ◌∷◌, [], Bor, List, Option, ℕ, arith, find, map, option_map, refl, rules, tests}
 use Rattle.std.specs.Str.{bytes_eq}
 use Rattle.std.proofs.lemmas.Iterator.{YieldsList-from_slice}
 use Rattle.std.proofs.lemmas.Iterator.Search.{find_from_yields_List}
-use Rattle.cashier_remarks.specs.Records.{form_in, forms}
-use Rattle.cashier_remarks.specs.declared.record.VerbForm.{VerbForm}
-use Rattle.cashier_remarks.proofs.record.form_of.Goals as goal
+use Rattle.day_sheet.specs.Records.{form_in, forms}
+use Rattle.day_sheet.specs.declared.record.VerbForm.{VerbForm}
+use Rattle.day_sheet.proofs.record.form_of.Goals as goal
 
 -- the first row with a name has the first form with that name
 form-found : (name : List ℕ) (rows : List VerbForm) (found : Option (Bor VerbForm)) → option_map (λ row. row.now) found ≡ find (λ row. bytes_eq name row.name.now) rows

@@ -19,9 +19,9 @@ use Rattle.ask_fields.specs.Fields.{fund_in, of_entry, on_general, role_of}
 use Rattle.trust_desk.specs.Heard.{Asks, Heard, Unread}
 use Rattle.trust_desk.specs.declared.requests.Request.{Request}
 use Rattle.trust_desk.specs.declared.requests.Request.TheVariants.{Dismiss, Matter}
-use Rattle.cashier_remarks.specs.declared.record.Verb.{Verb}
-use Rattle.cashier_remarks.specs.declared.record.VerbForm.{VerbForm}
-use Rattle.cashier_remarks.specs.declared.record.Verb.TheVariants as verb
+use Rattle.day_sheet.specs.declared.record.Verb.{Verb}
+use Rattle.day_sheet.specs.declared.record.VerbForm.{VerbForm}
+use Rattle.day_sheet.specs.declared.record.Verb.TheVariants as verb
 
 -- ---- the form of a record
 

@@ -1,6 +1,6 @@
-use Rattle.cashier_remarks.proofs.Names.{fields_of}
-use Rattle.cashier_remarks.proofs.RecordFacts.{heard-read, record-asked, record-refused, refused-step}
-use Rattle.cashier_remarks.proofs.record.answer_record.Goals as goal
+use Rattle.day_sheet.proofs.Names.{fields_of}
+use Rattle.day_sheet.proofs.RecordFacts.{heard-read, record-asked, record-refused, refused-step}
+use Rattle.day_sheet.proofs.record.answer_record.Goals as goal
 
 pub returns-in-Ok-clause-step : goal.returns-in-Ok-clause-step
 returns-in-Ok-clause-step g c = λ clean stands. rw (heard-read (fields_of c.args.row.now) c.in-Ok.request c.in-Ok.ensures) (c.answer.ensures.replied.step clean stands)

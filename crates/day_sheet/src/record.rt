@@ -5,14 +5,14 @@ ghost use Rattle.std.specs.List.{list_all};
 ghost use Rattle.std.specs.Option.{option_copied};
 ghost use Rattle.std.specs.Str.{is_utf8};
 ghost use Rattle.csv.specs.Records.{field_at, fields_of};
-ghost use Rattle.cashier_remarks.specs.Records as spec;
+ghost use Rattle.day_sheet.specs.Records as spec;
 ghost use Rattle.ask_fields.specs.Fields.{Reads};
 ghost use Rattle.trust_desk.specs.Calls.{Counts, KeepsBook};
 ghost use Rattle.trust_desk.specs.Counts.{counted_reply};
 ghost use Rattle.trust_desk.specs.Crashes.{IsMade, MayLeave};
 ghost use Rattle.trust_desk.specs.FirmStep.{Steps, firm_step};
 ghost use Rattle.trust_desk.specs.Replies.{is_fault_reply};
-ghost use Rattle.cashier_remarks.specs.Records.{ask_of, asked_of, awarding_in, claiming_in, dismissing_in, form_in, form_of, has_dismissal_form, heard_of, proposing_in, text_given};
+ghost use Rattle.day_sheet.specs.Records.{ask_of, asked_of, awarding_in, claiming_in, dismissing_in, form_in, form_of, has_dismissal_form, heard_of, proposing_in, text_given};
 
 use ask_fields::{
     ClaimTexts, PaymentTexts, read_cancelling, read_claiming, read_depositing, read_dropping,
@@ -71,7 +71,7 @@ pub struct VerbForm {
 }
 
 /// The forms of records, one for each verb.
-pub(crate) const FORMS: &[VerbForm] = &[
+pub const FORMS: &[VerbForm] = &[
     VerbForm {
         name: "open",
         verb: Verb::Open,
@@ -159,21 +159,22 @@ pub(crate) const FORMS: &[VerbForm] = &[
 ];
 
 /// The field of a record, or empty if there is none.
-pub(crate) fn field_bytes(row: &ByteRecord, i: usize) -> &[u8]
+pub fn field_bytes(row: &ByteRecord, i: usize) -> &[u8]
     ensures { result.now ≡ unwrap_or (field_at (fields_of row.now) i) [] }
 {
     row.get(i).unwrap_or(&[])
 }
 
 /// The form that a record's verb asks of it. `None` if its first field is the name of no verb.
-pub(crate) fn form_of(row: &ByteRecord) -> Option<&'static VerbForm>
+pub fn form_of(row: &ByteRecord) -> Option<&'static VerbForm>
     ensures { option_map (λ form. form_in form.now) result ≡ form_of (fields_of row.now) }
 {
     let name = field_bytes(row, 0);
     FORMS.iter().find(|form| name == form.name.as_bytes())
 }
 
-pub(crate) fn is_text(field: &[u8]) -> bool
+/// Whether a field is UTF-8.
+pub fn is_text(field: &[u8]) -> bool
     ensures { result ≡ is_utf8 field.now }
 {
     match str::from_utf8(field) {
@@ -262,7 +263,7 @@ fn read_ask(alloc: Global, verb: Verb, row: &ByteRecord) -> Result<Ask, Refusal>
 }
 
 /// Whether a record dismisses a line.
-pub(crate) fn is_dismissal(row: &ByteRecord) -> bool
+pub fn is_dismissal(row: &ByteRecord) -> bool
     ensures { result ≡ spec.is_dismissal (fields_of row.now) }
 {
     field_bytes(row, 0) == b"dismiss".as_slice()

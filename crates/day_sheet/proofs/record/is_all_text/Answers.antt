@@ -1,7 +1,7 @@
-use Rattle.cashier_remarks.proofs.Names.{◌≡◌, ◌∙◌, ◌∷◌, ◌+◌, ◌&&◌, zero, suc, ◌<◌, Bool, List, ℕ, [], length, take, get_or, unwrap_or, refl, sym, ap, arith, list_all, is_utf8, field_at, fields_of}
+use Rattle.day_sheet.proofs.Names.{◌≡◌, ◌∙◌, ◌∷◌, ◌+◌, ◌&&◌, zero, suc, ◌<◌, Bool, List, ℕ, [], length, take, get_or, unwrap_or, refl, sym, ap, arith, list_all, is_utf8, field_at, fields_of}
 use Rattle.std.proofs.Math.Seq.{take-length}
 use Rattle.std.proofs.lemmas.List.Folds.{list_all_more}
-use Rattle.cashier_remarks.proofs.record.is_all_text.Goals as goal
+use Rattle.day_sheet.proofs.record.is_all_text.Goals as goal
 
 field-text : (fields : List (List ℕ)) (i : ℕ) → unwrap_or (field_at fields i) [] ≡ get_or fields i []
 unfolding field_at

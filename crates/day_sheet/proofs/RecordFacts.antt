@@ -1,5 +1,5 @@
 -- What a record of a sheet does to a firm.
-use Rattle.cashier_remarks.proofs.Names.{◌≡◌, cond, ℕ, Bool, true, false, List, Option, Some, None, Result, Ok, Err, refl, sym, ap, subst}
+use Rattle.day_sheet.proofs.Names.{◌≡◌, cond, ℕ, Bool, true, false, List, Option, Some, None, Result, Ok, Err, refl, sym, ap, subst}
 use Rattle.std.specs.Prelude.{⊤}
 use Rattle.trust_base.specs.Texts.{matter_of}
 use Rattle.statement_csv.specs.Lines.{line_of_texts}
@@ -18,8 +18,8 @@ use Rattle.trust_desk.specs.declared.requests.Request.{Request}
 use Rattle.trust_desk.proofs.Steps.{nothing-done, steps-fault as steps-stopped}
 use Rattle.trust_matter.specs.declared.ask.Ask.{Ask}
 use Rattle.ask_fields.specs.Fields.{Reads}
-use Rattle.cashier_remarks.specs.Records.{ask_of, asked_of, by_cashier, dismissing, dismissing_in, has_dismissal_form, heard_as, heard_of, is_dismissal, of_matter, of_verb, text_at, verb_in}
-use Rattle.cashier_remarks.specs.declared.record.Verb.{Verb}
+use Rattle.day_sheet.specs.Records.{ask_of, asked_of, by_cashier, dismissing, dismissing_in, has_dismissal_form, heard_as, heard_of, is_dismissal, of_matter, of_verb, text_at, verb_in}
+use Rattle.day_sheet.specs.declared.record.Verb.{Verb}
 use Rattle.trust_desk.specs.Crashes.{IsMade, MayLeave}
 use Rattle.trust_desk.proofs.Crashes.{leave-as, leave-still}
 use Rattle.trust_desk.proofs.MadeRows.{plain-step}

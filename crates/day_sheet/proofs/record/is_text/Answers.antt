@@ -1,7 +1,7 @@
-use Rattle.cashier_remarks.proofs.Names.{sym}
+use Rattle.day_sheet.proofs.Names.{sym}
 use Rattle.std.proofs.lemmas.Str.{is_utf8-from_IsUtf8}
 use Rattle.trust_base.proofs.NameFacts.{is_utf8-of_other}
-use Rattle.cashier_remarks.proofs.record.is_text.Goals as goal
+use Rattle.day_sheet.proofs.record.is_text.Goals as goal
 
 pub returns-in-Ok : goal.returns-in-Ok
 returns-in-Ok c = sym (is_utf8-from_IsUtf8 c.args.field.now c.in-Ok.ensures.cases.1)
