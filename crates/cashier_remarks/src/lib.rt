@@ -6,15 +6,60 @@
 //! - `tell_of_earlier`: the book is only read. No contract says what a remark is.
 #![tactic(auto)]
 
+mod beginning;
+mod beside;
+mod caution;
+mod check;
+mod day_meant;
+mod earlier_line;
+mod entry_line;
+mod exception;
+mod excerpt;
+mod fault;
+mod fields;
 mod folder;
+mod header;
+mod kept;
+mod line;
+mod line_fault;
+mod own_line;
+mod path_text;
+mod place;
+mod plain;
+mod record;
+mod refused;
 mod remarks;
+mod rereading;
+mod statement;
+mod sum_meant;
+mod telling;
+mod unmatched;
+mod verb_fault;
+mod verbs;
+mod whole_file;
 
+pub use beginning::{is_past, tell_of_day, tell_of_new_book, tell_of_no_book};
+pub use beside::{ClearedTwice, NowReport, NowTelling, TwiceTelling};
+pub use caution::Caution;
+pub use earlier_line::{AppliedLines, EarlierLine, tell_of_earlier};
+pub use entry_line::{EntryFault, EntryLine};
+pub use exception::{ExceptionRemark, ExceptionTelling};
+pub use excerpt::Excerpt;
+pub use fault::RecordFault;
 pub use folder::{Folder, Opened, Presence};
-pub use remarks::{
-    AppliedLines, AskedRemarks, Caution, ClearedTwice, EarlierLine, EntryFault, EntryLine,
-    ExceptionRemark, ExceptionTelling, Excerpt, FileRemark, HeaderRemark, LineFault, LineRemark,
-    NoRemarks, NowReport, NowTelling, OwnLine, Place, Plain, RecordFault, RecordRemark,
-    RefusedRecord, Remark, Remarks, StatementTelling, Telling, TwiceTelling, UnmatchedLine,
-    VerbFault, is_past, is_printable, tell_matched, tell_not_matched, tell_of_day, tell_of_earlier,
-    tell_of_loss, tell_of_new_book, tell_of_no_book,
-};
+pub use header::HeaderRemark;
+pub use kept::tell_of_loss;
+pub use line::LineRemark;
+pub use line_fault::LineFault;
+pub use own_line::OwnLine;
+pub use path_text::is_printable;
+pub use place::Place;
+pub use plain::Plain;
+pub use record::RecordRemark;
+pub use refused::RefusedRecord;
+pub use remarks::{AskedRemarks, NoRemarks, Remark, Remarks};
+pub use statement::StatementTelling;
+pub use telling::Telling;
+pub use unmatched::{UnmatchedLine, tell_matched, tell_not_matched};
+pub use verb_fault::VerbFault;
+pub use whole_file::FileRemark;

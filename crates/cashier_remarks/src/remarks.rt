@@ -1,65 +1,20 @@
 // Remarks: what a person is told during a run, in addition to what it prints and how it ends. They are told and
 // forgotten: nothing compares them.
 
-mod beginning;
-mod beside;
-mod caution;
-mod check;
-mod day_meant;
-mod earlier_line;
-mod entry_line;
-mod exception;
-mod excerpt;
-mod fault;
-mod fields;
-mod header;
-mod kept;
-mod line;
-mod line_fault;
-mod own_line;
-mod path_text;
-mod place;
-mod plain;
-mod record;
-mod refused;
-mod rereading;
-mod statement;
-mod sum_meant;
-mod telling;
-mod unmatched;
-mod verb_fault;
-mod verbs;
-mod whole_file;
-
-pub use beginning::{is_past, tell_of_day, tell_of_new_book, tell_of_no_book};
-pub use beside::{ClearedTwice, LaterWork, NowReport, NowTelling, TwiceTelling};
-pub use caution::Caution;
-use check::{write_flaw, write_unread};
-pub use earlier_line::{AppliedLines, EarlierLine, tell_of_earlier};
-pub use entry_line::{EntryFault, EntryLine};
-pub use exception::{ExceptionRemark, ExceptionTelling};
-pub use excerpt::Excerpt;
-pub use fault::RecordFault;
-pub use header::HeaderRemark;
-pub use kept::tell_of_loss;
-pub use line::LineRemark;
-pub use line_fault::LineFault;
-pub use own_line::OwnLine;
-use path_text::PathText;
-pub use path_text::is_printable;
-pub use place::Place;
-pub use plain::Plain;
-pub use record::RecordRemark;
-pub use refused::RefusedRecord;
-pub use statement::StatementTelling;
+use crate::beside::{ClearedTwice, LaterWork};
+use crate::check::{write_flaw, write_unread};
+use crate::exception::ExceptionRemark;
+use crate::header::HeaderRemark;
+use crate::line::LineRemark;
+use crate::path_text::PathText;
+use crate::place::Place;
+use crate::record::RecordRemark;
+use crate::unmatched::UnmatchedLine;
+use crate::whole_file::FileRemark;
 use std::fmt;
-pub use telling::Telling;
 use trust_base::{Day, StoreFault};
 use trust_desk::{Flaw, Unread};
 use trust_store::NoBook;
-pub use unmatched::{UnmatchedLine, tell_matched, tell_not_matched};
-pub use verb_fault::VerbFault;
-pub use whole_file::FileRemark;
 
 /// What a person is told during a run.
 #[derive(Clone, Copy)]

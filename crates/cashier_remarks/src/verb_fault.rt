@@ -1,8 +1,8 @@
 // What is wrong with a record whose first field names no verb.
 
-use crate::remarks::excerpt::Excerpt;
-use crate::remarks::line_fault::is_of_statement;
-use crate::remarks::verbs::{Asker, asker_of, verb_meant, write_verbs};
+use crate::excerpt::Excerpt;
+use crate::line_fault::is_of_statement;
+use crate::verbs::{Asker, asker_of, verb_meant, write_verbs};
 use csv::ByteRecord;
 use day_sheet::field_bytes;
 use std::fmt;

@@ -1,10 +1,10 @@
 // What is wrong with a record of a statement that is not a valid line.
 
-use crate::remarks::day_meant::day_meant;
-use crate::remarks::excerpt::Excerpt;
-use crate::remarks::fault::{first_not_text, has_line_end};
-use crate::remarks::fields::text_at;
-use crate::remarks::sum_meant::sum_meant;
+use crate::day_meant::day_meant;
+use crate::excerpt::Excerpt;
+use crate::fault::{first_not_text, has_line_end};
+use crate::fields::text_at;
+use crate::sum_meant::sum_meant;
 use csv::ByteRecord;
 use day_sheet::field_bytes;
 use std::fmt;

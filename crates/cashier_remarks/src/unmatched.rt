@@ -1,9 +1,9 @@
 // Remarks about a statement that is matched.
 
-use crate::remarks::header::{HeaderRemark, remark_on_header};
-use crate::remarks::rereading::Rereading;
-use crate::remarks::whole_file::tell_of_records;
+use crate::header::{HeaderRemark, remark_on_header};
 use crate::remarks::{Remark, Remarks};
+use crate::rereading::Rereading;
+use crate::whole_file::tell_of_records;
 use std::alloc::Global;
 use std::fmt;
 use trust_base::{Field, MAX_FILE_BYTES, Refusal};

@@ -1,10 +1,10 @@
 // What is wrong with a record that can't be read.
 
-use crate::remarks::excerpt::Excerpt;
-use crate::remarks::fields::{form_of as form_of_field, noun_of, place_of, text_at};
-use crate::remarks::line_fault::{LineFault, OPEN_QUOTE, fault_of_dismissed};
-use crate::remarks::sum_meant::{sum_meant, sum_of_two};
-use crate::remarks::verb_fault::{VerbFault, fault_of_verb};
+use crate::excerpt::Excerpt;
+use crate::fields::{form_of as form_of_field, noun_of, place_of, text_at};
+use crate::line_fault::{LineFault, OPEN_QUOTE, fault_of_dismissed};
+use crate::sum_meant::{sum_meant, sum_of_two};
+use crate::verb_fault::{VerbFault, fault_of_verb};
 use csv::ByteRecord;
 use day_sheet::{Verb, VerbForm, field_bytes, form_of, is_dismissal, is_text};
 use std::fmt;

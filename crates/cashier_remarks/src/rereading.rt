@@ -1,7 +1,7 @@
 // Reads the records of a statement's bytes again, for the remarks about them.
 
 use crate::folder::Folder;
-use crate::remarks::telling::line_of;
+use crate::telling::line_of;
 use csv::{ByteRecord, Reader, ReaderBuilder};
 use std::alloc::Global;
 use std::io::Cursor;

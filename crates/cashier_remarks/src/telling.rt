@@ -1,6 +1,6 @@
 // Remarks about the records of a sheet as they are run.
 
-use crate::remarks::record::remark_on;
+use crate::record::remark_on;
 use crate::remarks::{Remark, Remarks};
 use csv::ByteRecord;
 use trust_desk::Reply;

@@ -1,13 +1,13 @@
 // Remarks about a statement as it is imported.
 
+use crate::earlier_line::{AppliedLines, EarlierLine};
 use crate::folder::Folder;
-use crate::remarks::earlier_line::{AppliedLines, EarlierLine};
-use crate::remarks::header::{HeaderRemark, remark_on_header};
-use crate::remarks::line::{LineRemark, remark_on_item};
-use crate::remarks::place::Place;
-use crate::remarks::rereading::{Found, Rereading};
-use crate::remarks::whole_file::tell_of_records;
+use crate::header::{HeaderRemark, remark_on_header};
+use crate::line::{LineRemark, remark_on_item};
+use crate::place::Place;
 use crate::remarks::{Remark, Remarks};
+use crate::rereading::{Found, Rereading};
+use crate::whole_file::tell_of_records;
 use csv::ByteRecord;
 use firm_rows::Owner;
 use std::alloc::Global;

@@ -1,7 +1,7 @@
 // Remarks about records of a sheet.
 
-use crate::remarks::caution::{Caution, caution_on};
-use crate::remarks::refused::RefusedRecord;
+use crate::caution::{Caution, caution_on};
+use crate::refused::RefusedRecord;
 use csv::ByteRecord;
 use std::fmt;
 use trust_desk::{Body, Reply};

@@ -1,6 +1,6 @@
 // Text from a bank, as remarks show it.
 
-use crate::remarks::excerpt::Excerpt;
+use crate::excerpt::Excerpt;
 use std::fmt;
 
 /// A text or its first part. It is unquoted if it is printable ASCII without spaces and quotes, and otherwise in double

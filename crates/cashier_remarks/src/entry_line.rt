@@ -1,6 +1,6 @@
 // Remarks about lines of a statement that name an entry and do nothing to it.
 
-use crate::remarks::plain::Plain;
+use crate::plain::Plain;
 use std::fmt;
 use trust_base::{BankAmount, Day, Dollars, EntryNo, MatterNo};
 use trust_matter::{BankLine, DepositState, Entry, Matter, PaymentState, Reason};

@@ -1,6 +1,6 @@
 // Remarks that go with a report, from the rows of the book.
 
-use crate::remarks::plain::Plain;
+use crate::plain::Plain;
 use crate::remarks::{Remark, Remarks};
 use firm_rows::Owner;
 use std::fmt;

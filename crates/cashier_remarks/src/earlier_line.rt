@@ -2,11 +2,11 @@
 
 ghost use Rattle.trust_desk.specs.Checking.{AreReads};
 
+use crate::beside::OwnerReference;
 use crate::folder::Folder;
-use crate::remarks::beside::OwnerReference;
-use crate::remarks::plain::Plain;
-use crate::remarks::statement::StatementTelling;
+use crate::plain::Plain;
 use crate::remarks::{Remark, Remarks};
+use crate::statement::StatementTelling;
 use firm_rows::Owner;
 use std::alloc::Global;
 use std::cell::{Cell, RefCell};

@@ -1,7 +1,7 @@
 // Remarks about the exceptions of a book.
 
-use crate::remarks::line::{LineRemark, remark_on_item};
-use crate::remarks::plain::Plain;
+use crate::line::{LineRemark, remark_on_item};
+use crate::plain::Plain;
 use crate::remarks::{Remark, Remarks};
 use firm_rows::Owner;
 use std::fmt;

@@ -1,11 +1,11 @@
 // Remarks about lines of a statement as it is imported, and about exceptions.
 
-use crate::remarks::beside::OwnerReference;
-use crate::remarks::earlier_line::EarlierLine;
-use crate::remarks::entry_line::EntryLine;
-use crate::remarks::line_fault::{LineFault, fault_of_line};
-use crate::remarks::own_line::OwnLine;
-use crate::remarks::plain::Plain;
+use crate::beside::OwnerReference;
+use crate::earlier_line::EarlierLine;
+use crate::entry_line::EntryLine;
+use crate::line_fault::{LineFault, fault_of_line};
+use crate::own_line::OwnLine;
+use crate::plain::Plain;
 use csv::ByteRecord;
 use std::fmt;
 use trust_base::{Day, StoreFault};

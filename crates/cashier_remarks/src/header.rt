@@ -1,9 +1,9 @@
 // Remarks about a statement with another header.
 
-use crate::remarks::line_fault::HEADER;
-use crate::remarks::plain::Plain;
-use crate::remarks::rereading::Found;
-use crate::remarks::verb_fault::is_no_text;
+use crate::line_fault::HEADER;
+use crate::plain::Plain;
+use crate::rereading::Found;
+use crate::verb_fault::is_no_text;
 use day_sheet::{form_of, is_dismissal};
 use std::fmt;
 

@@ -1,7 +1,7 @@
 // Warnings about accepted records that may not mean what was intended.
 
-use crate::remarks::excerpt::Excerpt;
-use crate::remarks::fields::text_at;
+use crate::excerpt::Excerpt;
+use crate::fields::text_at;
 use csv::ByteRecord;
 use day_sheet::{Verb, field_bytes, form_of};
 use std::fmt;

@@ -1,8 +1,8 @@
 // What only the file of a statement shows about its records.
 
-use crate::remarks::line_fault::has_open_quote;
-use crate::remarks::rereading::{Found, Rereading};
+use crate::line_fault::has_open_quote;
 use crate::remarks::{Remark, Remarks};
+use crate::rereading::{Found, Rereading};
 use csv::ByteRecord;
 use day_sheet::field_bytes;
 use std::fmt;

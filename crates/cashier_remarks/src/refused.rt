@@ -1,7 +1,7 @@
 // Remarks about refused records, and what to do.
 
-use crate::remarks::fault::fault_of;
-use crate::remarks::fields::text_at;
+use crate::fault::fault_of;
+use crate::fields::text_at;
 use csv::ByteRecord;
 use day_sheet::{Verb, form_of};
 use std::fmt;
