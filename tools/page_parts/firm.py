@@ -189,7 +189,7 @@ class FrontEnd:
 
     def write(self, behind: int, change: Change) -> None:
         text = CONFIGURATION.read_text(encoding="utf-8")
-        for old, new in (("127.0.0.1:8000;", f"127.0.0.1:{self.port};"), ("/etc/gekuipo/", f"{self.folder}/"),
+        for old, new in (("127.0.0.1:81;", f"127.0.0.1:{self.port};"), ("/etc/gekuipo/", f"{self.folder}/"),
                          ("/usr/share/gekuipo;", f"{self.folder}/files;"), ("timeout 300s", f"timeout {LATE}s"),
                          ("timeout 30m", f"timeout {LATE}s"),
                          ("/var/log/gekuipo/requests.log gekuipo if=$upstream_status;", "access.log asked;")):
