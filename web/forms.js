@@ -91,6 +91,23 @@ function valuesOf(made, fields) {
     return wrong ? null : values;
 }
 
+// Says of a field of the form around the place what is wrong with it.
+export function tellWrong(place, name, words) {
+    const made = place.closest('form');
+    for (const each of made.elements) each.disabled = false;
+    const input = made.elements.namedItem(name);
+    input.setAttribute('aria-invalid', 'true');
+    made.querySelector(`#${name}-error`).textContent = words;
+    input.focus();
+}
+
+// A field by which rows are looked for: `find` gets the words, in small letters, as they are typed.
+export const findField = ({ id, words, hint, value = '', find }) => el('div', { class: 'field find' },
+    el('label', { for: id }, words),
+    el('input', { id, type: 'search', value, autocomplete: 'off', spellcheck: 'false', 'aria-describedby': `${id}-hint`,
+        input: ({ target }) => find(target.value.trim().toLowerCase()) }),
+    el('p', { class: 'hint', id: `${id}-hint` }, hint));
+
 // `submit` gets the values, and the place where a refusal is told, by which the form can be sent again.
 export function form({ title, before, fields, action, submit }) {
     const place = el('div', {});

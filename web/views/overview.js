@@ -4,14 +4,17 @@ import { grouped } from '../amounts.js';
 import { balanceOfJournal } from '../balance.js';
 import { noteBox } from '../boxes.js';
 import { chart } from '../chart.js';
-import { Refused } from '../desk.js';
-import { el, link, money, number, p, quiet, readAgain, sums } from '../elements.js';
+import { Refused, matterPath } from '../desk.js';
+import { el, label, link, money, number, p, quiet, readAgain, sums } from '../elements.js';
+import { findField } from '../forms.js';
 import { countLines, dayOf, readRetention, readTrial } from '../reports.js';
 import { column, rowOf, table } from '../tables.js';
 import { MATTER_COLUMNS, atBankTable, cardOf, entriesOf, foundTable, matterCells, waitingIn } from './cards.js';
 
 // From so many matters on there is a field to look for one.
 const MANY = 10;
+// So many closed matters are asked for their clients.
+const NAMED = 300;
 
 const clockDay = () => new Intl.DateTimeFormat('sv-SE').format(new Date());
 
@@ -28,17 +31,10 @@ const sumsOf = (books, exceptions) => sums([
 const firstRow = ({ matter, ledger }) => rowOf(MATTER_COLUMNS,
     [link(`#/m/${matter}`, number(matter)), '\u2026', '', '', '', '', '', money(ledger)]);
 
-const wordsIn = ({ value }) => value.trim().toLowerCase();
-
-const findField = (id, words, hint, find) => el('div', { class: 'field find' }, el('label', { for: id }, words),
-    el('input', { id, type: 'search', autocomplete: 'off', spellcheck: 'false', 'aria-describedby': `${id}-hint`,
-        input: ({ target }) => find(wordsIn(target)) }),
-    el('p', { class: 'hint', id: `${id}-hint` }, hint));
-
-// Shows the matters whose number or client has these letters.
-const findIn = (rows) => findField('find', 'Find a matter', 'By number or client', (wanted) => {
-    for (const row of rows.values()) row.hidden = !row.textContent.toLowerCase().includes(wanted);
-});
+// Shows the matters, open and closed, whose number or client has these letters.
+const findIn = (rows) => findField({ id: 'find', words: 'Find a matter', hint: 'By number or client', find(wanted) {
+    for (const row of rows) row.hidden = !row.textContent.toLowerCase().includes(wanted);
+} });
 
 // Shows the entries of open matters that have these letters, from the second one on.
 function findEntries(cards) {
@@ -50,7 +46,10 @@ function findEntries(cards) {
         const told = foundTable(found) ?? (wanted.length > 1 && quiet('No entry of an open matter has that.'));
         place.replaceChildren(...[told].filter(Boolean));
     };
-    return [findField('find-entry', 'Find an entry', 'By payee, source, purpose, check number or amount', find), place];
+    const hint = 'Of open matters, by payee, source, purpose, check number or amount';
+    const more = quiet('Those of closed matters stand among the ', link('#/report/receipts', 'receipts'), ' and the ',
+        link('#/report/disbursements', 'disbursements'), ' of their days.');
+    return [findField({ id: 'find-entry', words: 'Find an entry', hint, find }), place, more];
 }
 
 // Fills the rows in as the cards come, four at a time, and then tells what waits.
@@ -69,10 +68,18 @@ async function fillIn(page, rows, places, isStill) {
     places.waiting.removeAttribute('aria-busy');
 }
 
-const closedTable = (closed) => table('Closed matters',
-    [column('Matter', 'tight'), column('Closed', 'tight'), column('Keep until', 'tight'), column('Records')],
-    closed.map(({ matter, closed: day, until, mayGo }) =>
-        [link(`#/m/${matter}`, number(matter)), day, until, mayGo ? 'may be purged' : 'are kept']));
+const CLOSED_COLUMNS = [column('Matter', 'tight'), column('Client'), column('Closed', 'tight'),
+    column('Keep until', 'tight'), column('Records')];
+
+const closedRow = ({ matter, closed, until, mayGo }, client = '\u2026') => rowOf(CLOSED_COLUMNS,
+    [link(`#/m/${matter}`, number(matter)), client, closed, until, mayGo ? 'may be purged' : 'are kept']);
+
+// The list of closed matters has no names: the matters are asked for them.
+const nameClosed = (page, closed, rows) => Promise.all(closed.slice(0, NAMED).map(async (each) => {
+    const answer = await page.desk.read(matterPath(each.matter));
+    const client = answer.isDone ? label(answer.body.client) : '';
+    rows.get(each.matter).replaceChildren(...closedRow(each, client).childNodes);
+}));
 
 export async function overview(page) {
     const [trial, retention, exceptions, journal] = await Promise.all(
@@ -80,6 +87,8 @@ export async function overview(page) {
     const books = readTrial(trial.text);
     page.desk.day = dayOf(trial.text);
     const rows = new Map(books.matters.map((each) => [each.matter, firstRow(each)]));
+    const closed = readRetention(retention.text);
+    const closedRows = new Map(closed.map((each) => [each.matter, closedRow(each)]));
     const places = {
         waiting: el('div', { 'aria-busy': rows.size ? 'true' : null }, rows.size > 0 && p('Reading the matters\u2026')),
         bank: el('div', {}),
@@ -92,10 +101,11 @@ export async function overview(page) {
         places.bank,
         chart('The account by day, as the journal has it', balanceOfJournal(journal.text), page.desk.day),
         places.entries,
-        rows.size > MANY && findIn(rows),
+        rows.size + closed.length > MANY && findIn([...rows.values(), ...closedRows.values()]),
         table(`Matters: ${rows.size}`, MATTER_COLUMNS, [...rows.values()]),
-        closedTable(readRetention(retention.text)),
+        table('Closed matters', CLOSED_COLUMNS, [...closedRows.values()]),
         readAgain(page),
     ];
-    return { title: 'Overview', parts, later: (isStill) => fillIn(page, rows, places, isStill) };
+    const later = (isStill) => Promise.all([fillIn(page, rows, places, isStill), nameClosed(page, closed, closedRows)]);
+    return { title: 'Overview', parts, later };
 }
