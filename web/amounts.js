@@ -13,6 +13,8 @@ export function amountOf(count) {
     return `${count < 0n ? '-' : ''}${digits.slice(0, -2)}.${digits.slice(-2)}`;
 }
 
+export const sumOf = (amounts) => amountOf(amounts.reduce((sum, each) => sum + cents(each), 0n));
+
 // `18000.00` as `18,000.00`.
 export const grouped = (amount) => amount.replace(/\d(?=(\d{3})+\.)/g, '$&,');
 

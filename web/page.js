@@ -9,6 +9,8 @@ import { clients } from './views/clients.js';
 import { showEntry } from './views/entry.js';
 import { showCard, showMatter } from './views/matter.js';
 import { myMatters } from './views/matters.js';
+import { month } from './views/month.js';
+import { journalOf, outstanding } from './views/movements.js';
 import { newEntry } from './views/new-entry.js';
 import { openMatter } from './views/opening.js';
 import { overview } from './views/overview.js';
@@ -31,6 +33,9 @@ const VIEWS = [
     [/^#\/statement$/, statement],
     [/^#\/records$/, records],
     [/^#\/report\/(trial-balance|journal|exceptions|retention)$/, report],
+    [/^#\/report\/(receipts|disbursements)(?:\/(\d{4}-\d\d-\d\d)\/(\d{4}-\d\d-\d\d))?$/, journalOf],
+    [/^#\/report\/outstanding(?:\/(\d{4}-\d\d-\d\d))?$/, outstanding],
+    [/^#\/month(?:\/(\d{4}-\d\d-\d\d))?$/, month],
     [/^#\/reconciliation(?:\/(\d{4}-\d\d-\d\d))?$/, reconciliation],
     [/^#\/clients(?:\/(\d{4}-\d\d-\d\d))?$/, clients],
 ];
@@ -40,6 +45,7 @@ const PLACES = [
     ['#/open', 'New matter'],
     ['#/statement', 'Bank statement'],
     ['#/reconciliation', 'Reconciliation'],
+    ['#/month', 'Month\u2019s end'],
     ['#/report/trial-balance', 'Reports'],
 ];
 
@@ -52,6 +58,8 @@ class Page {
         this.person = person;
         this.desk = new Desk(person);
         this.shelf = new Shelf(person);
+        this.firm = []; // its name, its bank and account, for what is printed
+        this.sought = ''; // what was last looked for among receipts and disbursements
         this.draws = 0;
         this.told = null; // what the last change was answered, for the next view
     }
@@ -141,7 +149,8 @@ async function begin() {
         return;
     }
     const page = new Page(answer.person);
-    byId('firm').replaceChildren(...(await askFirm()).map((line) => el('span', {}, label(line))));
+    page.firm = await askFirm();
+    byId('firm').replaceChildren(...page.firm.map((line) => el('span', {}, label(line))));
     window.addEventListener('hashchange', () => page.draw());
     byId('skip').addEventListener('click', skip);
     await page.draw();

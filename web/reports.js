@@ -1,5 +1,5 @@
-// What the page takes out of the firm's reports. None of these lines has a user's text in it, but for a client's name
-// behind the first bar of its line.
+// What the page takes out of the firm's reports. What somebody typed stands behind the first bar of its line, or, of an
+// exception, is left as it is.
 
 const linesOf = (text) => text.trimEnd().split('\n');
 
@@ -46,6 +46,42 @@ export const readBreaks = (text) => linesOf(text)
 export const readUnshown = (text) => linesOf(text)
     .map((line) => /^(TRANSIT|OUT) M(\d{6})-(\d{4}) (\S+) (-?\d+\.\d\d)$/.exec(line)).filter(Boolean)
     .map(([, list, matter, entry, day, amount]) => ({ list, matter, entry, day, amount }));
+
+// The lines of a reconciliation that no other part of the packet has.
+export const readRemarks = (text) => linesOf(text).slice(11).filter((line) => !/^(TRANSIT|OUT|OPENING) /.test(line))
+    .map((line) => {
+        const [, name, rest] = /^(\S+) (.*)$/su.exec(line);
+        const [, reference, day, amount, instrument] =
+            /^(M\d{6}-\d{4}) (\S+) (-?\d+\.\d\d)(?: (.*))?$/su.exec(name === 'EXCEPTION' ? '' : rest) ?? [];
+        return { name, rest, reference, day, amount, instrument };
+    });
+
+const MOVEMENT = /^(\d{4}-\d\d-\d\d) (FIRM|M\d{6}-\d{4}) (-?\d+\.\d\d) ([A-Z]+)$/;
+const SUM = /^([A-Z ]+?) +(-?\d+\.\d\d)$/;
+
+function readMovement(line) {
+    const bar = line.indexOf(' | ');
+    const [, day, reference, amount, kind] = MOVEMENT.exec(line.slice(0, bar));
+    return { day, reference, amount, kind, words: line.slice(bar + 3) };
+}
+
+// The sums of receipts, disbursements or outstanding items, each with the movements above it.
+export function readMovements(text) {
+    const lists = [];
+    let movements = [];
+    for (const line of linesOf(text).slice(1)) {
+        const sum = SUM.exec(line);
+        if (sum) {
+            lists.push({ name: sum[1], sum: sum[2], movements });
+            movements = [];
+        } else movements.push(readMovement(line));
+    }
+    return lists;
+}
+
+// The reports of a packet by the names in their first lines.
+export const readPacket = (text) => Object.fromEntries(
+    text.split('\n\n').map((part) => [/^[A-Z ]+(?= \d)/.exec(part)[0], part]));
 
 // The figures of a reconciliation by their names, which stand in its first lines.
 export function readFigures(text) {

@@ -19,23 +19,25 @@ function cellOf(inside, { name, kind }, isFirst) {
 export const rowOf = (columns, cells) =>
     el('tr', { role: 'row' }, cells.map((inside, i) => cellOf(inside, columns[i], i === 0)));
 
-// Nothing where there are no rows. A row is a list of what stands in its cells, or an element of `rowOf`.
-export function table(caption, columns, rows) {
-    if (!rows.length) return null;
+// Nothing where there are no rows and no foot, which is the row of the sum. A row is a list of what stands in its cells,
+// or an element of `rowOf`.
+export function table(caption, columns, rows, foot = null) {
+    if (!rows.length && !foot) return null;
     const body = rows.map((row) => (Array.isArray(row) ? rowOf(columns, row) : row));
     return el('table', { role: 'table' }, el('caption', {}, caption), headOf(columns),
-        el('tbody', { role: 'rowgroup' }, body));
+        el('tbody', { role: 'rowgroup' }, body),
+        foot && el('tfoot', { role: 'rowgroup' }, rowOf(columns, foot)));
 }
 
 // A table that shows so many of its rows, and all of them when asked for. Ten thousand take a browser seconds to draw.
-export function longTable({ caption, columns, items, cells, first }) {
-    if (!items.length) return null;
+export function longTable({ caption, columns, items, cells, first, foot = null }) {
+    if (!items.length && !foot) return null;
     const place = el('div', {});
     const show = (count) => {
         const isCut = items.length > count;
         const words = isCut ? `${caption}: ${count} of ${items.length}` : caption;
         const more = isCut && p(button(`Show all ${items.length}`, () => show(items.length)));
-        place.replaceChildren(...[table(words, columns, items.slice(0, count).map(cells)), more].filter(Boolean));
+        place.replaceChildren(...[table(words, columns, items.slice(0, count).map(cells), foot), more].filter(Boolean));
     };
     show(first);
     return place;

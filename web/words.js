@@ -17,6 +17,16 @@ export const STATES = {
     settled: ['settled', 'settled'],
 };
 
+// What moved the account, in the words of receipts, disbursements and outstanding items.
+export const MOVED = {
+    DEPOSIT: 'deposit',
+    CANCELLED: 'cancelled',
+    RETURNED: 'returned',
+    PAYMENT: 'payment',
+    VOIDED: 'voided',
+    OWN: 'the firm\u2019s own',
+};
+
 export const BALANCES = [
     ['available', 'Available', 'can be paid out'],
     ['held', 'Held', 'paid in, not yet shown by the bank'],

@@ -35,7 +35,7 @@ REFUSALS = {
     "NotEmpty": "The matter holds money, or a payment waits",
     "TooEarly": "They may go from 2029-02-01 on.",
     "NoStatement": "No closing balance of that day was imported.",
-    "PeriodPurged": "was purged, so the day can't be told whole",
+    "PeriodPurged": "was purged, so that time can't be told whole",
     "Store": "The disk of the desk failed.",
     "Memory": "The desk has no room left.",
 }

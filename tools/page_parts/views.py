@@ -16,7 +16,9 @@ NARROW = 320  # a page magnified to four times its size has this width
 WIDTHS = WIDTHS_OF_MANY = (WIDE, PHONE, NARROW)
 
 REPORTS = ["#/report/trial-balance", "#/report/journal", "#/report/exceptions", "#/report/retention",
-           "#/reconciliation", "#/reconciliation/2026-03-31", "#/clients", "#/clients/2026-03-31"]
+           "#/reconciliation", "#/reconciliation/2026-03-31", "#/clients", "#/clients/2026-03-31", "#/month",
+           "#/month/2026-03-31", "#/report/receipts", "#/report/receipts/2026-03-01/2026-03-31",
+           "#/report/disbursements/2026-03-01/2026-03-31", "#/report/outstanding", "#/report/outstanding/2026-03-31"]
 FORMS = {"cashier": ["deposit", "propose", "claim", "seats"], "lee": ["propose", "fee", "claim"], "ada": ["dispute"]}
 
 

@@ -4,13 +4,14 @@ import { el, label, link, money, number, p, printed } from '../elements.js';
 import { form } from '../forms.js';
 import { readDay } from '../names.js';
 import { readClients } from '../reports.js';
-import { STATEMENT } from '../shelf.js';
 import { column, longTable } from '../tables.js';
+import { knownClosings } from './closings.js';
+import { reportsList } from './report.js';
 
 // So many matters are listed first.
 const FIRST = 200;
 
-const COLUMNS = [column('Matter', 'tight'), column('Client'), column('Ledger', 'right')];
+export const COLUMNS = [column('Matter', 'tight'), column('Client'), column('Ledger', 'right')];
 
 const dayForm = (page, day) => form({
     fields: [{
@@ -25,7 +26,7 @@ const dayForm = (page, day) => form({
     submit: (values) => page.go(`#/clients/${values.day}`),
 });
 
-const cellsOf = ({ matter, client, ledger }) =>
+export const cellsOf = ({ matter, client, ledger }) =>
     [link(`#/m/${matter}`, number(matter)), label(client), money(ledger)];
 
 // What a sheet has is the report alone.
@@ -43,10 +44,11 @@ function listOf(day, { matters, firm, total }) {
 }
 
 export async function clients(page, day = null) {
-    const asked = dayForm(page, day ?? page.shelf.read(STATEMENT)[0]);
-    if (!day) return { title: 'Clients as of a day', parts: [asked] };
+    const asked = dayForm(page, day ?? knownClosings(page)[0]);
+    if (!day) return { title: 'Clients as of a day', parts: [reportsList('clients'), asked] };
     const path = `/firm/clients/${day}`;
     const { text } = await page.desk.get(path);
-    const parts = [listOf(day, readClients(text)), printed(text, path, `clients-${day}.txt`), asked];
+    const parts = [reportsList('clients'), listOf(day, readClients(text)),
+        printed(text, path, `clients-${day}.txt`), asked];
     return { title: ['Clients as of ', number(day)], parts };
 }

@@ -1,51 +1,18 @@
 // The three-way reconciliation of a day on which a statement ended.
 
 import { grouped, isNothing } from '../amounts.js';
-import { doneBox, noteBox, refusedBox, warningBox } from '../boxes.js';
-import { button, el, explained, label, link, money, number, p, printed, quiet, strong } from '../elements.js';
-import { form } from '../forms.js';
-import { dayBefore, readDay } from '../names.js';
-import { dayOf, readBreaks, readFigures, readUnshown } from '../reports.js';
-import { STATEMENT } from '../shelf.js';
+import { doneBox, noteBox, warningBox } from '../boxes.js';
+import { el, explained, label, link, money, number, p, printed, quiet, strong } from '../elements.js';
+import { readBreaks, readFigures, readUnshown } from '../reports.js';
 import { column, longTable, table } from '../tables.js';
 import { meansOf } from '../words.js';
 import { cardOf } from './cards.js';
+import { closingForm, lookForLast, rememberClosing } from './closings.js';
 
-// The desk has no list of days, so it is asked backwards from today, for so many.
-const DAYS_BACK = 100;
-
-const dayForm = (page, day) => form({
-    fields: [{
-        name: 'day',
-        words: 'The day on which a statement ended',
-        type: 'date',
-        value: day,
-        read: readDay,
-        wrong: 'Choose a day.',
-    }],
-    action: 'Reconcile',
-    submit: (values) => page.go(`#/reconciliation/${values.day}`),
-});
-
-// A search whose view was left moves nobody.
-async function search(page) {
-    const mine = page.draws;
-    const go = (address, told) => mine === page.draws && page.go(address, told);
-    page.say('Looking for the last statement');
-    const today = await page.desk.read('/firm/exceptions');
-    if (!today.isDone) return go(location.hash, refusedBox(today, page.person));
-    let day = dayOf(today.text);
-    for (let tries = 0; tries < DAYS_BACK && mine === page.draws; tries += 1, day = dayBefore(day)) {
-        page.say(`Looking at ${day}`);
-        const answer = await page.desk.read(`/firm/reconciliation/${day}`);
-        if (answer.isDone) return go(`#/reconciliation/${day}`);
-        if (answer.body?.name !== 'NoStatement') return go(location.hash, refusedBox(answer, page.person));
-    }
-    return go(location.hash, noteBox(p(`No statement ended in the last ${DAYS_BACK} days.`)));
-}
+const HERE = '#/reconciliation';
 
 // What the figures say.
-function resultBox(figures) {
+export function resultBox(figures) {
     const { GAP: gap, DIFFERENCE: difference, EXCEPTIONS: exceptions, EARLY: early } = figures;
     const more = isNothing(difference) ? null : p(`The difference is ${grouped(difference)}; exceptions explain `
         + `${grouped(exceptions)} of it, and lines that the bank had before the books ${grouped(early)}.`);
@@ -64,13 +31,13 @@ function resultBox(figures) {
 }
 
 // An opening balance has to be the closing one before.
-const breaksBox = (breaks) => breaks.length > 0 && warningBox(
+export const breaksBox = (breaks) => breaks.length > 0 && warningBox(
     'A statement does not begin where the one before ended.',
     breaks.map(({ day, opening, before, closing }) => p('It opens with ', grouped(opening), ' on ', number(day),
         ', after a closing balance of ', grouped(closing), ' on ', number(before), '. A statement between the two is '
         + 'missing, or one of the balances was mistyped.')));
 
-const EXPLAINED = ['CLOSING', 'IN TRANSIT', 'OUTSTANDING', 'ADJUSTED BANK', 'JOURNAL', 'LEDGERS', 'DIFFERENCE',
+export const EXPLAINED = ['CLOSING', 'IN TRANSIT', 'OUTSTANDING', 'ADJUSTED BANK', 'JOURNAL', 'LEDGERS', 'DIFFERENCE',
     'EXCEPTIONS', 'EARLY', 'GAP', 'DOUBLE', 'OPENING'];
 
 const FIGURES = { CLOSING: 'The bank\u2019s closing balance', 'IN TRANSIT': 'Deposits in transit',
@@ -78,7 +45,7 @@ const FIGURES = { CLOSING: 'The bank\u2019s closing balance', 'IN TRANSIT': 'Dep
     LEDGERS: 'Ledgers of clients and firm', DIFFERENCE: 'Difference', EXCEPTIONS: 'Exceptions', EARLY: 'Early lines',
     GAP: 'Gap' };
 
-const figuresTable = (figures) => table('Bank, journal and ledgers', [column('What'), column('Amount', 'right')],
+export const figuresTable = (figures) => table('Bank, journal and ledgers', [column('What'), column('Amount', 'right')],
     Object.entries(FIGURES).filter(([name]) => figures[name]).map(([name, words]) => [words, money(figures[name])]));
 
 const UNSHOWN = [column('Entry', 'tight'), column('Day', 'tight'), column('Client'), column('Words'),
@@ -108,19 +75,18 @@ async function nameUnshown(page, unshown, place, isStill) {
 }
 
 export async function reconciliation(page, day = null) {
-    const asked = dayForm(page, day ?? page.shelf.read(STATEMENT)[0]);
-    if (!day) {
-        const look = p(button('Look for the last statement', () => search(page)));
-        return { title: 'Reconciliation', parts: [asked, look] };
-    }
+    const asked = () => closingForm(page, { day, address: HERE, action: 'Reconcile' });
+    if (!day) return { title: 'Reconciliation', parts: [asked(), lookForLast(page, HERE)] };
     const path = `/firm/reconciliation/${day}`;
     const { text } = await page.desk.get(path);
+    rememberClosing(page, day);
     const figures = readFigures(text);
     const unshown = readUnshown(text);
     const place = el('div', {}, unshownTables(unshown, new Map()));
-    const listed = quiet('Beside it is filed ', link(`#/clients/${day}`, 'the list of clients as of that day'), '.');
+    const listed = quiet('Beside it is filed ', link(`#/clients/${day}`, 'the list of clients as of that day'),
+        '; both stand in the packet of the ', link(`#/month/${day}`, 'month\u2019s end'), '.');
     const parts = [breaksBox(readBreaks(text)), resultBox(figures), figuresTable(figures), place,
-        explained(meansOf(EXPLAINED)), printed(text, path, `reconciliation-${day}.txt`), listed, asked];
+        explained(meansOf(EXPLAINED)), printed(text, path, `reconciliation-${day}.txt`), listed, asked()];
     const later = (isStill) => nameUnshown(page, unshown, place, isStill);
     return { title: ['Reconciliation of ', number(day)], parts, later };
 }

@@ -20,12 +20,19 @@ const NAMES = {
     retention: 'Retention',
 };
 
-const linkTo = (name, isHere) =>
-    el('a', { href: `#/report/${name}`, 'aria-current': isHere ? 'page' : null }, NAMES[name]);
+// Those of a day or of a period have views of their own.
+const PLACES = {
+    clients: ['#/clients', 'Clients as of a day'],
+    receipts: ['#/report/receipts', 'Receipts'],
+    disbursements: ['#/report/disbursements', 'Disbursements'],
+    outstanding: ['#/report/outstanding', 'Outstanding items'],
+    ...Object.fromEntries(Object.entries(NAMES).map(([name, words]) => [name, [`#/report/${name}`, words]])),
+};
 
-const reportsList = (now) => el('ul', { class: 'actions', 'aria-label': 'Reports' },
-    Object.keys(NAMES).map((name) => el('li', {}, linkTo(name, name === now))),
-    el('li', {}, link('#/clients', 'Clients as of a day')));
+const linkTo = ([href, words], isHere) => el('a', { href, 'aria-current': isHere ? 'page' : null }, words);
+
+export const reportsList = (now) => el('ul', { class: 'actions', 'aria-label': 'Reports' },
+    Object.keys(PLACES).map((name) => el('li', {}, linkTo(PLACES[name], name === now))));
 
 const matterLink = (matter) => link(`#/m/${matter}`, number(matter));
 

@@ -12,7 +12,7 @@ import { button, el, facts, link, p } from '../elements.js';
 import { movementOf, readByMovement } from '../exceptions.js';
 import { areInBook, isSameAs, matchFile, reasonsOf } from '../matched.js';
 import { readTrial } from '../reports.js';
-import { STATEMENT } from '../shelf.js';
+import { rememberClosing } from './closings.js';
 import { dismissOffers } from './exceptions.js';
 import { LeftLines, reasonWords, referenceLink } from './left.js';
 import { countWrong, matchedBox, writtenTable } from './matched.js';
@@ -344,7 +344,7 @@ class Statement {
             this.refuse(answer, ...(answer.isUnknown ? [p(STILL_READ)] : []));
             return null;
         }
-        if (answer.body.statement) this.page.shelf.write(STATEMENT, [answer.body.statement]);
+        if (answer.body.statement) rememberClosing(this.page, answer.body.statement);
         return countsBox(this.file.name, answer.body);
     }
 
