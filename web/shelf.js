@@ -1,5 +1,6 @@
 // What the browser keeps for a person: numbers of matters that were looked at, the days of the last statements, asks
-// that were not answered, a bank's file that is not imported yet, and which columns a bank's CSV has. Nothing else stays.
+// that were not answered, a bank's file that is not imported yet, and which columns a bank's CSV has. Nothing else
+// stays.
 
 export const ASKS = 'asks';
 export const MATTERS = 'matters';

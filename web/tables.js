@@ -19,8 +19,8 @@ function cellOf(inside, { name, kind }, isFirst) {
 export const rowOf = (columns, cells) =>
     el('tr', { role: 'row' }, cells.map((inside, i) => cellOf(inside, columns[i], i === 0)));
 
-// Nothing where there are no rows and no foot, which is the row of the sum. A row is a list of what stands in its cells,
-// or an element of `rowOf`.
+// Nothing where there are no rows and no foot, which is the row of the sum. A row is a list of what stands in its
+// cells, or an element of `rowOf`.
 export function table(caption, columns, rows, foot = null) {
     if (!rows.length && !foot) return null;
     const body = rows.map((row) => (Array.isArray(row) ? rowOf(columns, row) : row));

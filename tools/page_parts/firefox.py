@@ -23,8 +23,9 @@ SETTLED = 60
 ELEMENT = "element-6066-11e4-a52e-4f735466cecf"  # the name of an element's key, by the standard
 ENTER, TAB = "\ue007", "\ue004"
 PREFERENCES = {
-    "browser.download.folderList": 2, "browser.download.useDownloadDir": True, "browser.shell.checkDefaultBrowser": False,
-    "browser.download.alwaysOpenPanel": False, "datareporting.policy.dataSubmissionEnabled": False,
+    "browser.download.folderList": 2, "browser.download.useDownloadDir": True,
+    "browser.download.alwaysOpenPanel": False, "browser.shell.checkDefaultBrowser": False,
+    "datareporting.policy.dataSubmissionEnabled": False,
     "network.captive-portal-service.enabled": False, "network.connectivity-service.enabled": False,
     "app.update.enabled": False, "browser.safebrowsing.malware.enabled": False,
     "browser.safebrowsing.phishing.enabled": False, "network.http.phishy-userpass-length": 255,
@@ -183,7 +184,8 @@ def book_by_keys(browser: Firefox, checks: Checks) -> None:
     browser.to("#/m/000001/deposit")
     browser.type("[name=amount]", f"5{TAB}")
     checks.same("the field behind the amount", browser.run("return document.activeElement.name"), "source")
-    checks.same("the ring around it", browser.run("return getComputedStyle(document.activeElement).outlineWidth"), "3px")
+    ring = browser.run("return getComputedStyle(document.activeElement).outlineWidth")
+    checks.same("the ring around it", ring, "3px")
     browser.type("[name=source]", f"Ada Chen{TAB}")
     browser.type("[name=description]", f"copies{ENTER}")
     time.sleep(0.2)

@@ -61,7 +61,8 @@ function countsBox(name, told) {
         told.exceptions > 0 && p(link('#/report/exceptions', 'Look at the exceptions'),
             '. Book or mend what is missing, and bring the same file in again.'),
         told.unreadable > 0 && p('A line that is not readable was left out. Compare the file with the bank.'),
-        told.statement && p(link(`#/reconciliation/${told.statement}`, `Reconcile ${told.statement}`)));
+        told.statement && p(link(`#/reconciliation/${told.statement}`, `Reconcile ${told.statement}`), ', or show the ',
+            link(`#/month/${told.statement}`, 'month\u2019s end'), '.'));
 }
 
 // The file is the wrong one, which no other sending mends.
