@@ -20,11 +20,19 @@ import { report } from './views/report.js';
 import { seats } from './views/seats.js';
 import { statement } from './views/statement.js';
 
+// A matter whose number was typed without its zeros.
+function showShort(page, short) {
+    const no = short.padStart(6, '0');
+    history.replaceState(null, '', `#/m/${no}`);
+    return showMatter(page, no);
+}
+
 // A view is given the page and what its address names. It returns its title and parts, and may have something to do
 // once it is drawn.
 const VIEWS = [
     [/^#?\/?$/, (page) => (page.person === 'cashier' ? overview(page) : myMatters(page))],
     [/^#\/m\/(\d{6})$/, showMatter],
+    [/^#\/m\/(\d{1,5})$/, showShort],
     [/^#\/m\/(\d{6})\/card$/, showCard],
     [/^#\/m\/(\d{6})\/seats$/, seats],
     [/^#\/m\/(\d{6})\/e\/(\d{4})$/, showEntry],

@@ -28,7 +28,8 @@ def sheet_of_many(matters: int, entries: int) -> str:
                   for at in range(1, entries + 1)]
         if each % 4 == 0:
             lines.append(f"propose,{each:06},{entries + 1:04},60.00,general,,Court Clerk,filing fee,{1000 + each}")
-    return "\n".join(lines) + "\n"
+    closed = f"{matters + 1:06}"
+    return "\n".join([*lines, f"open,{closed},,Zora Quinn,lee", f"close,{closed},"]) + "\n"
 
 
 def statement_of_many(matters: int, entries: int) -> str:
@@ -38,7 +39,7 @@ def statement_of_many(matters: int, entries: int) -> str:
 
 
 def play_many(desk: Desk, matters: int = 200, entries: int = 10) -> None:
-    """So many matters with so many deposits each, all but the last of which the bank has shown."""
+    """So many matters with so many deposits each, all but the last of which the bank has shown; and a closed one."""
     desk.run("sheet", text=sheet_of_many(matters, entries))
     path = desk.book.with_suffix(".csv")
     path.write_text(statement_of_many(matters, entries), encoding="utf-8")

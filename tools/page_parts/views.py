@@ -100,7 +100,9 @@ def read_with_names(firm: Firm, checks: Checks) -> None:
             ("#/report/journal", (f"{DAY} FIRM the firm -3.18 6,838.00", "M000001-0002 Ada Chen -435.00")),
             (f"#/reconciliation/{DAY}", ("The bank\u2019s closing balance 5,563.00", "Deposits in transit",
                                          "Outstanding payments", "Cleo Marsh", "Sunrise Reporting", "| 1007 -650.00")),
-            ("#/m/000001", ("5,000.00 5,000.00", "-435.00 4,565.00", "-1,650.00 2,915.00"))):
+            ("#/m/000001", ("5,000.00 5,000.00", "-435.00 4,565.00", "-1,650.00 2,915.00")),
+            ("#/m/1", ("Matter 000001, Ada Chen",)),
+            ("#/m/000001/propose/fee/0009", ("Nothing is left to be paid of fee 0009.",))):
         browser.to(view)
         browser.settle()
         text = browser.text()
@@ -187,6 +189,7 @@ def find_among_many(firm: Firm, checks: Checks) -> None:
     browser.to("#/")
     checks.same("the matters in the list", see(browser, "rowsOfMatters()"), 200)
     checks.so("each has its client", "Client 200 of the firm" in browser.text())
+    checks.so("a closed one too", f"000201 Zora Quinn {DAY}" in browser.text(), browser.text())
     checks.so("ten payments that wait are shown", "Payments that wait for a lawyer: 10 of 50" in browser.text())
     browser.press("Show all 50")
     checks.so("and all when asked for", "000200 Client 200 of the firm Court Clerk" in browser.text(), browser.text())
@@ -195,6 +198,11 @@ def find_among_many(firm: Firm, checks: Checks) -> None:
         field.clear()
         field.send_keys(words or " ")
         checks.same(f"the matters that have {words!r}", see(browser, "rowsOfMatters()"), count)
+    field = browser.find("#find")[0]
+    field.clear()
+    field.send_keys("zora")
+    closed = [each.text for each in browser.find("tbody tr") if "Zora" in each.text and each.is_displayed()]
+    checks.so("a closed matter is found by its client", bool(closed) and see(browser, "rowsOfMatters()") == 0, closed)
     for words, told in (("1004", "M000004-0011 Client 4 of the firm"), ("court clerk", "Entries found: 10 of 50"),
                         ("nothing such", "No entry of an open matter has that.")):
         field = browser.find("#find-entry")[0]

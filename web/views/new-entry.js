@@ -76,6 +76,9 @@ async function propose({ page, no, card, fund, of }) {
     const funds = fundsOf(card, await settledClaims(page, no, card));
     const payeeOf = (value) => funds.find((each) => each.value === value)?.payee ?? '';
     const chosen = fund ? `${fund} ${of}` : 'general';
+    if (!funds.some(({ value }) => value === chosen)) {
+        return { title: 'Propose a payment', none: `Nothing is left to be paid of ${chosen}.` };
+    }
     return {
         title: 'Propose a payment', kind: 'propose', action: 'Propose it',
         about: 'A lawyer of the matter has to approve it before anything is paid.',
