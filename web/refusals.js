@@ -39,7 +39,7 @@ const RULES = {
 const LOAD_AGAIN = 'Load the page again. If it stays, tell the operator.';
 const LOOK_AT_NUMBER = 'Look at the number.';
 const SEND_AGAIN = 'Send it again: what was booked is booked once. Tell the operator.';
-const IN_PARTS = 'Bring the statement in parts, each with the first line.';
+const IN_PARTS = 'Import the statement in parts, each with the first line.';
 const STATEMENT_TOO_LARGE = 'That is too large: a statement has at most 4,194,304 bytes.';
 
 // Of each refusal of docs/REFUSALS.md what it means, and what to do next. `told` is the refusal's object.
@@ -79,11 +79,11 @@ const REFUSALS = {
     NoSeat: () => ['This person has no access to the matter.', 'Look at the name.'],
     LastLawyer: () => ['A matter keeps at least one lawyer.', 'Give the other lawyer access first.'],
     NotEmpty: () => ['The matter holds money, or a payment waits for a lawyer or the bank.',
-        'Pay out what is left, decline or void what waits, and bring in the statement that shows the payments.'],
+        'Pay out what is left, decline or void what waits, and import the statement that shows the payments.'],
     TooEarly: (told) => ['The records of a closed matter are kept for five years.',
         `They may go from ${told.day} on.`],
     NoStatement: () => ['No closing balance of that day was imported.',
-        'Bring in the statement that ends on the day, or ask for a day on which one ended.'],
+        'Import the statement that ends on the day, or ask for a day on which one ended.'],
     PeriodPurged: () => ["A matter with entries of that time was purged, so that time can't be told whole.",
         'Use what was printed or kept then.'],
     Store: () => ['The disk of the desk failed.', SEND_AGAIN],

@@ -244,7 +244,7 @@ def see_exceptions(bank: Bank) -> None:
     desk.ask("cashier", "POST", "/matters/000004/entries/0003/deposit",
              body='{"amount":"13.00","source":"Ada Chen","description":"costs"}')
     bank.browser.to("#/report/exceptions")
-    bank.has("It would be applied now: bring the same file in again.")
+    bank.has("It would be applied now: import the same file again.")
     look(bank.browser, "the exceptions", bank.checks)
     for width in (SMALL, PHONE, NARROW):
         small = Browser("cashier", bank.firm.origin, width)

@@ -88,7 +88,7 @@ def see_month(firm: Firm, browser: Browser, folder: pathlib.Path, checks: Checks
 def be_refused(firm: Firm, browser: Browser, checks: Checks) -> None:
     browser.to("#/month/2026-03-30")
     has(checks, browser, "a day without a closing balance", (
-        "No closing balance of that day was imported.", "404 NoStatement", "Bring in the bank\u2019s statement",
+        "No closing balance of that day was imported.", "404 NoStatement", "Import the bank\u2019s statement",
         f"Statements ended on {DAY}"))
     for view in (f"#/month/{DAY}", f"#/report/receipts/2026-03-01/{DAY}", f"#/report/outstanding/{DAY}"):
         firm.relay.fail("GET /firm/(month|receipts|outstanding)/", PURGED)

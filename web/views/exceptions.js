@@ -54,7 +54,7 @@ const cellsOf = (page, place) => (line) => (line.fields
         button(`Dismiss ${nameOf(line.fields)}`, () => confirm(page, line, place))]
     : ['', '', '', label(line.whole), 'by the day sheet alone']);
 
-const APPLIED = 'It would be applied now: bring the same file in again.';
+const APPLIED = 'It would be applied now: import the same file again.';
 
 // Why a line with this reference is an exception: the desk tells no reason of one that would be applied.
 const reasonIn = (told, { reference }) =>

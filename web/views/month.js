@@ -105,7 +105,7 @@ function packet(page, day, { text, bytes }) {
     ];
 }
 
-const advice = () => p(link('#/statement', 'Bring in the bank\u2019s statement'), ', with its closing balance.');
+const advice = () => p(link('#/statement', 'Import the bank\u2019s statement'), ', with its closing balance.');
 
 export async function month(page, day = null) {
     const asked = () => [closingForm(page, { day, address: HERE, action: 'Show the month\u2019s end' }),

@@ -1,5 +1,5 @@
 // The bank's statement: a file is matched with what waits for the bank, and what is sure is imported; or the file is
-// brought in as it is. It is kept in the browser until it is done with.
+// imported as it is. It is kept in the browser until it is done with.
 
 import { readAtBank } from '../at-bank.js';
 import { kindOf } from '../bank/file.js';
@@ -21,9 +21,9 @@ import { Taking } from './taking.js';
 const GREATEST = 4194304;
 
 const EMPTY = 'Choose a file.';
-const TOO_LARGE = 'The file has more than 4,194,304 bytes: bring it in parts.';
+const TOO_LARGE = 'The file has more than 4,194,304 bytes: import it in parts.';
 const NOT_READ = 'The file was changed or moved since it was chosen: choose it again.';
-const STILL_READ = 'A long statement may still be read. Wait some minutes, then bring the same file in again: '
+const STILL_READ = 'A long statement may still be read. Wait some minutes, then import the same file again: '
     + 'its lines are applied once.';
 const KEPT = 'The file is kept in this browser, with what was decided of its lines.';
 const CHANGED = 'The book has changed since this was matched. Nothing was imported: look at it again.';
@@ -59,7 +59,7 @@ function countsBox(name, told) {
             ['Closing balance of', told.statement],
         ]),
         told.exceptions > 0 && p(link('#/report/exceptions', 'Look at the exceptions'),
-            '. Book or mend what is missing, and bring the same file in again.'),
+            '. Book or mend what is missing, and import the same file again.'),
         told.unreadable > 0 && p('A line that is not readable was left out. Compare the file with the bank.'),
         told.statement && p(link(`#/reconciliation/${told.statement}`, `Reconcile ${told.statement}`), ', or show the ',
             link(`#/month/${told.statement}`, 'month\u2019s end'), '.'));
@@ -338,7 +338,7 @@ class Statement {
 
     // The box that tells the counts; null where the statement is refused, which is told.
     async bringIn(bytes) {
-        this.page.say('Bringing the statement in');
+        this.page.say('Importing the statement');
         const answer = await this.page.desk.post('/firm/statements', bytes);
         this.page.say('');
         if (!answer.isDone) {
@@ -354,7 +354,7 @@ class Statement {
         const open = this.file.countOpen();
         if (open && !isAsked) {
             const all = button('Import them as exceptions', () => this.run(() => this.bringAll(true)));
-            this.tell(noteBox(p(`Lines without a reference: ${open}. Brought in so they are exceptions. `
+            this.tell(noteBox(p(`Lines without a reference: ${open}. Imported so they are exceptions. `
                 + 'Match the file first.'), p(all)));
             return;
         }
