@@ -26,7 +26,7 @@ export function table(caption, columns, rows, foot = null) {
     const body = rows.map((row) => (Array.isArray(row) ? rowOf(columns, row) : row));
     return el('table', { role: 'table' }, el('caption', {}, caption), headOf(columns),
         el('tbody', { role: 'rowgroup' }, body),
-        foot && el('tfoot', { role: 'rowgroup' }, rowOf(columns, foot)));
+        foot && el('tfoot', { role: 'rowgroup' }, rowOf([{ ...columns[0], name: '' }, ...columns.slice(1)], foot)));
 }
 
 // A table that shows so many of its rows, and all of them when asked for. Ten thousand take a browser seconds to draw.
