@@ -72,6 +72,8 @@ def approve(walk: Walk) -> None:
 def reconcile(walk: Walk, day: datetime.date) -> None:
     walk.cashier.to(f"#/reconciliation/{day}")
     walk.has(walk.cashier, "Bank, journal and ledgers agree.", "4565.00")
+    walk.cashier.follow("month\u2019s end")
+    walk.has(walk.cashier, f"Month\u2019s end of {day}", "Together 4,565.00", "SHA-256 of the packet")
     walk.cashier.to("#/report/exceptions")
     walk.lacks(walk.cashier, "Dismiss")
     walk.lee.to(f"#/m/{MATTER}/e/0002")
