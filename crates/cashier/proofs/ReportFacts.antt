@@ -1,18 +1,23 @@
 -- What the reply to a report says of the program's end, and that a report makes no rows.
 use Rattle.cashier.proofs.Names.{◌≡◌, ℕ, Option, inl, inr, Refusal, Firm, Seen, LeavesOr, IsMade, MayLeave, after_asked, Asks, asked_on, arith, ints, nat_tests}
-use Rattle.trust_matter.specs.declared.ask.Ask.TheVariants.{Accounting}
+use Rattle.trust_matter.specs.declared.ask.Ask.TheVariants.{Account, Accounting}
 use Rattle.trust_matter.specs.declared.ask.Caller.TheVariants.{Cashier}
 use Rattle.command_line.specs.declared.command.ReportCommand.{ReportCommand}
 use Rattle.command_line.specs.declared.command.ReportCommand.TheVariants as commands
+use Rattle.trust_base.specs.Periods.{Span}
 use Rattle.cashier.specs.Report.{asked_for}
 
 -- an accounting changes nothing, whether it is refused or not
 accounting-same : (o : Option Refusal) (day m : ℕ) (firm : Firm) → after_asked o m (asked_on day Cashier Accounting) firm ≡ firm
 accounting-same o day m firm = grind (arith, ints, nat_tests)
 
+-- nor does an account of a period
+account-same : (o : Option Refusal) (day m : ℕ) (period : Span) (firm : Firm) → after_asked o m (asked_on day Cashier (Account period)) firm ≡ firm
+account-same o day m period firm = grind (arith, ints, nat_tests)
+
 -- the rows that a report makes are those that were there
 report-makes : (day : ℕ) (firm found : Firm) (command : ReportCommand) → IsMade day firm (Asks (asked_for command)) found → found ≡ firm
-report-makes day firm found command made = grind (arith, ints, nat_tests, accounting-same)
+report-makes day firm found command made = grind (arith, ints, nat_tests, accounting-same, account-same)
 
 pub report-leaves : {done : Type 0} (day : ℕ) (firm after : Firm) (command : ReportCommand) (old new : Seen)
     → MayLeave done (IsMade day firm (Asks (asked_for command))) firm after old new → LeavesOr firm old.leaves new.leaves

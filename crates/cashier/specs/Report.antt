@@ -2,7 +2,7 @@
 use Rattle.std.specs.Prelude.{ℕ, List, Option}
 use Rattle.trust_base.specs.declared.refusal.Refusal.{Refusal}
 use Rattle.trust_base.specs.declared.refusal.Refusal.TheVariants.{Memory, Store}
-use Rattle.trust_matter.specs.declared.ask.Ask.TheVariants.{Accounting}
+use Rattle.trust_matter.specs.declared.ask.Ask.TheVariants.{Account, Accounting}
 use Rattle.trust_matter.specs.declared.ask.Caller.TheVariants.{Cashier}
 use Rattle.firm_rows.specs.Firm.{Firm}
 use Rattle.trust_desk.specs.FirmStep.{Steps}
@@ -19,12 +19,13 @@ use Rattle.cashier.specs.Sheet.{reply_line}
 use Rattle.cashier.specs.declared.outcome.Outcome.{Outcome}
 use Rattle.cashier.specs.declared.outcome.Outcome.TheVariants as outcome
 
--- the cashier's request for a report: of the firm, or the accounting of a matter
+-- the cashier's request for a report: of the firm, or the accounting of a matter, or its account of a period
 abbrev pub asked_for : ReportCommand → Request
 asked_for (commands.Reconcile day) = requests.Reconcile Cashier day
 asked_for (commands.AsOf report day) = requests.AsOf Cashier report day
 asked_for (commands.Within report period) = requests.Within Cashier report period
 asked_for (commands.Ledger matter) = requests.Matter matter Cashier Accounting
+asked_for (commands.Account matter period) = requests.Matter matter Cashier (Account period)
 asked_for (commands.Firm report) = requests.Report Cashier report
 
 -- the outcome of a run after the line of a refusal was written

@@ -9,7 +9,9 @@ ghost use Rattle.trust_store.specs.Calls.{IsRead};
 ghost use Rattle.trust_store.specs.Crashes.{LeavesOr};
 
 use crate::outcome::{Outcome, outcome_of_reply, write_reply};
-use cashier_remarks::{ExceptionTelling, NowReport, NowTelling, Remark, Remarks, TwiceTelling};
+use cashier_remarks::{
+    ExceptionTelling, NowReport, NowTelling, PaymentTelling, Remark, Remarks, TwiceTelling,
+};
 use command_line::ReportCommand;
 use std::alloc::Global;
 use std::io::Write;
@@ -32,6 +34,11 @@ fn request_for(command: ReportCommand) -> Request
             no,
             caller: Caller::Cashier,
             ask: Ask::Accounting,
+        },
+        ReportCommand::Account(no, period) => Request::Matter {
+            no,
+            caller: Caller::Cashier,
+            ask: Ask::Account(period),
         },
         ReportCommand::Firm(report) => Request::Report(Caller::Cashier, report),
     }
@@ -99,11 +106,24 @@ fn tell_reasons<M: Remarks, B: Book>(alloc: Global, remarks: &M, desk: &mut Desk
     }
 }
 
+// Reports which payments on an account of a matter the bank has long not shown, and which fault ended that, if any.
+fn tell_payments<M: Remarks, B: Book>(
+    alloc: Global,
+    telling: &PaymentTelling<'_, M>,
+    desk: &mut Desk<B>,
+)
+    ensures { (told : Result Unit StoreFault) × IsRead told (B.seen desk.old) (B.seen desk.new) }
+{
+    if let Err(fault) = desk.tell_outstanding(alloc, telling.matter, telling) {
+        telling.remarks.tell(&Remark::RowsEnd(fault));
+    }
+}
+
 // Reports that a report goes up to a day that is after the business day.
 fn tell_of_day_to_come<M: Remarks>(remarks: &M, command: ReportCommand, today: Day) {
     let last = match command {
         ReportCommand::Reconcile(day) | ReportCommand::AsOf(_, day) => day,
-        ReportCommand::Within(_, period) => period.to(),
+        ReportCommand::Within(_, period) | ReportCommand::Account(_, period) => period.to(),
         ReportCommand::Ledger(_) | ReportCommand::Firm(_) => return,
     };
     if today.get() < last.get() {
@@ -114,9 +134,9 @@ fn tell_of_day_to_come<M: Remarks>(remarks: &M, command: ReportCommand, today: D
 /// Prints a report of a desk's book on a business day, as the cashier: its text as it is, or the line of its refusal.
 /// After a report up to a day that has not come, a person is told so. After the exceptions, why each is one, or that an
 /// import would now accept it. After these and a reconciliation, which bank lines look like the same line. After a
-/// trial balance or a journal of a day that `is_past`, that there is later work. The contract does not say what is
-/// told. A fault that ends it is reported too, but is not a fault of the run. If nobody is told, the book is not read
-/// for it.
+/// trial balance or a journal of a day that `is_past`, that there is later work. After an account, which of its
+/// payments the bank has not shown for more than 180 days. The contract does not say what is told. A fault that ends it
+/// is reported too, but is not a fault of the run. If nobody is told, the book is not read for it.
 ///
 /// The outcome is `Done` if the text was written, and `Refused` if the line of a refusal was. If the store failed or
 /// memory ran out, the line for that was printed, and it is `StoreFault` or `MemoryFault`. If a write failed, it is
@@ -146,6 +166,7 @@ pub fn run_report<M: Remarks, W: Write, B: Book>(
         | ReportCommand::AsOf(_, _)
         | ReportCommand::Within(_, _)
         | ReportCommand::Ledger(_)
+        | ReportCommand::Account(_, _)
         | ReportCommand::Firm(_) => ClearedLines::none(alloc),
     };
     let outcome = print_report(alloc, command, today, desk, &mut lines, writer);
@@ -169,6 +190,15 @@ pub fn run_report<M: Remarks, W: Write, B: Book>(
         ReportCommand::Firm(Report::Journal) if is_past => {
             let telling = NowTelling::new(NowReport::Journal, today, remarks);
             tell_rows(alloc, remarks, &telling, desk, today)
+        }
+        ReportCommand::Account(no, period) => {
+            let telling = PaymentTelling {
+                matter: *no,
+                period: *period,
+                today,
+                remarks,
+            };
+            tell_payments(alloc, &telling, desk)
         }
         ReportCommand::Firm(Report::Trial | Report::Journal | Report::Retention | Report::OwnLedger)
         | ReportCommand::AsOf(_, _)

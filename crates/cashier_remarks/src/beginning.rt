@@ -12,8 +12,8 @@ const DAYS_AHEAD: u64 = 31;
 
 const SECONDS_OF_A_DAY: u64 = 86_400;
 
-// The number of days from 1970-01-01 to a day, counting in years that begin in March.
-fn days_since_1970(day: Day) -> u64 {
+/// The number of days from 1970-01-01 to a day, counting in years that begin in March.
+pub(crate) fn days_since_1970(day: Day) -> u64 {
     let number = day.get() as u64;
     let (year, month) = (number / 10_000, number / 100 % 100);
     let (year, month) = if month < 3 {

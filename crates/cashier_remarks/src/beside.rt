@@ -1,11 +1,12 @@
 // Remarks that go with a report, from the rows of the book.
 
+use crate::beginning::days_since_1970;
 use crate::plain::Plain;
 use crate::remarks::{Remark, Remarks};
 use firm_rows::Owner;
 use std::fmt;
-use trust_base::{Day, Dollars};
-use trust_desk::{ClearedLine, RowWatch};
+use trust_base::{Day, Dollars, EntryNo, MatterNo, Period};
+use trust_desk::{ClearedLine, PaymentWatch, RowWatch};
 
 /// Two bank lines with the same date, bank reference and amount.
 #[derive(Clone, Copy)]
@@ -128,6 +129,55 @@ impl<M: Remarks> RowWatch for NowTelling<'_, M> {
                 report: self.report,
                 today: self.today,
                 last,
+            }));
+        }
+    }
+}
+
+// How many days the bank may take to show a payment before a person is told.
+const DAYS_OUTSTANDING: u64 = 180;
+
+/// A payment that was issued long ago and that the bank has not shown.
+#[derive(Clone, Copy)]
+pub struct OldPayment {
+    pub matter: MatterNo,
+    pub entry: EntryNo,
+    /// The day on which it was issued.
+    pub issued: Day,
+}
+
+impl fmt::Display for OldPayment {
+    fn fmt<W: fmt::Write>(&self, f: &mut fmt::Formatter<W>) -> fmt::Result {
+        let (matter, entry, issued) = (self.matter, self.entry, self.issued);
+        write!(
+            f,
+            "payment {entry} of matter {matter} was issued on {issued}, more than {DAYS_OUTSTANDING} days ago, and the \
+            bank has not shown it: ask whoever was paid, and have it voided if it is lost"
+        )
+    }
+}
+
+/// Reports which payments on a matter's account of a period the bank has not shown for more than 180 days.
+#[derive(Drop)]
+pub struct PaymentTelling<'a, M> {
+    /// The matter.
+    pub matter: MatterNo,
+    /// The period of the account.
+    pub period: Period,
+    /// The business day.
+    pub today: Day,
+    /// Receives the remarks.
+    pub remarks: &'a M,
+}
+
+impl<M: Remarks> PaymentWatch for PaymentTelling<'_, M> {
+    fn outstanding(&self, number: EntryNo, issued: Day) {
+        let age = days_since_1970(self.today).saturating_sub(days_since_1970(issued));
+        if age > DAYS_OUTSTANDING && issued.get() <= self.period.to().get() {
+            self.remarks.tell(&Remark::OldPayment(OldPayment {
+                matter: self.matter,
+                entry: number,
+                issued,
             }));
         }
     }

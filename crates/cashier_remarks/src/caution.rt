@@ -90,7 +90,7 @@ impl fmt::Display for Caution<'_> {
         match *self {
             Caution::NotFirm(payee) => write!(
                 f,
-                "{payee} is not FIRM, the firm: if the firm is meant, have this declined, \
+                "{payee} is not FIRM, the firm: if the firm is meant, withdraw it, \
                 and pay FIRM from a fee that was earned"
             ),
             Caution::LoneQuote(number, text) => write!(

@@ -96,6 +96,7 @@ fn amount_with_comma(form: &VerbForm, row: &ByteRecord) -> Option<BankAmount> {
         | Verb::Seat
         | Verb::Drop
         | Verb::Cancel
+        | Verb::Withdraw
         | Verb::Close
         | Verb::Purge
         | Verb::Entry
@@ -170,7 +171,26 @@ fn fault_of_field(row: &ByteRecord, field: Field) -> RecordFault<'_> {
     match field {
         Field::Amount => fault_of_amount(field, text, 1),
         Field::ToClient => fault_of_amount(field, text, 0),
-        _ => RecordFault::BadField(field, Excerpt::new(text)),
+        Field::Matter
+        | Field::Entry
+        | Field::Client
+        | Field::Lawyer
+        | Field::Person
+        | Field::Role
+        | Field::Source
+        | Field::Description
+        | Field::From
+        | Field::Of
+        | Field::Payee
+        | Field::Purpose
+        | Field::Instrument
+        | Field::On
+        | Field::Claimant
+        | Field::Reason
+        | Field::Record
+        | Field::Day
+        | Field::Body
+        | Field::Header => RecordFault::BadField(field, Excerpt::new(text)),
     }
 }
 

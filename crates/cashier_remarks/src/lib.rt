@@ -39,7 +39,7 @@ mod verbs;
 mod whole_file;
 
 pub use beginning::{is_past, tell_of_day, tell_of_new_book, tell_of_no_book};
-pub use beside::{ClearedTwice, NowReport, NowTelling, TwiceTelling};
+pub use beside::{ClearedTwice, NowReport, NowTelling, OldPayment, PaymentTelling, TwiceTelling};
 pub use caution::Caution;
 pub use earlier_line::{AppliedLines, EarlierLine, tell_of_earlier};
 pub use entry_line::{EntryFault, EntryLine};

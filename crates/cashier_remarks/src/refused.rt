@@ -100,8 +100,13 @@ impl fmt::Display for RefusedRecord<'_> {
             Refusal::WrongKind => match self.verb() {
                 Some(Verb::Cancel) => write!(
                     f,
-                    "entry {entry} is no deposit: a lawyer declines or voids a payment, \
+                    "entry {entry} is no deposit: a proposed payment is withdrawn, a lawyer voids an issued one, \
                     and a client disputes a fee; look at it by entry,{matter},{entry}"
+                ),
+                Some(Verb::Withdraw) => write!(
+                    f,
+                    "entry {entry} is no payment: a deposit is cancelled, and a client disputes a fee; \
+                    look at it by entry,{matter},{entry}"
                 ),
                 Some(Verb::Award) => write!(
                     f,
@@ -137,6 +142,11 @@ impl fmt::Display for RefusedRecord<'_> {
                 Some(Verb::Propose) => {
                     write!(f, "claim {entry} is not settled yet: award it first")
                 }
+                Some(Verb::Withdraw) => write!(
+                    f,
+                    "payment {entry} is not proposed any more: if it was issued, a lawyer voids it; \
+                    look at it by entry,{matter},{entry}"
+                ),
                 Some(Verb::Purge) => write!(f, "matter {matter} is not closed: close it first"),
                 Some(
                     Verb::Open
@@ -186,7 +196,8 @@ impl fmt::Display for RefusedRecord<'_> {
             Refusal::NotEmpty => write!(
                 f,
                 "matter {matter} holds money, or a payment waits, as ledger {matter} shows: pay out what it has; \
-                what is held or issued waits for the bank, or is cancelled or voided; what is proposed is declined"
+                what is held or issued waits for the bank, or is cancelled or voided; \
+                what is proposed is withdrawn or declined"
             ),
             Refusal::TooEarly(first) => {
                 let first = first.get();

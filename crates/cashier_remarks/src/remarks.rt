@@ -1,7 +1,7 @@
 // Remarks: what a person is told during a run, in addition to what it prints and how it ends. They are told and
 // forgotten: nothing compares them.
 
-use crate::beside::{ClearedTwice, LaterWork};
+use crate::beside::{ClearedTwice, LaterWork, OldPayment};
 use crate::check::{write_flaw, write_unread};
 use crate::exception::ExceptionRemark;
 use crate::header::HeaderRemark;
@@ -57,6 +57,8 @@ pub enum Remark<'a> {
     OfNow(LaterWork),
     /// A report goes up to a day that is after the business day.
     ToCome { today: Day, last: Day },
+    /// A payment on an account was issued long ago, and the bank has not shown it.
+    OldPayment(OldPayment),
     /// Reporting what goes with a report was ended by this fault.
     RowsEnd(StoreFault),
     /// The lines that a book has before an import could not be read, because of this fault.
@@ -156,6 +158,7 @@ impl fmt::Display for Remark<'_> {
                 f,
                 "{last} is after {today}, the business day: what is booked until then is not in these figures"
             ),
+            Remark::OldPayment(told) => told.fmt(f),
             Remark::RowsEnd(fault) => write!(f, "{fault}: nothing more is told beside the report"),
             Remark::EarlierEnd(fault) => write!(
                 f,

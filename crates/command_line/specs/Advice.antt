@@ -39,13 +39,14 @@ command_text commands.Journal = codes "journal"
 command_text commands.Retention = codes "retention"
 command_text commands.Exceptions = codes "exceptions"
 command_text commands.Ledger = codes "ledger"
+command_text commands.Account = codes "account"
 command_text commands.Check = codes "check"
 
 -- how a command is written after the options; without a command, all of them
 abbrev pub command_usage : Option CommandName → Text
 command_usage None = codes "(sheet | import FILE | match FILE | stream | serve PORT COUNT | reconcile DAY | "
     ++ codes "clients DAY | outstanding DAY | receipts FROM TO | disbursements FROM TO | month DAY | "
-    ++ codes "trial | journal | retention | exceptions | ledger MATTER|FIRM | check)"
+    ++ codes "trial | journal | retention | exceptions | ledger MATTER|FIRM | account MATTER FROM TO | check)"
 command_usage (Some commands.Sheet) = codes "sheet"
 command_usage (Some commands.Import) = codes "import FILE"
 command_usage (Some commands.Match) = codes "match FILE"
@@ -62,6 +63,7 @@ command_usage (Some commands.Journal) = codes "journal"
 command_usage (Some commands.Retention) = codes "retention"
 command_usage (Some commands.Exceptions) = codes "exceptions"
 command_usage (Some commands.Ledger) = codes "ledger MATTER|FIRM"
+command_usage (Some commands.Account) = codes "account MATTER FROM TO"
 command_usage (Some commands.Check) = codes "check"
 
 -- a command as it may be typed
@@ -83,6 +85,7 @@ command_example (Some commands.Journal) = codes "journal"
 command_example (Some commands.Retention) = codes "retention"
 command_example (Some commands.Exceptions) = codes "exceptions"
 command_example (Some commands.Ledger) = codes "ledger 000001"
+command_example (Some commands.Account) = codes "account 000001 2026-03-01 2026-03-31"
 command_example (Some commands.Check) = codes "check"
 
 -- what is wrong
@@ -90,7 +93,8 @@ abbrev pub wrong_text : Wrong → Text
 wrong_text (wrong.Word text) = text.now ++ codes " is not taken here"
 wrong_text (wrong.NoDay text) = text.now ++ codes " is no day: write it as 2026-03-16"
 wrong_text (wrong.BeforeFirst text) = text.now ++ codes " is before the first day: write the earlier day first"
-wrong_text (wrong.NoMatter text) = text.now ++ codes " is neither a matter's number, as 000001, nor FIRM"
+wrong_text (wrong.NoCard text) = text.now ++ codes " is neither a matter's number, as 000001, nor FIRM"
+wrong_text (wrong.NoMatter text) = text.now ++ codes " is no matter's number: write it as 000001"
 wrong_text (wrong.NoPort text) = text.now ++ codes " is no port from 1024 to 65535"
 wrong_text (wrong.NoCount text) = text.now ++ codes " is no count from 1 to 1000000"
 wrong_text (wrong.Repeated settings.Today) = codes "--today is given twice"
@@ -217,9 +221,9 @@ abbrev pub TakesDay : Text → Type 0
 TakesDay name = (name ≡ codes "reconcile") ⊎ (name ≡ codes "clients")
     ⊎ (name ≡ codes "outstanding") ⊎ (name ≡ codes "month")
 
--- the operands of the command with this name are the two days of a period
+-- the last operands of the command with this name are the two days of a period
 abbrev pub TakesPeriod : Text → Type 0
-TakesPeriod name = (name ≡ codes "receipts") ⊎ (name ≡ codes "disbursements")
+TakesPeriod name = (name ≡ codes "receipts") ⊎ (name ≡ codes "disbursements") ⊎ (name ≡ codes "account")
 
 -- both are days, and the second is earlier
 abbrev pub AreReversed : Option ℕ → Option ℕ → Type 0
@@ -245,9 +249,11 @@ IsWrongOperand name values (wrong.NoDay text) =
     × IsWrongPeriod (first_of (codes "FROM") values) (first_of (codes "TO") values) (wrong.NoDay text)
 IsWrongOperand name values (wrong.BeforeFirst text) = TakesPeriod name
     × IsWrongPeriod (first_of (codes "FROM") values) (first_of (codes "TO") values) (wrong.BeforeFirst text)
-IsWrongOperand name values (wrong.NoMatter text) =
+IsWrongOperand name values (wrong.NoCard text) =
     (name ≡ codes "ledger") × (first_of (codes "MATTER") values ≡ Some text.now)
     × (text.now ≢ codes "FIRM") × (matter_of text.now ≡ None)
+IsWrongOperand name values (wrong.NoMatter text) =
+    (name ≡ codes "account") × (first_of (codes "MATTER") values ≡ Some text.now) × (matter_of text.now ≡ None)
 IsWrongOperand name values (wrong.NoPort text) = (name ≡ codes "serve")
     × (first_of (codes "PORT") values ≡ Some text.now) × ((port : ℕ) → ¬ IsPort text.now port)
 IsWrongOperand name values (wrong.NoCount text) = (name ≡ codes "serve")

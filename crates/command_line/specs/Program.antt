@@ -17,7 +17,7 @@ use Rattle.command_line.specs.declared.command.CliFault.TheVariants as faults
 use Rattle.command_line.specs.declared.command.Task.{Task}
 use Rattle.command_line.specs.declared.command.Task.TheVariants as tasks
 use Rattle.command_line.specs.declared.command.ReportCommand.{ReportCommand}
-use Rattle.command_line.specs.declared.command.ReportCommand.TheVariants.{Reconcile, AsOf, Within, Ledger, Firm}
+use Rattle.command_line.specs.declared.command.ReportCommand.TheVariants.{Reconcile, AsOf, Within, Ledger, Account, Firm}
 use Rattle.trust_desk.specs.declared.requests.DayReport.{DayReport}
 use Rattle.trust_desk.specs.declared.requests.DayReport.TheVariants as day_reports
 use Rattle.trust_desk.specs.declared.requests.PeriodReport.{PeriodReport}
@@ -64,8 +64,8 @@ run_apps = command_app (codes "sheet") [] ∷ command_app (codes "import") (code
     ∷ command_app (codes "serve") (codes "PORT" ∷ codes "COUNT" ∷ []) ∷ command_app (codes "check") [] ∷ []
 
 -- the commands of reports: `reconcile DAY`, `clients DAY`, `outstanding DAY`, `receipts FROM TO`,
--- `disbursements FROM TO`, `month DAY`, `trial`, `journal`, `retention`, `exceptions`, `ledger MATTER`; instead of a
--- matter's number there may be the word FIRM
+-- `disbursements FROM TO`, `month DAY`, `trial`, `journal`, `retention`, `exceptions`, `ledger MATTER`,
+-- `account MATTER FROM TO`; after `ledger` there may be the word FIRM instead of a matter's number
 unfoldable pub report_apps : List App
 report_apps = command_app (codes "reconcile") (codes "DAY" ∷ []) ∷ command_app (codes "clients") (codes "DAY" ∷ [])
     ∷ command_app (codes "outstanding") (codes "DAY" ∷ [])
@@ -74,7 +74,8 @@ report_apps = command_app (codes "reconcile") (codes "DAY" ∷ []) ∷ command_a
     ∷ command_app (codes "month") (codes "DAY" ∷ [])
     ∷ command_app (codes "trial") []
     ∷ command_app (codes "journal") [] ∷ command_app (codes "retention") [] ∷ command_app (codes "exceptions") []
-    ∷ command_app (codes "ledger") (codes "MATTER" ∷ []) ∷ []
+    ∷ command_app (codes "ledger") (codes "MATTER" ∷ [])
+    ∷ command_app (codes "account") (codes "MATTER" ∷ codes "FROM" ∷ codes "TO" ∷ []) ∷ []
 
 -- a command line with these commands added after its own
 abbrev pub with_commands : App → List App → App
@@ -135,6 +136,7 @@ report_name (Reconcile day) = codes "reconcile"
 report_name (AsOf report day) = day_report_name report
 report_name (Within report period) = period_report_name report
 report_name (Ledger matter) = codes "ledger"
+report_name (Account matter period) = codes "account"
 report_name (Firm report) = firm_report_name report
 
 -- the values of the command are the two days of a period: the first, and one that is not earlier
@@ -143,13 +145,19 @@ pub record IsPeriodGiven (values : List Row) (period : Span) : Type 0 where
   pub to_given : option_and_then day_of (first_of (codes "TO") values) ≡ Some period.to
   pub order : period.from ≤ period.to
 
--- the values of the command are the operands: the text of a day, those of a period's days, a matter's six digits, or,
--- for the card of the firm's own money alone, the word for the firm
+-- the values of the command are a matter's six digits and the two days of a period
+pub record IsAccountGiven (values : List Row) (matter : ℕ) (period : Span) : Type 0 where
+  pub matter_given : option_and_then matter_of (first_of (codes "MATTER") values) ≡ Some matter
+  pub period_given : IsPeriodGiven values period
+
+-- the values of the command are the operands: the text of a day, those of a period's days, a matter's six digits, these
+-- and a period's days, or, for the card of the firm's own money alone, the word for the firm
 abbrev pub HasReportOperands : List Row → ReportCommand → Type 0
 HasReportOperands values (Reconcile day) = option_and_then day_of (first_of (codes "DAY") values) ≡ Some day
 HasReportOperands values (AsOf report day) = option_and_then day_of (first_of (codes "DAY") values) ≡ Some day
 HasReportOperands values (Within report period) = IsPeriodGiven values period
 HasReportOperands values (Ledger matter) = option_and_then matter_of (first_of (codes "MATTER") values) ≡ Some matter
+HasReportOperands values (Account matter period) = IsAccountGiven values matter period
 HasReportOperands values (Firm reports.OwnLedger) = first_of (codes "MATTER") values ≡ Some (codes "FIRM")
 HasReportOperands values (Firm report) = ⊤
 

@@ -40,6 +40,8 @@ pub enum CommandName {
     Exceptions,
     /// Print a ledger card.
     Ledger,
+    /// Print a client's statement of account for a period.
+    Account,
     /// Check the book's rows.
     Check,
 }
@@ -66,6 +68,8 @@ pub enum Wrong<'a> {
     /// The operand TO is a day before FROM.
     BeforeFirst(&'a str),
     /// The operand of `ledger` is neither a matter's number nor the word for the firm.
+    NoCard(&'a str),
+    /// The first operand of `account` is not a matter's number.
     NoMatter(&'a str),
     /// The first operand of `serve` is not a port.
     NoPort(&'a str),
@@ -113,6 +117,7 @@ pub fn command_called(name: &str) -> Option<CommandName>
         "retention" => Some(CommandName::Retention),
         "exceptions" => Some(CommandName::Exceptions),
         "ledger" => Some(CommandName::Ledger),
+        "account" => Some(CommandName::Account),
         "check" => Some(CommandName::Check),
         _ => None,
     }
@@ -126,7 +131,8 @@ fn usage_of(command: Option<CommandName>) -> &'static str
         None =>
             "(sheet | import FILE | match FILE | stream | serve PORT COUNT | reconcile DAY | clients DAY | \
             outstanding DAY | receipts FROM TO | disbursements FROM TO | month DAY | \
-            trial | journal | retention | exceptions | ledger MATTER|FIRM | check)",
+            trial | journal | retention | exceptions | ledger MATTER|FIRM | \
+            account MATTER FROM TO | check)",
         Some(CommandName::Sheet) => "sheet",
         Some(CommandName::Import) => "import FILE",
         Some(CommandName::Match) => "match FILE",
@@ -143,6 +149,7 @@ fn usage_of(command: Option<CommandName>) -> &'static str
         Some(CommandName::Retention) => "retention",
         Some(CommandName::Exceptions) => "exceptions",
         Some(CommandName::Ledger) => "ledger MATTER|FIRM",
+        Some(CommandName::Account) => "account MATTER FROM TO",
         Some(CommandName::Check) => "check",
     }
 }
@@ -168,6 +175,7 @@ fn example_of(command: Option<CommandName>) -> &'static str
         Some(CommandName::Retention) => "retention",
         Some(CommandName::Exceptions) => "exceptions",
         Some(CommandName::Ledger) => "ledger 000001",
+        Some(CommandName::Account) => "account 000001 2026-03-01 2026-03-31",
         Some(CommandName::Check) => "check",
     }
 }
@@ -183,10 +191,13 @@ impl fmt::Display for Wrong<'_> {
                 f,
                 "{text} is before the first day: write the earlier day first"
             ),
-            Wrong::NoMatter(text) => write!(
+            Wrong::NoCard(text) => write!(
                 f,
                 "{text} is neither a matter's number, as 000001, nor FIRM"
             ),
+            Wrong::NoMatter(text) => {
+                write!(f, "{text} is no matter's number: write it as 000001")
+            }
             Wrong::NoPort(text) => write!(f, "{text} is no port from 1024 to 65535"),
             Wrong::NoCount(text) => write!(f, "{text} is no count from 1 to 1000000"),
             Wrong::Repeated(Setting::Today) => f.write_str("--today is given twice"),

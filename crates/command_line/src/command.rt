@@ -29,6 +29,8 @@ pub enum ReportCommand {
     Within(PeriodReport, Period),
     /// The ledger card of this matter.
     Ledger(MatterNo),
+    /// The statement of account of this matter for this period.
+    Account(MatterNo, Period),
     /// This report on the firm.
     Firm(Report),
 }
@@ -152,10 +154,6 @@ fn period_operand(values: &ArgMatches) -> Option<Period>
     ensures none { IfNone result ((period : Span) → ¬ IsPeriodGiven (rows_of (found_of values.now)) period) }
 {
     let (first, last) = (day_operand(values, "FROM")?, day_operand(values, "TO")?);
-    // The contract of the call below does not say that it refuses them.
-    if last.get() < first.get() {
-        return None;
-    }
     Period::new(first, last)
 }
 
@@ -214,6 +212,11 @@ fn task_of<'a>(name: &str, values: &ArgMatches<'a>) -> Option<Task<'a>>
             }
             Some(Task::Report(ReportCommand::Ledger(MatterNo::read(card.as_bytes())?)))
         }
+        "account" => {
+            let no = MatterNo::read(values.get_str("MATTER")?.as_bytes())?;
+            let period = period_operand(values)?;
+            Some(Task::Report(ReportCommand::Account(no, period)))
+        }
         _ => None,
     }
 }
@@ -237,6 +240,7 @@ const COMMANDS: &[(&str, &[&str])] = &[
     ("retention", &[]),
     ("exceptions", &[]),
     ("ledger", &["MATTER"]),
+    ("account", &["MATTER", "FROM", "TO"]),
 ];
 
 // Makes a command with required operands.

@@ -206,12 +206,22 @@ fn no_period<'a>(from: &'a str, to: &'a str) -> Option<Wrong<'a>>
 
 // Reports a text that is neither a matter's number nor the word for the firm.
 fn no_card<'a>(text: &'a str) -> Option<Wrong<'a>>
-    ensures { IfSome result (λ wrong. (wrong ≡ Wrong.NoMatter text.entry)
+    ensures { IfSome result (λ wrong. (wrong ≡ Wrong.NoCard text.entry)
         × (text.entry.now ≢ codes "FIRM") × (matter_of text.entry.now ≡ None)) }
 {
     if is_firm(text) {
         return None;
     }
+    match MatterNo::read(text.as_bytes()) {
+        Some(_) => None,
+        None => Some(Wrong::NoCard(text)),
+    }
+}
+
+// Reports a text that is not a matter's number.
+fn no_matter<'a>(text: &'a str) -> Option<Wrong<'a>>
+    ensures { IfSome result (λ wrong. (wrong ≡ Wrong.NoMatter text.entry) × (matter_of text.entry.now ≡ None)) }
+{
     match MatterNo::read(text.as_bytes()) {
         Some(_) => None,
         None => Some(Wrong::NoMatter(text)),
@@ -251,6 +261,10 @@ fn wrong_operand<'a>(name: &str, values: &ArgMatches<'a>) -> Option<Wrong<'a>>
             no_period(values.get_str("FROM")?, values.get_str("TO")?)
         }
         "ledger" => no_card(values.get_str("MATTER")?),
+        "account" => match no_matter(values.get_str("MATTER")?) {
+            Some(wrong) => Some(wrong),
+            None => no_period(values.get_str("FROM")?, values.get_str("TO")?),
+        },
         "serve" => match no_port(values.get_str("PORT")?) {
             Some(wrong) => Some(wrong),
             None => no_count(values.get_str("COUNT")?),

@@ -11,7 +11,7 @@ use Rattle.trust_base.specs.declared.refusal.Refusal.TheVariants.{BadField, Memo
 use Rattle.firm_rows.specs.Firm.{Firm}
 use Rattle.trust_store.specs.Seen.{Seen}
 use Rattle.trust_desk.specs.FirmStep.{KindStopped, Steps, firm_step}
-use Rattle.trust_desk.specs.Heard.{Asks, Dismisses, Heard, Kind, NotRead, OfItems, OfMatter, OnlyTold, Unread, kind_of}
+use Rattle.trust_desk.specs.Heard.{Asks, Dismisses, Heard, Kind, NotRead, OfItems, OfMatter, OnlyShown, OnlyTold, Unread, kind_of}
 use Rattle.trust_desk.specs.Replies.{is_fault_reply, refused}
 use Rattle.trust_desk.specs.declared.requests.Reply.{Reply}
 use Rattle.trust_desk.specs.declared.requests.Request.{Request}
@@ -40,6 +40,7 @@ IsNoImport (OfMatter m caller a) = ⊤
 IsNoImport (OfItems refused items) = ⊥
 IsNoImport (Dismisses caller line) = ⊤
 IsNoImport (OnlyTold text) = ⊤
+IsNoImport (OnlyShown json) = ⊤
 IsNoImport (NotRead named r) = ⊤
 
 -- no record asks for an import
@@ -84,6 +85,7 @@ stopped-is day firm after (OfMatter m caller a) none s = s
 stopped-is day firm after (OfItems refused items) none s = absurd none
 stopped-is day firm after (Dismisses caller line) none s = s
 stopped-is day firm after (OnlyTold text) none s = s
+stopped-is day firm after (OnlyShown json) none s = s
 stopped-is day firm after (NotRead named r) none s = s
 
 pub steps-fault : (day : ℕ) (firm after : Firm) (fields : List (List ℕ)) (reply : Reply) → is_fault_reply reply ≡ true → Steps day firm (heard_of fields) reply after

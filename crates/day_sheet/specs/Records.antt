@@ -47,6 +47,7 @@ forms = form (codes "open") verb.Open 5 false
     ∷ form (codes "deposit") verb.Deposit 6 true
     ∷ form (codes "cancel") verb.Cancel 3 true
     ∷ form (codes "propose") verb.Propose 9 true
+    ∷ form (codes "withdraw") verb.Withdraw 3 true
     ∷ form (codes "claim") verb.Claim 6 true
     ∷ form (codes "award") verb.Award 4 true
     ∷ form (codes "close") verb.Close 3 false
@@ -117,6 +118,7 @@ ask_of verb.Drop fields = dropping (person_of (text_at fields 3))
 ask_of verb.Deposit fields = depositing_in fields
 ask_of verb.Cancel fields = naming ask.CancelDeposit (text_at fields 2)
 ask_of verb.Propose fields = proposing_in fields
+ask_of verb.Withdraw fields = naming ask.Withdraw (text_at fields 2)
 ask_of verb.Claim fields = claiming_in fields
 ask_of verb.Award fields = awarding_in fields
 ask_of verb.Close fields = Ok ask.CloseMatter

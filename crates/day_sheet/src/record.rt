@@ -42,6 +42,8 @@ pub enum Verb {
     Cancel,
     /// Propose a payment.
     Propose,
+    /// Withdraw a proposed payment.
+    Withdraw,
     /// Raise a claim on the general fund.
     Claim,
     /// Award a part of a claim to the client.
@@ -113,6 +115,13 @@ pub const FORMS: &[VerbForm] = &[
         field_count: 9,
         names_entry: true,
         pattern: "propose,MATTER,ENTRY,AMOUNT,FROM,OF,PAYEE,PURPOSE,INSTRUMENT",
+    },
+    VerbForm {
+        name: "withdraw",
+        verb: Verb::Withdraw,
+        field_count: 3,
+        names_entry: true,
+        pattern: "withdraw,MATTER,ENTRY",
     },
     VerbForm {
         name: "claim",
@@ -253,6 +262,10 @@ fn read_ask(alloc: Global, verb: Verb, row: &ByteRecord) -> Result<Ask, Refusal>
         }
         Verb::Cancel => read_cancelling(field_bytes(row, 2)),
         Verb::Propose => read_payment(alloc, row),
+        Verb::Withdraw => {
+            let number = EntryNo::read(field_bytes(row, 2)).ok_or(BadField(Field::Entry))?;
+            Ok(Ask::Withdraw(number))
+        }
         Verb::Claim => read_claim(alloc, row),
         Verb::Award => read_award(row),
         Verb::Close => Ok(Ask::CloseMatter),

@@ -1,5 +1,5 @@
 -- Each line names the client of its matter: the rows of a matter stand behind its head.
-use Rattle.firm_periods.proofs.Names.{◌≡◌, ℕ, zero, suc, ◌+◌, ◌<◌, ◌≤◌, Bool, true, false, cond, List, [], ◌∷◌, ◌++◌, length, Option, Some, None, refl, sym, ap, ◌∙◌, subst, append_assoc, arith, nat_lt, flat_map, nat_tests, AllByRecursion, recursion_from_All, filter_passes, Head, Seat, Entry, Rows, Row, HeadRow, SeatRow, EntryRow, Firm, of, pairs, head_pairs, seat_pairs, entry_pairs, FirmSound, passing, flat_map-append}
+use Rattle.firm_periods.proofs.Names.{◌≡◌, ℕ, zero, suc, ◌+◌, ◌<◌, ◌≤◌, Bool, true, List, [], ◌∷◌, ◌++◌, length, Option, Some, None, refl, sym, ap, ◌∙◌, subst, append_assoc, arith, nat_lt, flat_map, nat_tests, AllByRecursion, recursion_from_All, filter_passes, Head, Seat, Entry, Row, HeadRow, EntryRow, Firm, of, pairs, head_pairs, seat_pairs, entry_pairs, FirmSound, passing, flat_map-append}
 use Rattle.matter_rows.specs.Sound.{IsHeaded}
 use Rattle.firm_rows.proofs.Joined.{pairs_pass, passing_swap, passing_twice, passing-put}
 use Rattle.firm_periods.specs.declared.moved.Moved.{Moved}

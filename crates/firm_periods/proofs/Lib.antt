@@ -1,7 +1,11 @@
+pub mod AccountRules
+pub mod Accounts
+pub mod AccountsCovered
 pub mod ClientsNamed
 pub mod NamedLists
 pub mod ListedOnce
 pub mod Named
+pub mod OneJournal
 pub mod Picks
 pub mod PurgedMoves
 mod Names

@@ -1,5 +1,5 @@
 -- Each movement of the journal is listed once.
-use Rattle.firm_periods.proofs.Names.{◌≡◌, ℕ, ◌+◌, ◌-◌, Bool, true, false, cond, List, [], ◌∷◌, ◌++◌, map, Option, Some, None, refl, sym, ap, ◌∙◌, append-nil, append_assoc, arith, ◌==◌, ◌&&◌, filter, flat_map, nat_tests, map-append, flat_map-append, Head, Seat, Entry, Rows, Event, events_of, FirmLine, Row, HeadRow, SeatRow, EntryRow, Firm, of, pairs, head_pairs, seat_pairs, entry_pairs, FirmSound, passing, own-put}
+use Rattle.firm_periods.proofs.Names.{◌≡◌, ℕ, ◌+◌, ◌-◌, Bool, true, false, cond, List, [], ◌∷◌, ◌++◌, map, Option, Some, None, refl, sym, ap, ◌∙◌, append-nil, arith, ◌==◌, ◌&&◌, filter, flat_map, nat_tests, map-append, flat_map-append, Head, Seat, Entry, Rows, Event, events_of, FirmLine, Row, HeadRow, SeatRow, EntryRow, of, pairs, head_pairs, seat_pairs, entry_pairs, passing, own-put}
 use Rattle.std.proofs.lemmas.List.Elements.{filter-append}
 use Rattle.matter_rows.specs.Rows.{entry_at}
 use Rattle.matter_rows.specs.Events.{events_in}
@@ -9,7 +9,7 @@ use Rattle.matter_rows.specs.declared.payment.Payment.{Payment}
 use Rattle.firm_rows.specs.Journal.{is_of_entry, is_of_firm, line_event}
 use Rattle.firm_periods.specs.declared.moved.Moved.{Moved}
 use Rattle.firm_periods.specs.declared.moved.NamedMove.{NamedMove}
-use Rattle.firm_periods.specs.Named.{moves_of, event_in, event_named, client_of, named, named_in, own_moved, own_named, moves_where, AreListedOnce, AlwaysListedOnce}
+use Rattle.firm_periods.specs.Named.{moves_of, event_in, event_named, client_of, named, named_in, own_named, AlwaysListedOnce}
 use Rattle.firm_periods.proofs.Named.{moves-events}
 
 filter-true : {A : Type 0} (xs : List A) → filter (λ x. true) xs ≡ xs

@@ -1,5 +1,5 @@
 -- Receipts and disbursements add up to the change of the journal.
-use Rattle.firm_periods.proofs.Names.{◌≡◌, ℕ, ◌≤◌, Bool, true, false, not, cond, List, [], ◌∷◌, ◌++◌, map, Option, Some, None, refl, sym, ap, ◌∙◌, append-nil, append_assoc, arith, ℤ, pos, ◌+ℤ◌, ◌-ℤ◌, ◌&&◌, nat_le, nat_lt, fold, filter, flat_map, ints, nat_tests, Entry, Event, events_of, entry_amount, Movement, FirmLine, sum_of, Row, HeadRow, SeatRow, EntryRow, Firm, FirmSound, in_order, put_in_order, entries_in, is_moved_by, is_in_transit, is_outstanding, transit, outstanding, journal, transit_share, outstanding_share, sum-append, sum-same, sum-filter, of_row, all-entries, agree}
+use Rattle.firm_periods.proofs.Names.{◌≡◌, ℕ, ◌≤◌, Bool, true, false, not, cond, List, [], ◌∷◌, map, Option, None, refl, sym, ap, ◌∙◌, arith, ℤ, pos, ◌+ℤ◌, ◌-ℤ◌, ◌&&◌, nat_le, nat_lt, filter, flat_map, ints, nat_tests, Entry, Event, events_of, Movement, FirmLine, sum_of, Row, HeadRow, SeatRow, EntryRow, Firm, in_order, put_in_order, entries_in, is_moved_by, is_in_transit, is_outstanding, journal, transit_share, outstanding_share, sum-append, sum-same, sum-filter, of_row, all-entries, agree}
 use Rattle.matter_rows.specs.declared.entry.Entry.TheVariants as entry
 use Rattle.matter_rows.specs.declared.deposit.Deposit.{Deposit}
 use Rattle.matter_rows.specs.declared.payment.Payment.{Payment}
@@ -7,7 +7,7 @@ use Rattle.firm_rows.specs.Journal.{event_of, line_event}
 use Rattle.firm_rows.proofs.Agree.{events_share}
 use Rattle.firm_periods.specs.declared.moved.Moved.{Moved}
 use Rattle.firm_periods.specs.declared.moved.NamedMove.{NamedMove}
-use Rattle.firm_periods.specs.Named.{moves_of, event_in, MovesAreEvents, client_of, named, named_in, own_moved, own_named, is_disbursed, is_received_within, is_disbursed_within, is_within, moves_where, is_earlier, receipts, disbursements, sum_moved, booking_of, journal_before, PeriodsAgree, WaitsAlwaysAgree}
+use Rattle.firm_periods.specs.Named.{moves_of, event_in, MovesAreEvents, client_of, named, named_in, own_moved, own_named, is_disbursed, is_received_within, is_disbursed_within, is_within, moves_where, is_earlier, sum_moved, booking_of, journal_before, PeriodsAgree, WaitsAlwaysAgree}
 use Rattle.firm_figures.proofs.DifferenceTold.{transit-shares, outstanding-shares}
 
 pub moves-events : MovesAreEvents

@@ -1,16 +1,15 @@
 -- What the sink stores of a firm is the list that it was made for.
-use Rattle.firm_periods.proofs.Names.{◌≡◌, ℕ, ◌+◌, ◌*◌, ◌≤◌, Bool, true, false, cond, List, [], ◌∷◌, ◌++◌, length, map, Option, Some, None, refl, sym, ap, ◌∙◌, subst, append-nil, append_assoc, arith, ℤ, pos, ◌+ℤ◌, ◌-ℤ◌, ◌&&◌, ◌||◌, fold, filter, flat_map, list_any, AllByRecursion, int_wrap, w128, int_wrap_fits, ints, nat_tests, Entry, entry_amount, IsAmount, IsBankAmount, FirmLine, sum_of, Row, HeadRow, SeatRow, EntryRow, Firm, AreCountable, IsRowInRange, IsFirmLineInRange, in_order, is_in_transit, is_outstanding, is_day_after, is_period_purged, is_purged_after, added}
-use Rattle.matter_rows.specs.declared.head.Head.{Head}
+use Rattle.firm_periods.proofs.Names.{◌≡◌, ℕ, ◌+◌, ◌*◌, ◌≤◌, Bool, true, false, cond, List, [], ◌∷◌, ◌++◌, length, map, Option, None, refl, sym, ap, ◌∙◌, subst, append-nil, append_assoc, arith, ℤ, pos, ◌+ℤ◌, ◌-ℤ◌, ◌&&◌, ◌||◌, fold, filter, flat_map, list_any, AllByRecursion, int_wrap, w128, int_wrap_fits, ints, Entry, entry_amount, IsAmount, FirmLine, Row, HeadRow, SeatRow, EntryRow, Firm, AreCountable, IsRowInRange, IsFirmLineInRange, in_order, is_in_transit, is_outstanding, is_day_after, is_period_purged, is_purged_after, added}
 use Rattle.matter_rows.specs.Rows.{is_of_nobody}
 use Rattle.matter_rows.specs.declared.entry.Entry.TheVariants as entry
 use Rattle.matter_rows.specs.declared.deposit.Deposit.{Deposit}
 use Rattle.matter_rows.specs.declared.payment.Payment.{Payment}
-use Rattle.firm_figures.proofs.Sizes.{IsWithin, MOST, CENTS, WHOLE, sum-within, wider, fits, added-from, amount-within, out-within, bank-within}
+use Rattle.firm_figures.proofs.Sizes.{IsWithin, MOST, CENTS, sum-within, wider, fits, added-from, amount-within, out-within, bank-within}
 use Rattle.firm_periods.specs.declared.moved.Moved.{Moved}
 use Rattle.firm_periods.specs.declared.moved.NamedMove.{NamedMove}
 use Rattle.firm_periods.specs.declared.named_sink.Pick.{Pick}
 use Rattle.firm_periods.specs.declared.named_sink.Pick.TheVariants as pick
-use Rattle.firm_periods.specs.Named.{moves_of, booking_of, client_of, named, named_in, own_moved, own_named, is_earlier, sum_moved, NamedKept, none_named, own_pick, pick_of, with_named_own, with_named_row, named_kept, named_sum, is_cut, is_day_cut, listed, IsNamedKept, NamedAreKept, is_purged_since, is_purged_from, is_received_within, is_disbursed_within}
+use Rattle.firm_periods.specs.Named.{moves_of, booking_of, client_of, named, named_in, own_moved, own_named, is_earlier, sum_moved, NamedKept, none_named, own_pick, pick_of, with_named_own, with_named_row, named_kept, named_sum, is_cut, is_day_cut, listed, NamedAreKept, is_purged_since, is_purged_from, is_received_within, is_disbursed_within}
 use Rattle.firm_periods.proofs.Named.{order-sum}
 
 -- All that a list takes, in the order of the rows.

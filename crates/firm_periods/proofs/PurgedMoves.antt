@@ -1,12 +1,11 @@
 -- A purge changes no list whose records are complete afterwards.
-use Rattle.firm_periods.proofs.Names.{◌≡◌, ℕ, zero, suc, ◌+◌, ◌<◌, ◌≤◌, Bool, true, false, cond, List, [], ◌∷◌, ◌++◌, Option, Some, None, refl, sym, ap, ◌∙◌, subst, append_assoc, arith, nat_lt, flat_map, filter, list_any, nat_tests, AllByRecursion, recursion_from_All, filter_passes, all-map, Covered, IsBy, IsHeaded, IsAtRest, IsAtRestIfClosed, Sound, days_of, Head, Seat, Entry, Rows, MatterChange, Edit, changed_by, Row, HeadRow, SeatRow, EntryRow, Firm, after_change, after_edit, purged_by, of, pairs, put, head_pairs, seat_pairs, entry_pairs, FirmSound, IsClosedBy, IsPurge, is_period_purged, is_purged_after, is_in_transit, is_outstanding, passing, flat_map-append, in_order}
+use Rattle.firm_periods.proofs.Names.{◌≡◌, ℕ, zero, suc, ◌+◌, ◌≤◌, Bool, true, false, cond, List, [], ◌∷◌, ◌++◌, Option, Some, None, refl, sym, ap, ◌∙◌, subst, arith, nat_lt, flat_map, filter, list_any, nat_tests, AllByRecursion, recursion_from_All, filter_passes, all-map, Covered, IsBy, IsHeaded, IsAtRestIfClosed, Sound, days_of, Head, Seat, Entry, Rows, MatterChange, Edit, changed_by, Row, HeadRow, SeatRow, EntryRow, Firm, after_change, after_edit, purged_by, of, pairs, put, head_pairs, seat_pairs, entry_pairs, FirmSound, IsClosedBy, IsPurge, is_period_purged, is_purged_after, is_in_transit, is_outstanding, passing, flat_map-append, in_order}
 use Rattle.trust_matter.specs.edit.Edit.TheVariants as edit
 use Rattle.firm_rows.proofs.Changed.{of_other-purged_by}
 use Rattle.firm_rows.proofs.Kept.{stays-sound}
 use Rattle.firm_figures.proofs.PurgedFigures.{all-later}
 use Rattle.firm_figures.proofs.PurgedLists.{IsUnlisted, closed-unlisted}
 use Rattle.firm_figures.proofs.PurgedPeriods.{closed-left}
-use Rattle.firm_rows.specs.declared.ledger.FirmLine.{FirmLine}
 use Rattle.firm_periods.specs.declared.moved.Moved.{Moved}
 use Rattle.firm_periods.specs.declared.moved.NamedMove.{NamedMove}
 use Rattle.firm_periods.specs.Named.{booking_of, client_in_head, is_disbursed_within, is_earlier, is_purged_from, is_purged_since, is_received_within, moves_of, moves_where, named, named_in, own_moved, own_named, row_named, PurgeChangesNoPeriodLeft, PurgeChangesNoWaitingLeft}

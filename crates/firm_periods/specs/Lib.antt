@@ -1,4 +1,5 @@
 pub mod Named
+pub mod Accounts
 pub use Rattle.firm_figures.specs.Figures
 pub use Rattle.firm_figures.specs.Doubles
 pub use Rattle.firm_figures.specs.Purged

@@ -2,7 +2,6 @@
 use Rattle.std.specs.Prelude.{◌≡◌, ℕ, ◌≤◌, Bool, true, false, not, ◌&&◌, ◌||◌, nat_le, nat_lt, cond, List, [], ◌∷◌, ◌++◌, map, ℤ, pos, negsuc, ◌+ℤ◌, ◌-ℤ◌, Option, Some, None, fold}
 use Rattle.std.specs.List.{filter, flat_map, list_any}
 use Rattle.std.specs.Ordering.{is_lt, nat_cmp}
-use Rattle.trust_base.specs.Periods.{Span}
 use Rattle.matter_rows.specs.declared.head.Head.{Head}
 use Rattle.matter_rows.specs.declared.head.Holder.{Holder}
 use Rattle.matter_rows.specs.declared.head.Holder.TheVariants as holder
@@ -14,7 +13,6 @@ use Rattle.matter_rows.specs.declared.entry.Entry.{Entry}
 use Rattle.matter_rows.specs.declared.entry.Entry.TheVariants as entry
 use Rattle.matter_rows.specs.Events.{Event, events_of}
 use Rattle.matter_rows.specs.Rows.{is_of_nobody}
-use Rattle.firm_rows.specs.declared.movement.Owner.{Owner}
 use Rattle.firm_rows.specs.declared.movement.Owner.TheVariants as owner
 use Rattle.firm_rows.specs.declared.ledger.FirmLine.{FirmLine}
 use Rattle.firm_rows.specs.Sums.{sum_of}
@@ -25,7 +23,6 @@ use Rattle.firm_rows.specs.Journal.{is_of_entry, is_of_firm, events_moved, firm_
 use Rattle.firm_periods.specs.declared.moved.Cause.{Cause}
 use Rattle.firm_periods.specs.declared.moved.Cause.TheVariants as cause
 use Rattle.firm_periods.specs.declared.moved.Moved.{Moved}
-use Rattle.firm_periods.specs.declared.moved.MoveNames.{MoveNames}
 use Rattle.firm_periods.specs.declared.moved.MoveNames.TheVariants as names
 use Rattle.firm_periods.specs.declared.moved.NamedMove.{NamedMove}
 use Rattle.firm_periods.specs.declared.named_sink.Pick.{Pick}
@@ -229,6 +226,14 @@ pub record AreListedOnce (firm : Firm) : Type 0 where
 
 abbrev pub AlwaysListedOnce : Type 0
 AlwaysListedOnce = (firm : Firm) → FirmSound firm → AreListedOnce firm
+
+-- however movements are weighed, those of a period weigh what its receipts and its disbursements weigh together: so each
+-- stands in one of the two journals, once, and nothing else does
+abbrev pub EachStandsInOne : Type 0
+EachStandsInOne =
+    (from to : ℕ) (firm : Firm) (weight : NamedMove → ℤ)
+    → sum_of weight (receipts from to firm) +ℤ sum_of weight (disbursements from to firm)
+    ≡ sum_of weight (moves_where (is_within from to) firm)
 
 -- what waits adds up to the figures of the reconciliation
 pub record WaitsAgree (p : ℕ) (firm : Firm) : Type 0 where

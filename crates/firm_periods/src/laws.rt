@@ -1,7 +1,8 @@
 //! Laws over the definitions. Each is the contract of a function that does nothing.
 
-ghost use Rattle.firm_periods.specs.Named.{AlwaysListedOnce, MovesAreEvents, NamedAreKept, NamesAreOfTheirMatter, PeriodsAgree, WaitsAlwaysAgree};
+ghost use Rattle.firm_periods.specs.Named.{AlwaysListedOnce, EachStandsInOne, MovesAreEvents, NamedAreKept, NamesAreOfTheirMatter, PeriodsAgree, WaitsAlwaysAgree};
 ghost use Rattle.firm_periods.specs.Named.{PurgeChangesNoPeriodLeft, PurgeChangesNoWaitingLeft};
+ghost use Rattle.firm_periods.specs.Accounts.{AccountsAreCovered, ClosingIsLedger, ClosingIsNextOpening, ClosingsAreLines, ClosingsAreTotal, OpeningIsBefore, WholeAccountIsOfRows};
 
 use trust_matter::laws::sound_is_covered;
 
@@ -23,6 +24,11 @@ pub fn listed_once()
     ensures { AlwaysListedOnce }
 {}
 
+/// Each movement of a period stands in its receipts or in its disbursements, once, and nothing else does.
+pub fn each_stands_in_one()
+    ensures { EachStandsInOne }
+{}
+
 /// In a sound firm each line names the client of its matter, or none if that was purged.
 pub fn names_are_of_their_matter()
     ensures { NamesAreOfTheirMatter }
@@ -36,3 +42,21 @@ pub fn purging_changes_no_period()
 {
     sound_is_covered();
 }
+
+/// The account of a whole matter is that of its rows. It opens with what the entries had moved before its first day. It
+/// closes with the ledger as of its last day, with which the next period opens. In a sound firm no balance on it is
+/// below zero.
+pub fn accounts_agree()
+    ensures whole { WholeAccountIsOfRows }
+    ensures opening { OpeningIsBefore }
+    ensures closing { ClosingIsLedger }
+    ensures next { ClosingIsNextOpening }
+    ensures covered { AccountsAreCovered }
+{}
+
+/// The accounts of all matters that are open as of a day, for a period that ends on it, close with the ledgers in the
+/// list of the clients of that day. With the firm's own lines by the day they add up to its TOTAL.
+pub fn closings_are_clients()
+    ensures lines { ClosingsAreLines }
+    ensures total { ClosingsAreTotal }
+{}

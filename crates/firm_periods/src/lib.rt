@@ -1,5 +1,5 @@
 //! The journals of receipts and of disbursements of a period, and what waits for the bank as of a day: movements with
-//! their names.
+//! their names. Also a client's statement of account for a period.
 //!
 //! # What is promised
 //!
@@ -12,11 +12,23 @@
 //!   up to the reconciliation's IN TRANSIT and to minus its OUTSTANDING (`waits`).
 //! - `laws` `listed_once`: in every sound firm each movement of the journal is named once, under its entry or as the
 //!   firm's own, and nothing else is.
+//! - `laws` `each_stands_in_one`: **each movement of a period stands in its receipts or in its disbursements, once**, and
+//!   nothing else does.
+//! - `laws` `names_are_of_their_matter`: in every sound firm each line names the client of its matter.
+//! - `laws` `purging_changes_no_period`: in every sound firm a purge changes nothing of a period, and of what waits as of
+//!   a day, whose records are complete afterwards.
+//! - `account_of`; `laws` `accounts_agree`: a matter's statement of account for a period. It closes with the ledger as
+//!   of its last day (`closing`), with which the next period opens (`next`), and in a sound firm no balance on it is
+//!   below zero (`covered`). Of a whole matter it is that of the rows (`whole`).
+//! - `laws` `closings_are_clients`: the accounts of all clients for a period close with the ledgers in the list of the
+//!   clients of its last day (`lines`), and with the firm's own lines add up to its TOTAL (`total`).
 #![tactic(auto)]
 
+mod account;
 pub mod laws;
 mod moved;
 mod named_sink;
 
+pub use account::{Account, AccountLine, account_of};
 pub use moved::{Cause, MoveNames, Moved, NamedMove};
 pub use named_sink::{NamedList, NamedSink, Pick};

@@ -1,9 +1,10 @@
 // Movements with their names.
 
-ghost use Rattle.std.specs.Prelude.{◌≡◌, ◌++◌, [], ◌∷◌, IfOk};
+ghost use Rattle.std.specs.Prelude.{◌≡◌, ◌++◌, [], ◌∷◌, IfOk, IfSome};
 ghost use Rattle.std.specs.List.{filter, flat_map};
 ghost use Rattle.std.specs.Ordering.{nat_cmp};
 ghost use Rattle.firm_periods.specs.Named.{is_disbursed, is_received_within, is_disbursed_within, booking_of, is_within, moves_of, named, option_list};
+ghost use Rattle.firm_periods.specs.Accounts.{IsSmallMove};
 ghost use Rattle.firm_periods.specs.declared.moved.Moved.{Moved};
 
 use firm_rows::Owner;
@@ -76,6 +77,7 @@ fn some_move(day: Day, amount: i64, cause: Cause) -> Option<Moved>
 pub(crate) fn moves_of(entry: &Entry) -> (Option<Moved>, Option<Moved>)
     ensures moves { option_list result.0 ++ option_list result.1 ≡ moves_of entry.now }
     ensures booking { option_list result.0 ≡ booking_of (moves_of entry.now) }
+    ensures small { IfSome result.0 IsSmallMove × IfSome result.1 IsSmallMove }
 {
     match entry {
         Entry::Deposit(deposit) => {

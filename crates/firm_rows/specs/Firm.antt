@@ -79,6 +79,19 @@ among rows = record { head = head_among rows; seats = seats_among rows; entries 
 abbrev pub of : ℕ → Firm → Rows
 of m firm = among (rows_of m firm.rows)
 
+-- The matters.
+
+-- the numbers of the heads, in the order of the rows
+abbrev pub headed : List (ℕ × Row) → List ℕ
+headed [] = []
+headed ((m, HeadRow head) ∷ joined) = m ∷ headed joined
+headed ((m, SeatRow seat) ∷ joined) = headed joined
+headed ((m, EntryRow number entry) ∷ joined) = headed joined
+
+-- the matters that were opened, also those that were purged since
+abbrev pub opened_matters : Firm → List ℕ
+opened_matters firm = headed firm.rows
+
 -- Replacing the rows of a matter.
 
 abbrev pub head_pairs : ℕ → Option Head → List (ℕ × Row)

@@ -1,14 +1,14 @@
 -- The bodies read back as their objects.
 use Rattle.matter_bodies.proofs.Names.{◌≡◌, ℕ, ℤ, List, [], ◌∷◌, Some, map, length, refl, rules, true, arith, Data, string, compact_text, Seat, array_of, object_of, seat_object, role_name, ints, nat_tests}
 use Rattle.serde_json.specs.Read.{read}
-use Rattle.std.specs.Prelude.{codes}
+use Rattle.std.specs.Prelude.{codes, ◌+◌}
 use Rattle.matter_rows.specs.declared.head.Holder.{Holder}
-use Rattle.matter_rows.specs.declared.head.Holder.TheVariants as holder
 use Rattle.matter_rows.specs.declared.claim.Against.{Against}
-use Rattle.matter_rows.specs.declared.claim.Against.TheVariants as against
-use Rattle.matter_rows.specs.declared.entry.Entry.TheVariants as entry
-use Rattle.matter_bodies.specs.Bodies.{holder_value, purged_on, purge_members, matter_members, sums_of, receipt_members, import_members, claim_left_value}
-use Rattle.matter_bodies.specs.BodyLaws.{PurgeReadsBack, MatterReadsBack, ReceiptReadsBack, EntryReadsBack, ImportReadsBack}
+use Rattle.matter_bodies.specs.Bodies.{entry_object, holder_value, purged_on, purge_members, matter_members, sums_of, receipt_members, import_members, claim_left_value}
+use Rattle.matter_rows.specs.declared.entry.Entry.{Entry}
+use Rattle.matter_rows.specs.Balances.{left_of}
+use Rattle.matter_bodies.specs.Listed.{entries_from}
+use Rattle.matter_bodies.specs.BodyLaws.{PurgeReadsBack, MatterReadsBack, ReceiptReadsBack, EntryReadsBack, EntriesReadBack, ImportReadsBack}
 use Rattle.matter_bodies.proofs.ReadBack.{Reads, AllRead, ascend, AllValuesRead, read-compact_text, null-reads, string-reads, count-reads, or_null-reads, object-reads, array-reads}
 
 seat-reads : (s : Seat) → Reads 1 (seat_object s)
@@ -31,6 +31,18 @@ receipt-reads m n x2 = grind (arith, ints, nat_tests, body-reads, receipt_member
 pub entry-reads : EntryReadsBack
 entry-reads m n x2 left = grind (arith, ints, nat_tests, body-reads, string-reads, or_null-reads, claim_left-reads)
 
+entry_object-reads : (m n : ℕ) (e : Entry) (left : ℤ) → Reads 1 (entry_object m n e left)
+entry_object-reads m n e left = grind (arith, ints, nat_tests, codes, object-reads, string-reads, or_null-reads, claim_left-reads)
+
+entries-read : (m : ℕ) (all : List Entry) (n : ℕ) (es : List Entry) → AllValuesRead 1 (entries_from m all n es)
+entries-read m all n [] = tt
+entries-read m all n (e ∷ es) = (entry_object-reads m n e (left_of all n e), entries-read m all (n + 1) es)
+
+pub all-entries-read : EntriesReadBack
+all-entries-read m rows =
+    let entries : Reads 2 (array_of (entries_from m rows.entries 1 rows.entries)) = array-reads 1 (entries_from m rows.entries 1 rows.entries) (entries-read m rows.entries 1 rows.entries) in
+    body-reads ((codes "entries", array_of (entries_from m rows.entries 1 rows.entries)) ∷ []) (entries, tt) refl
+
 pub import-reads : ImportReadsBack
 import-reads applied exceptions repeated statement unreadable a e r u =
     body-reads (import_members applied exceptions repeated statement unreadable)
@@ -51,4 +63,4 @@ matter-reads m rows few =
     (search (rules, string-reads, holder-reads, count-reads, or_null-reads)) refl
 
 -- what the law of the bodies says
-pub ruleset bodies_read = (matter-reads, purge-reads, receipt-reads, entry-reads, import-reads)
+pub ruleset bodies_read = (matter-reads, purge-reads, receipt-reads, entry-reads, all-entries-read, import-reads)

@@ -4,6 +4,7 @@ use Rattle.serde_json.specs.Read.{read}
 use Rattle.matter_rows.specs.declared.entry.Entry.{Entry}
 use Rattle.matter_rows.specs.Rows.{Rows}
 use Rattle.matter_bodies.specs.Bodies.{matter_body, matter_object, purge_body, purge_object, receipt_body, receipt_object, entry_body, entry_object, import_body, import_object}
+use Rattle.matter_bodies.specs.Listed.{entries_body, entries_object}
 
 abbrev pub MatterReadsBack : Type 0
 MatterReadsBack =
@@ -18,6 +19,9 @@ ReceiptReadsBack = (m n : ℕ) (e : Entry) → read (receipt_body m n e) ≡ Som
 
 abbrev pub EntryReadsBack : Type 0
 EntryReadsBack = (m n : ℕ) (e : Entry) (left : ℤ) → read (entry_body m n e left) ≡ Some (entry_object m n e left)
+
+abbrev pub EntriesReadBack : Type 0
+EntriesReadBack = (m : ℕ) (rows : Rows) → read (entries_body m rows) ≡ Some (entries_object m rows)
 
 abbrev pub ImportReadsBack : Type 0
 ImportReadsBack =

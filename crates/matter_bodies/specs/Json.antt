@@ -1,5 +1,5 @@
 -- The values in the JSON bodies of answers.
-use Rattle.std.specs.Prelude.{ℕ, ℤ, List, [], ◌∷◌, Option, Some, None}
+use Rattle.std.specs.Prelude.{ℕ, ℤ, List, [], ◌∷◌, ◌++◌, Option, Some, None}
 use Rattle.json.specs.Token.{Token}
 use Rattle.json.specs.Tree.{json_tokens}
 use Rattle.serde_json.specs.Data.{Data, null, number, string, array, object, unsigned, Items, no_items, item, Members, no_members, member}
@@ -54,3 +54,8 @@ value_tokens d = json_tokens (outline d)
 -- the tokens of a key and its value
 abbrev pub member_tokens : List ℕ → Data → List Token
 member_tokens key d = Token.key key ∷ value_tokens d
+
+-- the tokens of these keys and values, without the brackets of an object
+abbrev pub members_between : List (List ℕ × Data) → List Token
+members_between [] = []
+members_between (m ∷ ms) = member_tokens m.0 m.1 ++ members_between ms

@@ -1,4 +1,5 @@
 pub mod Json
 pub mod Values
 pub mod Bodies
+pub mod Listed
 pub mod BodyLaws

@@ -6,7 +6,7 @@ use Rattle.matter_rows.specs.Rows.{role_name}
 use Rattle.matter_rows.specs.declared.seat.Seat.{Seat}
 use Rattle.matter_bodies.specs.declared.bodies.Value.{Value}
 use Rattle.matter_bodies.specs.declared.bodies.Value.TheVariants as value
-use Rattle.matter_bodies.specs.Json.{object_of, array_of, amount_value, day_value, matter_value, entry_value, count_value}
+use Rattle.matter_bodies.specs.Json.{object_of, array_of, amount_value, sum_value, day_value, matter_value, entry_value, count_value}
 
 abbrev pub seat_object : Seat → Data
 seat_object s = object_of ((codes "person", string s.person) ∷ (codes "role", string (role_name s.role)) ∷ [])
@@ -17,6 +17,7 @@ data_of value.Null = null
 data_of (value.Text t) = string t.now
 data_of (value.Count n) = count_value n
 data_of (value.Cents n) = amount_value n
+data_of (value.Sum z) = sum_value z
 data_of (value.Day d) = day_value d
 data_of (value.Entry n) = entry_value n
 data_of (value.Matter m) = matter_value m

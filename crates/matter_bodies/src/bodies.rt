@@ -1,6 +1,6 @@
 //! The bodies of accepted answers: compact JSON objects, their keys sorted by their bytes.
 
-ghost use Rattle.std.specs.Prelude.{◌≡◌, ◌++◌, map, IfOk, IfSome, OnOk, pos};
+ghost use Rattle.std.specs.Prelude.{◌≡◌, ◌++◌, [], map, IfOk, IfSome, OnOk, pos};
 ghost use Rattle.std.specs.Option.{option_copied};
 ghost use Rattle.serde_json.specs.Data.{string as text_data};
 ghost use Rattle.serde_json.specs.Written.{compact_text};
@@ -9,10 +9,10 @@ ghost use Rattle.matter_rows.specs.Rows.{Rows, closed_on as closed_in, role_name
 ghost use Rattle.matter_rows.specs.Sound.{Sound};
 ghost use Rattle.matter_rows.specs.declared.entry.Entry.TheVariants.{Claim as claim_entry, Deposit as deposit_entry, Fee as fee_entry, Payment as payment_entry};
 ghost use Rattle.matter_bodies.specs.Bodies.{against_entry as claimed_fee_in, against_name as ground_name_in, balance_sums, bank_day_value, bank_ref_value};
-ghost use Rattle.matter_bodies.specs.Bodies.{claim_left_value, claimant_of as claimant_in, client_value, entry_body, fund_entry as fund_entry_in};
+ghost use Rattle.matter_bodies.specs.Bodies.{claim_left_value, claimant_of as claimant_in, client_value, entry_body, entry_object, fund_entry as fund_entry_in};
 ghost use Rattle.matter_bodies.specs.Bodies.{fund_name as fund_name_in, import_body, matter_body, matter_members, opened_value, purge_body, purge_members};
 ghost use Rattle.matter_bodies.specs.Bodies.{purged_on, receipt_body};
-ghost use Rattle.matter_bodies.specs.Json.{amount_value, array_of, day_value, entry_value, object_of, or_null, value_tokens};
+ghost use Rattle.matter_bodies.specs.Json.{amount_value, array_of, day_value, entry_value, members_between, object_of, or_null, value_tokens};
 ghost use Rattle.matter_bodies.specs.Values.{data_of, member_of, seat_object};
 
 use json::Writer;
@@ -26,12 +26,14 @@ use trust_matter::{
 
 // A value of an answer's object.
 #[derive(Clone, Copy)]
-enum Value<'a> {
+pub(crate) enum Value<'a> {
     Null,
     Text(&'a str),
     Count(u64),
     // An amount or a sum in cents.
     Cents(u64),
+    // A sum in cents that may exceed a u64.
+    Sum(i128),
     Day(Day),
     Entry(EntryNo),
     Matter(MatterNo),
@@ -39,7 +41,7 @@ enum Value<'a> {
 }
 
 // A key and its value.
-type Member<'a> = (&'a str, Value<'a>);
+pub(crate) type Member<'a> = (&'a str, Value<'a>);
 
 #[tactic(auto, using(crate::proofs::TextFacts::utf8_label))]
 fn label(label: &Label) -> Value<'_>
@@ -70,7 +72,7 @@ fn reference(reference: &BankText) -> Value<'_>
     Value::Text(text)
 }
 
-fn day_or_null(day: Option<Day>) -> Value<'static>
+pub(crate) fn day_or_null(day: Option<Day>) -> Value<'static>
     ensures { data_of result ≡ or_null day_value day }
 {
     match day {
@@ -97,7 +99,7 @@ fn cents_or_null(cents: Option<CentsOrZero>) -> Value<'static>
     }
 }
 
-fn role_name(role: Role) -> &'static str
+pub(crate) fn role_name(role: Role) -> &'static str
     ensures { result.now ≡ role_word role }
 {
     match role {
@@ -158,6 +160,7 @@ fn write_value(alloc: Global, out: &mut Writer, value: &Value<'_>) -> Result<(),
         Value::Text(text) => out.string(text),
         Value::Count(count) => out.u64(*count),
         Value::Cents(cents) => write_shown(alloc, out, &Dollars(*cents as i128)),
+        Value::Sum(cents) => write_shown(alloc, out, &Dollars(*cents)),
         Value::Day(day) => write_shown(alloc, out, day),
         Value::Entry(entry) => write_shown(alloc, out, entry),
         Value::Matter(matter) => write_shown(alloc, out, matter),
@@ -165,17 +168,52 @@ fn write_value(alloc: Global, out: &mut Writer, value: &Value<'_>) -> Result<(),
     }
 }
 
+// Writes these members of an object, in their order. The only error is out of memory.
+pub(crate) fn write_members(
+    alloc: Global,
+    out: &mut Writer,
+    members: &[Member<'_>],
+) -> Result<(), AllocError>
+    ensures before { out.new.before ≡ out.old.before }
+    ensures tokens { OnOk result
+        (out.new.tokens ≡ out.old.tokens ++ members_between (map member_of members.now)) }
+{
+    for member in members {
+        out.key(member.0)?;
+        write_value(alloc, out, &member.1)?;
+    }
+    Ok(())
+}
+
+// Writes an object with these members, in their order. The only error is out of memory.
+pub(crate) fn write_object(
+    alloc: Global,
+    out: &mut Writer,
+    members: &[Member<'_>],
+) -> Result<(), AllocError>
+    ensures before { out.new.before ≡ out.old.before }
+    ensures tokens { OnOk result
+        (out.new.tokens ≡ out.old.tokens ++ value_tokens (object_of (map member_of members.now))) }
+{
+    out.begin_object()?;
+    write_members(alloc, out, members)?;
+    out.end_object()
+}
+
+// A writer into an empty buffer with room for a short body. The only error is out of memory.
+pub(crate) fn new_body(alloc: Global) -> Result<Writer, AllocError>
+    ensures before { IfOk result (λ out. out.before ≡ []) }
+    ensures tokens { IfOk result (λ out. out.tokens ≡ []) }
+{
+    Ok(Writer::new(Vec::with_capacity(alloc, 256)?))
+}
+
 // The compact text of an object with these members, in their order. The only error is out of memory.
 fn object_text(alloc: Global, members: &[Member<'_>]) -> Result<Vec<u8>, AllocError>
     ensures { IfOk result (λ bytes. bytes.items ≡ compact_text (object_of (map member_of members.now))) }
 {
-    let mut out = Writer::new(Vec::with_capacity(alloc, 256)?);
-    out.begin_object()?;
-    for member in members {
-        out.key(member.0)?;
-        write_value(alloc, &mut out, &member.1)?;
-    }
-    out.end_object()?;
+    let mut out = new_body(alloc)?;
+    write_object(alloc, &mut out, members)?;
     Ok(out.into_inner())
 }
 
@@ -284,13 +322,16 @@ fn claim_left(against: &Against, left: u64) -> Value<'static>
     }
 }
 
-fn deposit_body(
+fn write_deposit(
     alloc: Global,
+    out: &mut Writer,
     matter: MatterNo,
     number: EntryNo,
     deposit: &Deposit,
-) -> Result<Vec<u8>, AllocError>
-    ensures { IfOk result (λ bytes. bytes.items ≡ entry_body matter number (deposit_entry deposit.now) (pos 0)) }
+) -> Result<(), AllocError>
+    ensures before { out.new.before ≡ out.old.before }
+    ensures tokens { OnOk result (out.new.tokens
+        ≡ out.old.tokens ++ value_tokens (entry_object matter number (deposit_entry deposit.now) (pos 0))) }
 {
     let (state, clearing, returning, undone) = match &deposit.state {
         DepositState::Held => ("held", None, None, None),
@@ -303,8 +344,9 @@ fn deposit_body(
             Some(back.undone),
         ),
     };
-    object_text(
+    write_object(
         alloc,
+        out,
         &[
             ("amount", Value::Cents(deposit.amount.get())),
             ("bank_day", bank_day(clearing)),
@@ -323,17 +365,21 @@ fn deposit_body(
     )
 }
 
-fn fee_body(
+fn write_fee(
     alloc: Global,
+    out: &mut Writer,
     matter: MatterNo,
     number: EntryNo,
     fee: &Fee,
     left: u64,
-) -> Result<Vec<u8>, AllocError>
-    ensures { IfOk result (λ bytes. bytes.items ≡ entry_body matter number (fee_entry fee.now) (pos left)) }
+) -> Result<(), AllocError>
+    ensures before { out.new.before ≡ out.old.before }
+    ensures tokens { OnOk result (out.new.tokens
+        ≡ out.old.tokens ++ value_tokens (entry_object matter number (fee_entry fee.now) (pos left))) }
 {
-    object_text(
+    write_object(
         alloc,
+        out,
         &[
             ("amount", Value::Cents(fee.amount.get())),
             ("day", Value::Day(fee.book)),
@@ -346,14 +392,17 @@ fn fee_body(
     )
 }
 
-fn claim_body(
+fn write_claim(
     alloc: Global,
+    out: &mut Writer,
     matter: MatterNo,
     number: EntryNo,
     claim: &Claim,
     left: u64,
-) -> Result<Vec<u8>, AllocError>
-    ensures { IfOk result (λ bytes. bytes.items ≡ entry_body matter number (claim_entry claim.now) (pos left)) }
+) -> Result<(), AllocError>
+    ensures before { out.new.before ≡ out.old.before }
+    ensures tokens { OnOk result (out.new.tokens
+        ≡ out.old.tokens ++ value_tokens (entry_object matter number (claim_entry claim.now) (pos left))) }
 {
     // A claim with an offer is still open.
     let (state, part, settled) = match claim.state {
@@ -361,8 +410,9 @@ fn claim_body(
         ClaimState::Offered(part) => ("open", Some(part), None),
         ClaimState::Settled(settlement) => ("settled", Some(settlement.part), Some(settlement.day)),
     };
-    object_text(
+    write_object(
         alloc,
+        out,
         &[
             ("amount", Value::Cents(claim.amount.get())),
             ("claimant", label_or_null(claimant(&claim.against))),
@@ -381,7 +431,7 @@ fn claim_body(
     )
 }
 
-fn client(head: Option<&Head>) -> Value<'_>
+pub(crate) fn client(head: Option<&Head>) -> Value<'_>
     ensures { data_of result ≡ client_value (option_copied head.entry) }
 {
     match head {
@@ -393,7 +443,7 @@ fn client(head: Option<&Head>) -> Value<'_>
     }
 }
 
-fn opened(head: Option<&Head>) -> Value<'static>
+pub(crate) fn opened(head: Option<&Head>) -> Value<'static>
     ensures { data_of result ≡ opened_value (option_copied head.entry) }
 {
     match head {
@@ -402,7 +452,7 @@ fn opened(head: Option<&Head>) -> Value<'static>
     }
 }
 
-fn closed_on(head: Option<&Head>) -> Option<Day>
+pub(crate) fn closed_on(head: Option<&Head>) -> Option<Day>
     ensures { result ≡ closed_in (option_copied head.entry) }
 {
     match head {
@@ -544,6 +594,73 @@ pub fn receipt_body(
     }
 }
 
+fn write_payment(
+    alloc: Global,
+    out: &mut Writer,
+    matter: MatterNo,
+    number: EntryNo,
+    payment: &Payment,
+) -> Result<(), AllocError>
+    ensures before { out.new.before ≡ out.old.before }
+    ensures tokens { OnOk result (out.new.tokens
+        ≡ out.old.tokens ++ value_tokens (entry_object matter number (payment_entry payment.now) (pos 0))) }
+{
+    let (state, issued, clearing, undone) = match &payment.state {
+        PaymentState::Proposed => ("proposed", None, None, None),
+        PaymentState::Declined => ("declined", None, None, None),
+        PaymentState::Issued(day) => ("issued", Some(*day), None, None),
+        PaymentState::Cleared(cleared) => (
+            "cleared",
+            Some(cleared.issued),
+            Some(&cleared.clearing),
+            None,
+        ),
+        PaymentState::Voided(voided) => ("voided", Some(voided.issued), None, Some(voided.undone)),
+    };
+    write_object(
+        alloc,
+        out,
+        &[
+            ("amount", Value::Cents(payment.amount.get())),
+            ("bank_day", bank_day(clearing)),
+            ("bank_ref", bank_ref(clearing)),
+            ("day", Value::Day(payment.book)),
+            ("entry", Value::Entry(number)),
+            ("from", Value::Text(fund_name(payment.fund))),
+            ("instrument", label(&payment.instrument)),
+            ("issued", day_or_null(issued)),
+            ("kind", Value::Text("payment")),
+            ("matter", Value::Matter(matter)),
+            ("of", entry_or_null(fund_entry(payment.fund))),
+            ("payee", label(&payment.payee)),
+            ("purpose", label(&payment.purpose)),
+            ("state", Value::Text(state)),
+            ("undone", day_or_null(undone)),
+        ],
+    )
+}
+
+// Writes an entry in its current state, of which `left` is left, as `entry_body` does.
+pub(crate) fn write_entry(
+    alloc: Global,
+    out: &mut Writer,
+    matter: MatterNo,
+    number: EntryNo,
+    entry: &Entry,
+    left: u64,
+) -> Result<(), AllocError>
+    ensures before { out.new.before ≡ out.old.before }
+    ensures tokens { OnOk result
+        (out.new.tokens ≡ out.old.tokens ++ value_tokens (entry_object matter number entry.now (pos left))) }
+{
+    match entry {
+        Entry::Deposit(deposit) => write_deposit(alloc, out, matter, number, deposit),
+        Entry::Payment(payment) => write_payment(alloc, out, matter, number, payment),
+        Entry::Fee(fee) => write_fee(alloc, out, matter, number, fee, left),
+        Entry::Claim(claim) => write_claim(alloc, out, matter, number, claim, left),
+    }
+}
+
 /// The body of an entry in its current state. `left` is what is left of it in cents, if it is a fee or a claim on the
 /// general fund; otherwise it is ignored.
 ///
@@ -557,50 +674,9 @@ pub fn entry_body(
 ) -> Result<Vec<u8>, AllocError>
     ensures { IfOk result (λ bytes. bytes.items ≡ entry_body matter number entry.now (pos left)) }
 {
-    match entry {
-        Entry::Deposit(deposit) => deposit_body(alloc, matter, number, deposit),
-        Entry::Payment(payment) => {
-            let (state, issued, clearing, undone) = match &payment.state {
-                PaymentState::Proposed => ("proposed", None, None, None),
-                PaymentState::Declined => ("declined", None, None, None),
-                PaymentState::Issued(day) => ("issued", Some(*day), None, None),
-                PaymentState::Cleared(cleared) => (
-                    "cleared",
-                    Some(cleared.issued),
-                    Some(&cleared.clearing),
-                    None,
-                ),
-                PaymentState::Voided(voided) => (
-                    "voided",
-                    Some(voided.issued),
-                    None,
-                    Some(voided.undone),
-                ),
-            };
-            object_text(
-                alloc,
-                &[
-                    ("amount", Value::Cents(payment.amount.get())),
-                    ("bank_day", bank_day(clearing)),
-                    ("bank_ref", bank_ref(clearing)),
-                    ("day", Value::Day(payment.book)),
-                    ("entry", Value::Entry(number)),
-                    ("from", Value::Text(fund_name(payment.fund))),
-                    ("instrument", label(&payment.instrument)),
-                    ("issued", day_or_null(issued)),
-                    ("kind", Value::Text("payment")),
-                    ("matter", Value::Matter(matter)),
-                    ("of", entry_or_null(fund_entry(payment.fund))),
-                    ("payee", label(&payment.payee)),
-                    ("purpose", label(&payment.purpose)),
-                    ("state", Value::Text(state)),
-                    ("undone", day_or_null(undone)),
-                ],
-            )
-        }
-        Entry::Fee(fee) => fee_body(alloc, matter, number, fee, left),
-        Entry::Claim(claim) => claim_body(alloc, matter, number, claim, left),
-    }
+    let mut out = new_body(alloc)?;
+    write_entry(alloc, &mut out, matter, number, entry, left)?;
+    Ok(out.into_inner())
 }
 
 /// The outcome of importing a bank statement: how many lines were applied, were repeats or are now exceptions, how many

@@ -9,11 +9,24 @@ some-same a b e = ap (λ o. unwrap_or o a) e
 either : {K : Type 0} (T : Type 0) (a b : Option K) (key : K) → (a ≡ Some key → T) → (b ≡ Some key → T) → or_else a b ≡ Some key → T
 either x0 a b key left right e = grind (arith, ints, nat_tests)
 
--- the bytes begin so
-abbrev pub Starts : List ℕ → List ℕ → Type 0
-Starts [] t = ⊤
-Starts (c ∷ front) [] = ⊥
-Starts (c ∷ front) (b ∷ t) = (b ≡ c) × Starts front t
+-- the bytes begin so, and what is behind that is such a rest
+abbrev pub Starts : (List ℕ → Type 0) → List ℕ → List ℕ → Type 0
+Starts Rest [] t = Rest t
+Starts Rest (c ∷ front) [] = ⊥
+Starts Rest (c ∷ front) (b ∷ t) = (b ≡ c) × Starts Rest front t
+
+-- any rest, and none
+abbrev pub Any : List ℕ → Type 0
+Any t = ⊤
+
+abbrev pub Nothing : List ℕ → Type 0
+Nothing t = t ≡ []
+
+-- where nothing is behind it, the bytes are the front
+pub starts-whole : (front t : List ℕ) → Starts Nothing front t → t ≡ front
+starts-whole [] t is = is
+starts-whole (c ∷ front) [] is = absurd is
+starts-whole (c ∷ front) (b ∷ t) is = λ i. is.0 i ∷ starts-whole front t is.1 i
 
 -- Of keys of a kind.
 module _ {K : Type 0} (IsOf : K → Type 0) where
@@ -68,25 +81,44 @@ module _ {K : Type 0} (IsOf : K → Type 0) where
       (λ there. seek-none _ _ path key (rows-param (λ t. ⊥) (step param_token rs) (b ∷ path) (rows-step (λ t. ⊥) param_token rs none)) there kind)
       (λ there. own-is (λ t. ⊥) (step catch_all_token rs) key (rows-step (λ t. ⊥) catch_all_token rs none) there kind)) e
 
-  -- behind a byte: it is the first of the front, since some row goes on with it
-  byte-starts : (c b : ℕ) (front : List ℕ) (rs : RowsOf K) (path : List ℕ) (key : K) → AllRows (λ t. Starts (c ∷ front) (b ∷ t)) rs → first rs path ≡ Some key → IsOf key → (AllRows (Starts front) rs → Starts front path)
-      → Starts (c ∷ front) (b ∷ path)
-  byte-starts c b front rs path key all there kind more = cases (b == c) refl
-    where
-      cases : (d : Bool) → (b == c) ≡ d → Starts (c ∷ front) (b ∷ path)
-      cases true is = (grind (arith, nat_tests), more (rows-then (λ t. Starts (c ∷ front) (b ∷ t)) (Starts front) (λ t both. both.1) rs all))
-      cases false is = absurd (seek-none 0 rs path key (rows-then (λ t. Starts (c ∷ front) (b ∷ t)) (λ t. ⊥) (λ t both. let same = both.0 in absurd (grind (arith, nat_tests))) rs all) there kind)
+  -- rows lead to such a key only by such a path
+  abbrev pub LeadsBy : (List ℕ → Type 0) → Type 0
+  LeadsBy Is = (rs : RowsOf K) (path : List ℕ) (key : K) → AllRows Is rs → first rs path ≡ Some key → IsOf key → Is path
 
-  -- a path that leads to such a key begins with the bytes with which all patterns of such keys begin
-  pub first-starts : (front : List ℕ) (rs : RowsOf K) (path : List ℕ) (key : K) → IsText front → AllRows (Starts front) rs → first rs path ≡ Some key → IsOf key → Starts front path
+  pub by-any : LeadsBy Any
+  by-any rs path key all e kind = tt
+
+  -- a pattern of which nothing is left leads from nothing else
+  pub by-nothing : LeadsBy Nothing
   unfolding seek
-  first-starts [] rs path key plain all e kind = tt
-  first-starts (c ∷ front) rs [] key plain all e kind = own-is (Starts (c ∷ front)) rs key all e kind
-  first-starts (c ∷ front) rs (b ∷ path) key plain all e kind =
-      let no = λ (token : ℕ) (wide : 256 ≤ token). rows-then (λ t. Starts (c ∷ front) (token ∷ t)) (λ t. ⊥) (λ t is. let byte = plain.0 in let same = is.0 in absurd (omega arith)) (step token rs) (rows-step (Starts (c ∷ front)) token rs all) in
-      either (Starts (c ∷ front) (b ∷ path)) (seek 0 (step b rs) path) _ key
-      (λ there. byte-starts c b front (step b rs) path key (rows-step (Starts (c ∷ front)) b rs all) there kind (λ more. first-starts front (step b rs) path key plain.1 more there kind))
-      (either (Starts (c ∷ front) (b ∷ path)) _ (own (step catch_all_token rs)) key
+  by-nothing rs [] key all e kind = refl
+  by-nothing rs (b ∷ path) key all e kind =
+      let no = λ (token : ℕ). rows-then (λ t. Nothing (token ∷ t)) (λ t. ⊥) (λ t is. absurd (cc)) (step token rs) (rows-step Nothing token rs all) in
+      absurd (either ⊥ (seek 0 (step b rs) path) _ key (λ there. seek-none 0 (step b rs) path key (no b) there kind)
+      (either ⊥ _ (own (step catch_all_token rs)) key
+      (λ there. seek-none _ _ path key (rows-param (λ t. ⊥) (step param_token rs) (b ∷ path) (no param_token)) there kind)
+      (λ there. own-is (λ t. ⊥) (step catch_all_token rs) key (no catch_all_token) there kind)) e)
+
+  -- behind a byte: it is the first of the front, since some row goes on with it
+  byte-starts : (Rest : List ℕ → Type 0) (c b : ℕ) (front : List ℕ) (rs : RowsOf K) (path : List ℕ) (key : K) → AllRows (λ t. Starts Rest (c ∷ front) (b ∷ t)) rs → first rs path ≡ Some key → IsOf key → (AllRows (Starts Rest front) rs → Starts Rest front path)
+      → Starts Rest (c ∷ front) (b ∷ path)
+  byte-starts Rest c b front rs path key all there kind more = cases (b == c) refl
+    where
+      cases : (d : Bool) → (b == c) ≡ d → Starts Rest (c ∷ front) (b ∷ path)
+      cases true is = (grind (arith, nat_tests), more (rows-then (λ t. Starts Rest (c ∷ front) (b ∷ t)) (Starts Rest front) (λ t both. both.1) rs all))
+      cases false is = absurd (seek-none 0 rs path key (rows-then (λ t. Starts Rest (c ∷ front) (b ∷ t)) (λ t. ⊥) (λ t both. let same = both.0 in absurd (grind (arith, nat_tests))) rs all) there kind)
+
+  -- a path that leads to such a key begins with the bytes with which all patterns of such keys begin, and goes on as
+  -- they do
+  pub first-starts : (Rest : List ℕ → Type 0) → LeadsBy Rest → (front : List ℕ) → IsText front → LeadsBy (Starts Rest front)
+  unfolding seek
+  first-starts Rest more [] plain rs path key all e kind = more rs path key all e kind
+  first-starts Rest more (c ∷ front) plain rs [] key all e kind = own-is (Starts Rest (c ∷ front)) rs key all e kind
+  first-starts Rest more (c ∷ front) plain rs (b ∷ path) key all e kind =
+      let no = λ (token : ℕ) (wide : 256 ≤ token). rows-then (λ t. Starts Rest (c ∷ front) (token ∷ t)) (λ t. ⊥) (λ t is. let byte = plain.0 in let same = is.0 in absurd (omega arith)) (step token rs) (rows-step (Starts Rest (c ∷ front)) token rs all) in
+      either (Starts Rest (c ∷ front) (b ∷ path)) (seek 0 (step b rs) path) _ key
+      (λ there. byte-starts Rest c b front (step b rs) path key (rows-step (Starts Rest (c ∷ front)) b rs all) there kind (λ left. first-starts Rest more front plain.1 (step b rs) path key left there kind))
+      (either (Starts Rest (c ∷ front) (b ∷ path)) _ (own (step catch_all_token rs)) key
       (λ there. absurd (seek-none _ _ path key (rows-param (λ t. ⊥) (step param_token rs) (b ∷ path) (no param_token (omega arith))) there kind))
       (λ there. absurd (own-is (λ t. ⊥) (step catch_all_token rs) key (no catch_all_token (omega arith)) there kind))) e
 

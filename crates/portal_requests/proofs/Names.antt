@@ -23,6 +23,7 @@ pub use Rattle.trust_base.specs.declared.refusal.Refusal.{Refusal}
 pub use Rattle.trust_base.specs.declared.refusal.Refusal.TheVariants.{BadField, BadMethod, NoCaller, NoRoute}
 pub use Rattle.trust_desk.specs.Heard.{Asks, Unread, is_the, names}
 pub use Rattle.trust_base.specs.Periods.{Span}
+pub use Rattle.trust_desk.specs.declared.requests.CallerList.{CallerList}
 pub use Rattle.trust_desk.specs.declared.requests.DayReport.{DayReport}
 pub use Rattle.trust_desk.specs.declared.requests.PeriodReport.{PeriodReport}
 pub use Rattle.trust_desk.specs.declared.requests.Request.{Request}
@@ -32,9 +33,9 @@ pub use Rattle.portal_requests.specs.Asked.{entry_ask, matter_ask, numbered_ask}
 pub use Rattle.portal_requests.specs.Bodies.{body_in, has_keys, is_key, is_object, object_with, text_in, texts}
 pub use Rattle.portal_requests.specs.Callers.{caller_of}
 pub use Rattle.portal_requests.specs.Dismissals.{dismissing, dismissing_in, line_in, line_keys}
-pub use Rattle.portal_requests.specs.Paths.{after_slash, day_part, entry_part, first_day_part, has_matter, last_day_part, named_in, report_day_part, up_to_slash}
+pub use Rattle.portal_requests.specs.Paths.{after_slash, day_part, entry_part, has_matter, named_in, period_in, report_day_part, up_to_slash}
 pub use Rattle.portal_requests.specs.Places.{method_of}
-pub use Rattle.portal_requests.specs.Requests.{as_of, asked_at, called, heard_as, of_matter, period_of, placed, reported_as_of, reported_within, routed}
+pub use Rattle.portal_requests.specs.Requests.{as_of, asked_at, called, heard_as, of_matter, placed, reported_as_of, reported_within, routed}
 unfoldable pub use Rattle.portal_requests.specs.Requests.{heard_of, request}
 pub use Rattle.portal_requests.specs.Routing.{place_of}
 pub use Rattle.portal_requests.specs.Table.{IsTaken, row_in, rows_of}

@@ -1,12 +1,13 @@
 -- The parts of a path, and which matter a message names by its path.
-use Rattle.portal_requests.proofs.Names.{◌≡◌, ◌∙◌, ℕ, Bool, true, false, cond, List, [], ◌∷◌, Option, Some, None, Result, Ok, Err, refl, sym, ap, subst, arith, codes, nat_le, option_map, take, unwrap_or, ⊤, bytes_eq, IsText, Scan, parse_route, RouteOf, route_from, RowsOf, first, InsertError, Line, day_of, matter_of, Field, BadMethod, Ask, Caller, is_the, names, Message, path_of, Place, entry_ask, matter_ask, body_in, caller_of, dismissing, dismissing_in, line_in, line_keys, after_slash, day_part, entry_part, first_day_part, has_matter, last_day_part, named_in, report_day_part, method_of, Span, DayReport, PeriodReport, as_of, asked_at, period_of, reported_as_of, reported_within, called, heard_as, heard_of, of_matter, placed, request, routed, place_of, TABLE, route_rows, row_in, the_routes, matchit_on_literals, ints, nat_tests}
+use Rattle.portal_requests.proofs.Names.{◌≡◌, ◌∙◌, ℕ, Bool, true, false, cond, List, [], ◌∷◌, Option, Some, None, Result, Ok, Err, refl, sym, ap, subst, arith, codes, nat_le, option_map, take, unwrap_or, ⊤, bytes_eq, IsText, Scan, parse_route, RouteOf, route_from, RowsOf, first, InsertError, Line, day_of, matter_of, Field, BadMethod, Ask, Caller, is_the, names, Message, path_of, Place, entry_ask, matter_ask, body_in, caller_of, dismissing, dismissing_in, line_in, line_keys, after_slash, day_part, entry_part, has_matter, named_in, period_in, report_day_part, method_of, Span, CallerList, DayReport, PeriodReport, as_of, asked_at, reported_as_of, reported_within, called, heard_as, heard_of, of_matter, placed, request, routed, place_of, TABLE, route_rows, row_in, the_routes, matchit_on_literals, ints, nat_tests}
 use Rattle.std.specs.Borrow.{Bor}
 use Rattle.std.specs.Prelude.{drop, length}
 use Rattle.std.specs.Slice.{IsGetRangeResult}
 use Rattle.std.proofs.lemmas.List.{drop_all, length-drop, take_all}
 use Rattle.portal_requests.specs.declared.routes.Place.TheVariants as place
 use Rattle.portal_requests.specs.NamedByPath.{NamedByPath}
-use Rattle.portal_requests.proofs.Literals.{AllRows, Starts, first-starts, placed-rows}
+use Rattle.trust_desk.specs.declared.requests.CallerList.TheVariants as caller_list
+use Rattle.portal_requests.proofs.Literals.{AllRows, Any, LeadsBy, Nothing, Starts, by-any, by-nothing, first-starts, placed-rows, starts-whole}
 
 -- what is behind the first bytes, or nothing
 part-behind : (path : List ℕ) (n : ℕ) (got : Option (Bor (List ℕ))) (nothing : Bor (List ℕ)) → nothing.now ≡ [] → IsGetRangeResult path n (length path) got → (unwrap_or got nothing).now ≡ drop n path
@@ -23,64 +24,106 @@ pub behind-name : (path : List ℕ) (got : Option (Bor (List ℕ))) (nothing fro
 behind-name path got nothing front rest behind same none is =
     behind ∙ ap after_slash (ap (λ b. b.now) same ∙ part-behind path 6 got nothing none is)
 
--- Paths of the firm.
-
--- a place of the firm, and of no matter
-abbrev pub is_of_firm : Place → Bool
-is_of_firm (place.Matter p) = false
-is_of_firm (place.Entry p) = false
-is_of_firm _ = true
-
--- a route that leads there
-abbrev pub LeadsToFirm : RouteOf Place → Type 0
-LeadsToFirm e = is_of_firm e.value ≡ true
-
-abbrev firm_front : List ℕ
-firm_front = codes "/firm/"
-
-abbrev OfFirm : List ℕ → Type 0
-OfFirm t = Starts firm_front t
+-- Paths to some places.
 
 -- the pattern of a route's text
 abbrev pattern_in : Result Scan InsertError → List ℕ
 pattern_in (Ok s) = s.pattern
 pattern_in (Err e) = []
 
--- the pattern of each text that leads to the firm begins so
-abbrev AllTexts : List (List ℕ × Place) → Type 0
-AllTexts [] = ⊤
-AllTexts (p ∷ rest) = (is_of_firm p.1 ≡ true → OfFirm (pattern_in (parse_route p.0))) × AllTexts rest
+-- Of places of a kind, and of patterns of a form.
+module _ (IsAt : Place → Type 0) (Is : List ℕ → Type 0) where
+  -- a route that leads to such a place
+  abbrev Leads : RouteOf Place → Type 0
+  Leads e = IsAt e.value
 
-row-more : (r : Result Scan InsertError) (p : Place) (rows : RowsOf (RouteOf Place)) → (is_of_firm p ≡ true → OfFirm (pattern_in r)) → AllRows LeadsToFirm OfFirm rows → AllRows LeadsToFirm OfFirm (row_in r p rows)
-row-more r p rows is all = grind (arith, ints, nat_tests, placed-rows, route_from)
+  -- the pattern of each text that leads there is so
+  abbrev AllTexts : List (List ℕ × Place) → Type 0
+  AllTexts [] = ⊤
+  AllTexts (p ∷ rest) = (IsAt p.1 → Is (pattern_in (parse_route p.0))) × AllTexts rest
 
-rows-more : (table : List (List ℕ × Place)) (rows : RowsOf (RouteOf Place)) → AllTexts table → AllRows LeadsToFirm OfFirm rows → AllRows LeadsToFirm OfFirm (route_rows table rows)
-unfolding route_rows
-rows-more [] rows texts all = all
-rows-more (p ∷ rest) rows texts all = rows-more rest (row_in (parse_route p.0) p.1 rows) texts.1 (row-more (parse_route p.0) p.1 rows texts.0 all)
+  row-more : (r : Result Scan InsertError) (p : Place) (rows : RowsOf (RouteOf Place)) → (IsAt p → Is (pattern_in r)) → AllRows Leads Is rows → AllRows Leads Is (row_in r p rows)
+  row-more r p rows is all = grind (arith, ints, nat_tests, placed-rows, route_from)
 
-table-texts : AllTexts TABLE
+  rows-more : (table : List (List ℕ × Place)) (rows : RowsOf (RouteOf Place)) → AllTexts table → AllRows Leads Is rows → AllRows Leads Is (route_rows table rows)
+  unfolding route_rows
+  rows-more [] rows texts all = all
+  rows-more (p ∷ rest) rows texts all = rows-more rest (row_in (parse_route p.0) p.1 rows) texts.1 (row-more (parse_route p.0) p.1 rows texts.0 all)
+
+  -- a path that leads there is so, if rows lead there only by such a path
+  led-by : (path : List ℕ) (o : Option (RouteOf Place)) (p : Place) → AllTexts TABLE → LeadsBy Leads Is → IsAt p → first the_routes path ≡ o → option_map (λ e. e.value) o ≡ Some p → Is path
+  unfolding the_routes
+  led-by path None p texts by is found e = absurd (cc)
+  led-by path (Some r) p texts by is found e =
+      by the_routes path r (rows-more TABLE [] texts tt) found (subst IsAt (sym (ap (λ o. unwrap_or o r.value) e)) is)
+
+  pub placed-by : (path : List ℕ) (p : Place) → AllTexts TABLE → LeadsBy Leads Is → IsAt p → place_of path ≡ Some p → Is path
+  placed-by path p texts by is e = grind (arith, ints, nat_tests, option_map, first, led-by)
+
+-- Paths of the firm.
+
+-- a place of the firm, and of no matter or caller
+abbrev is_of_firm : Place → Bool
+is_of_firm (place.Matter p) = false
+is_of_firm (place.Entry p) = false
+is_of_firm (place.Listed p) = false
+is_of_firm _ = true
+
+abbrev IsOfFirm : Place → Type 0
+IsOfFirm p = is_of_firm p ≡ true
+
+abbrev firm_front : List ℕ
+firm_front = codes "/firm/"
+
+abbrev OfFirm : List ℕ → Type 0
+OfFirm t = Starts Any firm_front t
+
+firm-texts : AllTexts IsOfFirm OfFirm TABLE
 unfolding TABLE matchit_on_literals
-table-texts = grind (arith, ints, nat_tests)
+firm-texts = grind (arith, ints, nat_tests)
 
-the-rows : AllRows LeadsToFirm OfFirm the_routes
-unfolding the_routes
-the-rows = rows-more TABLE [] table-texts tt
+firm-text : IsText firm_front
+firm-text = (omega arith, (omega arith, (omega arith, (omega arith, (omega arith, (omega arith, tt))))))
 
-front-text : IsText firm_front
-front-text = (omega arith, (omega arith, (omega arith, (omega arith, (omega arith, (omega arith, tt))))))
-
--- a path that leads to the firm begins so
-to-firm : (path : List ℕ) (o : Option (RouteOf Place)) (p : Place) → is_of_firm p ≡ true → first the_routes path ≡ o → option_map (λ e. e.value) o ≡ Some p → OfFirm path
-to-firm path None p is found e = absurd (cc)
-to-firm path (Some r) p is found e = first-starts LeadsToFirm firm_front the_routes path r front-text the-rows found (ap is_of_firm (ap (λ o. unwrap_or o r.value) e) ∙ is)
-
--- so it names no matter
+-- a path that begins so names no matter
 front-unnamed : (path : List ℕ) → OfFirm path → named_in path ≡ None
 front-unnamed path is = grind (arith, ints, nat_tests, named_in, nat_le, length, has_matter, matter_of, take, drop)
 
 firm-unnamed : (path : List ℕ) (p : Place) → is_of_firm p ≡ true → place_of path ≡ Some p → named_in path ≡ None
-firm-unnamed path p is e = grind (arith, ints, nat_tests, option_map, first, front-unnamed, to-firm)
+firm-unnamed path p is e =
+    front-unnamed path (placed-by IsOfFirm OfFirm path p firm-texts (first-starts (Leads IsOfFirm OfFirm) Any (by-any (Leads IsOfFirm OfFirm)) firm_front firm-text) is e)
+
+-- Paths of a caller's lists.
+
+abbrev list_path : CallerList → List ℕ
+list_path caller_list.Matters = codes "/matters"
+list_path caller_list.Waiting = codes "/waiting"
+
+abbrev IsOfList : CallerList → Place → Type 0
+IsOfList list p = p ≡ place.Listed list
+
+abbrev OfList : CallerList → List ℕ → Type 0
+OfList list t = Starts Nothing (list_path list) t
+
+list-texts : (list : CallerList) → AllTexts (IsOfList list) (OfList list) TABLE
+unfolding TABLE matchit_on_literals
+list-texts caller_list.Matters = grind (arith, ints, nat_tests)
+list-texts caller_list.Waiting = grind (arith, ints, nat_tests)
+
+list-text : (list : CallerList) → IsText (list_path list)
+list-text caller_list.Matters = grind (arith, ints, nat_tests)
+list-text caller_list.Waiting = grind (arith, ints, nat_tests)
+
+short-unnamed : (list : CallerList) → named_in (list_path list) ≡ None
+short-unnamed caller_list.Matters = refl
+short-unnamed caller_list.Waiting = refl
+
+-- each has only its own path, which is too short to name a matter
+list-unnamed : (path : List ℕ) (list : CallerList) → place_of path ≡ Some (place.Listed list) → named_in path ≡ None
+list-unnamed path list e =
+    let leads = Leads (IsOfList list) (OfList list) in
+    let by = first-starts leads Nothing (by-nothing leads) (list_path list) (list-text list) in
+    ap named_in (starts-whole (list_path list) path (placed-by (IsOfList list) (OfList list) path (place.Listed list) (list-texts list) by refl e)) ∙ short-unnamed list
 
 -- A request.
 
@@ -102,16 +145,18 @@ dismissal-named : (n : ℕ) (caller : Caller) (o : Option Line) → names n (hea
 dismissal-named n caller o = grind (arith, ints, nat_tests)
 
 at-named : (n : ℕ) (p : Place) (caller : Caller) (path body : List ℕ) → place_of path ≡ Some p → names n (heard_as (named_in path) (asked_at p caller path body)) ≡ is_the n (named_in path)
-at-named n (place.Matter p) caller path body e = of-named n caller (named_in path) (matter_ask p body)
+at-named n (place.Matter p) caller path body e = of-named n caller (named_in path) (matter_ask p path body)
 at-named n (place.Entry p) caller path body e = of-named n caller (named_in path) (entry_ask p (entry_part path) body)
+at-named n (place.Listed p) caller path body e = sym (ap (is_the n) (list-unnamed path p e))
 at-named n (place.Report p) caller path body e = sym (ap (is_the n) (firm-unnamed path (place.Report p) refl e))
 at-named n place.Reconciliation caller path body e = subst (λ (o : Option ℕ). names n (heard_as o (as_of caller (day_of (day_part path)))) ≡ is_the n o) (sym (firm-unnamed path place.Reconciliation refl e)) (day-named n caller (day_of (day_part path)))
 at-named n (place.AsOf report) caller path body e = subst (λ (o : Option ℕ). names n (heard_as o (reported_as_of caller report (day_of (report_day_part path)))) ≡ is_the n o) (sym (firm-unnamed path (place.AsOf report) refl e)) (report-named n caller report (day_of (report_day_part path)))
 at-named n (place.Within report) caller path body e =
-    let period = period_of (day_of (first_day_part path)) (day_of (last_day_part path)) in
+    let period = period_in (report_day_part path) in
     subst (λ (o : Option ℕ). names n (heard_as o (reported_within caller report period)) ≡ is_the n o) (sym (firm-unnamed path (place.Within report) refl e)) (period-named n caller report period)
 at-named n place.Import caller path body e = sym (ap (is_the n) (firm-unnamed path place.Import refl e))
 at-named n (place.Match p) caller path body e = sym (ap (is_the n) (firm-unnamed path (place.Match p) refl e))
+at-named n place.Reasons caller path body e = sym (ap (is_the n) (firm-unnamed path place.Reasons refl e))
 at-named n place.Dismissal caller path body e = subst (λ (o : Option ℕ). names n (heard_as o (dismissing_in caller body)) ≡ is_the n o) (sym (firm-unnamed path place.Dismissal refl e)) (dismissal-named n caller (line_in (body_in line_keys body)))
 
 called-named : (n : ℕ) (p : Place) (o : Option Caller) (path body : List ℕ) → place_of path ≡ Some p → names n (heard_as (named_in path) (called p o path body)) ≡ is_the n (named_in path)

@@ -1,8 +1,10 @@
 -- What a place asks, with the fields of a body. The body of a request that only reads is ignored.
-use Rattle.std.specs.Prelude.{ℕ, List, [], ◌∷◌, codes, Result, Ok}
+use Rattle.std.specs.Prelude.{ℕ, List, [], ◌∷◌, codes, Option, Some, None, Result, Ok, Err}
 use Rattle.trust_base.specs.Names.{label_of, person_of}
+use Rattle.trust_base.specs.Periods.{Span}
 use Rattle.trust_base.specs.Texts.{amount_of, amount_or_zero_of}
 use Rattle.trust_base.specs.declared.refusal.Field.{Field}
+use Rattle.trust_base.specs.declared.refusal.Field.TheVariants as field
 use Rattle.trust_matter.specs.declared.ask.Ask.{Ask}
 use Rattle.trust_matter.specs.declared.ask.Ask.TheVariants as ask
 use Rattle.trust_matter.specs.declared.claim.SplitAsk.{SplitAsk}
@@ -13,6 +15,7 @@ use Rattle.portal_requests.specs.declared.routes.MatterPlace.TheVariants as matt
 use Rattle.portal_requests.specs.declared.routes.EntryPlace.{EntryPlace}
 use Rattle.portal_requests.specs.declared.routes.EntryPlace.TheVariants as entry
 use Rattle.portal_requests.specs.Bodies.{optional_text_at, text_at, with_body}
+use Rattle.portal_requests.specs.Paths.{matter_rest, period_in}
 
 -- ---- of a matter as a whole
 
@@ -27,14 +30,22 @@ seating_in body = with_body (codes "person" ∷ codes "role" ∷ []) body
 abbrev pub dropping_in : List ℕ → Result Ask Field
 dropping_in body = with_body (codes "person" ∷ []) body (λ d. dropping (person_of (text_at (codes "person") d)))
 
-abbrev pub matter_ask : MatterPlace → List ℕ → Result Ask Field
-matter_ask matter.Show body = Ok ask.Show
-matter_ask matter.Open body = opening_in body
-matter_ask matter.AddSeat body = seating_in body
-matter_ask matter.DropSeat body = dropping_in body
-matter_ask matter.Close body = with_body [] body (λ d. Ok ask.CloseMatter)
-matter_ask matter.Purge body = with_body [] body (λ d. Ok ask.Purge)
-matter_ask matter.Accounting body = Ok ask.Accounting
+-- the statement of account for a period
+abbrev pub account_within : Option Span → Result Ask Field
+account_within None = Err field.Day
+account_within (Some period) = Ok (ask.Account period)
+
+-- of the path only the days of a period are used
+abbrev pub matter_ask : MatterPlace → List ℕ → List ℕ → Result Ask Field
+matter_ask matter.Show path body = Ok ask.Show
+matter_ask matter.Open path body = opening_in body
+matter_ask matter.AddSeat path body = seating_in body
+matter_ask matter.DropSeat path body = dropping_in body
+matter_ask matter.Close path body = with_body [] body (λ d. Ok ask.CloseMatter)
+matter_ask matter.Purge path body = with_body [] body (λ d. Ok ask.Purge)
+matter_ask matter.Entries path body = Ok ask.ShowEntries
+matter_ask matter.Accounting path body = Ok ask.Accounting
+matter_ask matter.Account path body = account_within (period_in (matter_rest path))
 
 -- ---- of an entry
 
@@ -77,6 +88,7 @@ numbered_ask entry.Cancel number body = with_body [] body (λ d. Ok (ask.CancelD
 numbered_ask entry.Propose number body = proposing_in number body
 numbered_ask entry.Approve number body = with_body [] body (λ d. Ok (ask.Approve number))
 numbered_ask entry.Decline number body = with_body [] body (λ d. Ok (ask.Decline number))
+numbered_ask entry.Withdraw number body = with_body [] body (λ d. Ok (ask.Withdraw number))
 numbered_ask entry.Void number body = with_body [] body (λ d. Ok (ask.VoidPayment number))
 numbered_ask entry.Fee number body = earning_in number body
 numbered_ask entry.Claim number body = claiming_in number body

@@ -1,5 +1,5 @@
 -- What a message asks. Refusals are tried in this order: no route, another method, no caller, a bad field.
-use Rattle.std.specs.Prelude.{ℕ, List, Option, Some, None, Result, Ok, Err, if◌then◌else◌, nat_le}
+use Rattle.std.specs.Prelude.{ℕ, List, Option, Some, None, Result, Ok, Err, if◌then◌else◌}
 use Rattle.std.specs.Str.{bytes_eq}
 use Rattle.trust_base.specs.Periods.{Span}
 use Rattle.trust_base.specs.Texts.{day_of}
@@ -20,7 +20,7 @@ use Rattle.portal_requests.specs.declared.routes.Place.{Place}
 use Rattle.portal_requests.specs.declared.routes.Place.TheVariants as place
 use Rattle.portal_requests.specs.Asked.{entry_ask, matter_ask}
 use Rattle.portal_requests.specs.Callers.{caller_of}
-use Rattle.portal_requests.specs.Paths.{day_part, entry_part, first_day_part, last_day_part, named_in, report_day_part}
+use Rattle.portal_requests.specs.Paths.{day_part, entry_part, named_in, period_in, report_day_part}
 use Rattle.portal_requests.specs.Dismissals.{dismissing_in}
 use Rattle.portal_requests.specs.Places.{method_of}
 use Rattle.portal_requests.specs.Routing.{place_of}
@@ -41,28 +41,24 @@ abbrev pub reported_as_of : Caller → DayReport → Option ℕ → Result Reque
 reported_as_of caller report None = Err (BadField field.Day)
 reported_as_of caller report (Some day) = Ok (requests.AsOf caller report day)
 
--- from one day to another; there is no such period where one of them is missing, or the second is earlier
-abbrev pub period_of : Option ℕ → Option ℕ → Option Span
-period_of None to = None
-period_of (Some from) None = None
-period_of (Some from) (Some to) = if nat_le from to then Some (record { from = from; to = to }) else None
-
 -- a report of the period in a path
 abbrev pub reported_within : Caller → PeriodReport → Option Span → Result Request Refusal
 reported_within caller report None = Err (BadField field.Day)
 reported_within caller report (Some period) = Ok (requests.Within caller report period)
 
 abbrev pub asked_at : Place → Caller → List ℕ → List ℕ → Result Request Refusal
-asked_at (place.Matter p) caller path body = of_matter caller (named_in path) (matter_ask p body)
+asked_at (place.Matter p) caller path body = of_matter caller (named_in path) (matter_ask p path body)
 asked_at (place.Entry p) caller path body =
     of_matter caller (named_in path) (entry_ask p (entry_part path) body)
+asked_at (place.Listed list) caller path body = Ok (requests.Listed caller list)
 asked_at (place.Report report) caller path body = Ok (requests.Report caller report)
 asked_at place.Reconciliation caller path body = as_of caller (day_of (day_part path))
 asked_at (place.AsOf report) caller path body = reported_as_of caller report (day_of (report_day_part path))
 asked_at (place.Within report) caller path body =
-    reported_within caller report (period_of (day_of (first_day_part path)) (day_of (last_day_part path)))
+    reported_within caller report (period_in (report_day_part path))
 asked_at place.Import caller path body = Ok (requests.Import caller body)
 asked_at (place.Match text) caller path body = Ok (requests.Match caller body text)
+asked_at place.Reasons caller path body = Ok (requests.Reasons caller)
 asked_at place.Dismissal caller path body = dismissing_in caller body
 
 abbrev pub called : Place → Option Caller → List ℕ → List ℕ → Result Request Refusal

@@ -8,12 +8,13 @@ use Rattle.matchit.specs.Route.{Scan, parse_route}
 use Rattle.matchit.specs.declared.error.InsertError.{InsertError}
 use Rattle.portal_requests.specs.declared.routes.MatterPlace.TheVariants as matter
 use Rattle.portal_requests.specs.declared.routes.EntryPlace.TheVariants as entry
+use Rattle.trust_desk.specs.declared.requests.CallerList.TheVariants as caller_list
 use Rattle.trust_desk.specs.declared.requests.DayReport.TheVariants as day_report
 use Rattle.trust_desk.specs.declared.requests.PeriodReport.TheVariants as period_report
 use Rattle.trust_desk.specs.declared.requests.Report.TheVariants as report
 use Rattle.trust_desk.specs.declared.requests.MatchText.TheVariants as text
 use Rattle.portal_requests.specs.declared.routes.Place.{Place}
-use Rattle.portal_requests.specs.declared.routes.Place.TheVariants.{AsOf, Dismissal, Entry, Import, Match, Matter, Reconciliation, Report, Within}
+use Rattle.portal_requests.specs.declared.routes.Place.TheVariants.{AsOf, Dismissal, Entry, Import, Listed, Match, Matter, Reasons, Reconciliation, Report, Within}
 
 -- the rows with one more route
 abbrev pub row_in : Result Scan InsertError → Place → RowsOf (RouteOf Place) → RowsOf (RouteOf Place)
@@ -41,19 +42,24 @@ rows_of = map (λ p. (p.0.now, p.1))
 
 -- the paths that have a route, and where each leads
 unfoldable pub TABLE : List (List ℕ × Place)
-TABLE = (codes "/matters/{m}", Matter matter.Show)
+TABLE = (codes "/matters", Listed caller_list.Matters)
+    ∷ (codes "/waiting", Listed caller_list.Waiting)
+    ∷ (codes "/matters/{m}", Matter matter.Show)
     ∷ (codes "/matters/{m}/open", Matter matter.Open)
     ∷ (codes "/matters/{m}/seats", Matter matter.AddSeat)
     ∷ (codes "/matters/{m}/seats/drop", Matter matter.DropSeat)
     ∷ (codes "/matters/{m}/close", Matter matter.Close)
     ∷ (codes "/matters/{m}/purge", Matter matter.Purge)
     ∷ (codes "/matters/{m}/accounting", Matter matter.Accounting)
+    ∷ (codes "/matters/{m}/accounting/{from}/{to}", Matter matter.Account)
+    ∷ (codes "/matters/{m}/entries", Matter matter.Entries)
     ∷ (codes "/matters/{m}/entries/{e}", Entry entry.Show)
     ∷ (codes "/matters/{m}/entries/{e}/deposit", Entry entry.Deposit)
     ∷ (codes "/matters/{m}/entries/{e}/cancel", Entry entry.Cancel)
     ∷ (codes "/matters/{m}/entries/{e}/propose", Entry entry.Propose)
     ∷ (codes "/matters/{m}/entries/{e}/approve", Entry entry.Approve)
     ∷ (codes "/matters/{m}/entries/{e}/decline", Entry entry.Decline)
+    ∷ (codes "/matters/{m}/entries/{e}/withdraw", Entry entry.Withdraw)
     ∷ (codes "/matters/{m}/entries/{e}/void", Entry entry.Void)
     ∷ (codes "/matters/{m}/entries/{e}/fee", Entry entry.Fee)
     ∷ (codes "/matters/{m}/entries/{e}/claim", Entry entry.Claim)
@@ -64,6 +70,7 @@ TABLE = (codes "/matters/{m}", Matter matter.Show)
     ∷ (codes "/firm/statements/match", Match text.Statement)
     ∷ (codes "/firm/statements/unmatched", Match text.Unmatched)
     ∷ (codes "/firm/exceptions", Report report.Exceptions)
+    ∷ (codes "/firm/exceptions/reasons", Reasons)
     ∷ (codes "/firm/exceptions/dismiss", Dismissal)
     ∷ (codes "/firm/trial-balance", Report report.Trial)
     ∷ (codes "/firm/journal", Report report.Journal)

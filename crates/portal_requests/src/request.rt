@@ -7,15 +7,16 @@ ghost use Rattle.trust_matter.specs.declared.ask.Ask.{Ask};
 ghost use Rattle.trust_matter.specs.declared.claim.SplitAsk.{SplitAsk};
 ghost use Rattle.ask_fields.specs.Fields.{Reads};
 ghost use Rattle.portal_requests.specs.Answers.{Answers};
-ghost use Rattle.portal_requests.specs.Asked.{claiming_in, depositing_in, dropping_in, earning_in, entry_ask, matter_ask, opening_in};
+ghost use Rattle.portal_requests.specs.Asked.{account_within, claiming_in, depositing_in, dropping_in, earning_in, entry_ask};
+ghost use Rattle.portal_requests.specs.Asked.{matter_ask, opening_in};
 ghost use Rattle.portal_requests.specs.Asked.{proposing_in, seating_in, splitting_in};
 ghost use Rattle.portal_requests.specs.Bodies.{body_in, field_text_at, is_object, optional_text_at, text_at, text_in};
 ghost use Rattle.portal_requests.specs.Bodies.{texts};
 ghost use Rattle.portal_requests.specs.Callers.{caller_of};
 ghost use Rattle.portal_requests.specs.Dismissals.{dismissing_in};
-ghost use Rattle.portal_requests.specs.Paths.{after_slash, day_part, first_day_part, last_day_part, named_in};
-ghost use Rattle.portal_requests.specs.Paths.{report_day_part, up_to_slash};
-ghost use Rattle.portal_requests.specs.Requests.{as_of, of_matter, period_of, reported_as_of, reported_within, request};
+ghost use Rattle.portal_requests.specs.Paths.{after_slash, day_part, matter_rest, named_in, period_in, report_day_part};
+ghost use Rattle.portal_requests.specs.Paths.{up_to_slash};
+ghost use Rattle.portal_requests.specs.Requests.{as_of, of_matter, reported_as_of, reported_within, request};
 ghost use Rattle.trust_base.specs.Texts.{day_of};
 
 use crate::routes::{EntryPlace, MatterPlace, Place, Routes, method};
@@ -57,6 +58,24 @@ fn split_at_slash(bytes: &[u8]) -> (&[u8], &[u8])
         }
     }
     (bytes, &[])
+}
+
+// What comes after `/matters/`, the matter and the name of what is there, each with a slash behind it.
+fn matter_rest(path: &[u8]) -> &[u8]
+    ensures { result.now ≡ matter_rest path.now }
+{
+    let (_, rest) = split_at_slash(path.get(9..).unwrap_or(&[]));
+    let (_, rest) = split_at_slash(rest);
+    rest
+}
+
+// Returns the period whose days stand in a part of a path, with a slash between them. `None` if one of them is no day,
+// or the second is earlier.
+fn read_period(part: &[u8]) -> Option<Period>
+    ensures { result ≡ period_in part.now }
+{
+    let (from, to) = split_at_slash(part);
+    Period::new(Day::read(from)?, Day::read(to)?)
 }
 
 // Returns the caller, if there is exactly one value and it names one. Fails if memory runs out.
@@ -176,16 +195,33 @@ fn read_dropping_in(alloc: Global, body: &[u8]) -> Result<Ask, Refusal>
     read_dropping(alloc, text(&fields, "person"))
 }
 
-// Returns what a place asks of a matter, with the fields of a body.
-fn read_matter_ask(alloc: Global, place: MatterPlace, body: &[u8]) -> Result<Ask, Refusal>
-    ensures { Reads (matter_ask place body.now) result }
+// Returns the ask for the statement of account of the period in a path.
+fn read_account(path: &[u8]) -> Result<Ask, Refusal>
+    ensures { Reads (account_within (period_in (matter_rest path.now))) result }
+{
+    match read_period(matter_rest(path)) {
+        Some(period) => Ok(Ask::Account(period)),
+        None => Err(Refusal::BadField(Field::Day)),
+    }
+}
+
+// Returns what a place asks of a matter, with the days in a path or the fields of a body.
+fn read_matter_ask(
+    alloc: Global,
+    place: MatterPlace,
+    path: &[u8],
+    body: &[u8],
+) -> Result<Ask, Refusal>
+    ensures { Reads (matter_ask place path.now body.now) result }
 {
     let bare = match place {
         MatterPlace::Show => return Ok(Ask::Show),
         MatterPlace::Open => return read_opening_in(alloc, body),
         MatterPlace::AddSeat => return read_seating_in(alloc, body),
         MatterPlace::DropSeat => return read_dropping_in(alloc, body),
+        MatterPlace::Entries => return Ok(Ask::ShowEntries),
         MatterPlace::Accounting => return Ok(Ask::Accounting),
+        MatterPlace::Account => return read_account(path),
         MatterPlace::Close => Ask::CloseMatter,
         MatterPlace::Purge => Ask::Purge,
     };
@@ -276,6 +312,7 @@ fn read_entry_ask(
         EntryPlace::Cancel => Ask::CancelDeposit(number),
         EntryPlace::Approve => Ask::Approve(number),
         EntryPlace::Decline => Ask::Decline(number),
+        EntryPlace::Withdraw => Ask::Withdraw(number),
         EntryPlace::Void => Ask::VoidPayment(number),
     };
     // Without fields.
@@ -319,12 +356,12 @@ fn read_matter_at(
     path: &[u8],
     body: &[u8],
 ) -> Result<Request, Refusal>
-    ensures { Answers (of_matter caller (named_in path.now) (matter_ask place body.now)) result }
+    ensures { Answers (of_matter caller (named_in path.now) (matter_ask place path.now body.now)) result }
 {
     let Some(no) = named_matter(path) else {
         return Err(Refusal::BadField(Field::Matter));
     };
-    match read_matter_ask(alloc, place, body) {
+    match read_matter_ask(alloc, place, path, body) {
         Ok(ask) => Ok(Request::Matter { no, caller, ask }),
         Err(why) => Err(why),
     }
@@ -351,30 +388,16 @@ fn read_day_report_at(caller: Caller, report: DayReport, path: &[u8]) -> Result<
     }
 }
 
-// Returns the period from one day to another. `None` if a text is no day, or the second day is earlier.
-fn read_period(from: &[u8], to: &[u8]) -> Option<Period>
-    ensures { result ≡ period_of (day_of from.now) (day_of to.now) }
-{
-    let (first, last) = (Day::read(from)?, Day::read(to)?);
-    // The contract of the call below does not say that it refuses them.
-    if last.get() < first.get() {
-        return None;
-    }
-    Period::new(first, last)
-}
-
 // Returns the request for a report of the period in a path. Its days come after `/firm/`, the report and a slash.
 fn read_period_report_at(
     caller: Caller,
     report: PeriodReport,
     path: &[u8],
 ) -> Result<Request, Refusal>
-    ensures { Answers (reported_within caller report
-        (period_of (day_of (first_day_part path.now)) (day_of (last_day_part path.now)))) result }
+    ensures { Answers (reported_within caller report (period_in (report_day_part path.now))) result }
 {
     let (_, days) = split_at_slash(path.get(6..).unwrap_or(&[]));
-    let (from, to) = split_at_slash(days);
-    match read_period(from, to) {
+    match read_period(days) {
         Some(period) => Ok(Request::Within(caller, report, period)),
         None => Err(Refusal::BadField(Field::Day)),
     }
@@ -411,16 +434,13 @@ pub fn request_of(alloc: Global, routes: &Routes, message: &Message) -> Result<R
             let Some(no) = named_matter(path) else {
                 return Err(Refusal::BadField(Field::Matter));
             };
-            // The entry comes after `/matters/`, the matter and `entries`.
-            let (_, rest) = path.split_at(9);
-            let (_, rest) = split_at_slash(rest);
-            let (_, rest) = split_at_slash(rest);
-            let (entry, _) = split_at_slash(rest);
+            let (entry, _) = split_at_slash(matter_rest(path));
             match read_entry_ask(alloc, place, entry, body) {
                 Ok(ask) => Ok(Request::Matter { no, caller, ask }),
                 Err(why) => Err(why),
             }
         }
+        Place::Listed(list) => Ok(Request::Listed(caller, list)),
         Place::Report(report) => Ok(Request::Report(caller, report)),
         Place::Reconciliation => read_reconciliation_at(caller, path),
         Place::AsOf(report) => read_day_report_at(caller, report, path),
@@ -437,6 +457,7 @@ pub fn request_of(alloc: Global, routes: &Routes, message: &Message) -> Result<R
                 text,
             })
         }
+        Place::Reasons => Ok(Request::Reasons(caller)),
         Place::Dismissal => read_dismissal(alloc, caller, body),
     }
 }

@@ -8,7 +8,7 @@ ghost use Rattle.portal_requests.specs.Table.{the_routes};
 use matchit::{InsertError, Router};
 use std::alloc::Global;
 use std::marker::Model;
-use trust_desk::{DayReport, MatchText, PeriodReport, Report};
+use trust_desk::{CallerList, DayReport, MatchText, PeriodReport, Report};
 
 /// What a route asks of a matter as a whole.
 #[derive(Clone, Copy, PartialEq, Eq, Debug)]
@@ -19,7 +19,9 @@ pub(crate) enum MatterPlace {
     DropSeat,
     Close,
     Purge,
+    Entries,
     Accounting,
+    Account,
 }
 
 /// What a route asks of an entry.
@@ -31,6 +33,7 @@ pub(crate) enum EntryPlace {
     Propose,
     Approve,
     Decline,
+    Withdraw,
     Void,
     Fee,
     Claim,
@@ -46,6 +49,8 @@ pub(crate) enum Place {
     Matter(MatterPlace),
     /// To an entry of a matter.
     Entry(EntryPlace),
+    /// To a list of the matters that the caller may see, or of what waits in them.
+    Listed(CallerList),
     /// To a report on the firm.
     Report(Report),
     /// To the reconciliation of the day in the path.
@@ -58,6 +63,8 @@ pub(crate) enum Place {
     Import,
     /// To a text that matching a bank statement gives.
     Match(MatchText),
+    /// To the exceptions of the firm with their reasons.
+    Reasons,
     /// To the dismissal of a line from the exceptions.
     Dismissal,
 }
@@ -67,12 +74,19 @@ pub(crate) fn method(place: Place) -> &'static [u8]
     ensures { result.now ≡ method_of place }
 {
     match place {
-        Place::Matter(MatterPlace::Show | MatterPlace::Accounting)
+        Place::Matter(
+            MatterPlace::Show
+            | MatterPlace::Entries
+            | MatterPlace::Accounting
+            | MatterPlace::Account,
+        )
         | Place::Entry(EntryPlace::Show)
+        | Place::Listed(_)
         | Place::Report(_)
         | Place::Reconciliation
         | Place::AsOf(_)
-        | Place::Within(_) => b"GET",
+        | Place::Within(_)
+        | Place::Reasons => b"GET",
         Place::Matter(_) | Place::Entry(_) | Place::Import | Place::Match(_) | Place::Dismissal =>
             b"POST",
     }
@@ -80,6 +94,8 @@ pub(crate) fn method(place: Place) -> &'static [u8]
 
 // The paths that have a route, and the place to which each leads.
 const TABLE: &[(&str, Place)] = &[
+    ("/matters", Place::Listed(CallerList::Matters)),
+    ("/waiting", Place::Listed(CallerList::Waiting)),
     ("/matters/{m}", Place::Matter(MatterPlace::Show)),
     ("/matters/{m}/open", Place::Matter(MatterPlace::Open)),
     ("/matters/{m}/seats", Place::Matter(MatterPlace::AddSeat)),
@@ -93,6 +109,11 @@ const TABLE: &[(&str, Place)] = &[
         "/matters/{m}/accounting",
         Place::Matter(MatterPlace::Accounting),
     ),
+    (
+        "/matters/{m}/accounting/{from}/{to}",
+        Place::Matter(MatterPlace::Account),
+    ),
+    ("/matters/{m}/entries", Place::Matter(MatterPlace::Entries)),
     ("/matters/{m}/entries/{e}", Place::Entry(EntryPlace::Show)),
     (
         "/matters/{m}/entries/{e}/deposit",
@@ -113,6 +134,10 @@ const TABLE: &[(&str, Place)] = &[
     (
         "/matters/{m}/entries/{e}/decline",
         Place::Entry(EntryPlace::Decline),
+    ),
+    (
+        "/matters/{m}/entries/{e}/withdraw",
+        Place::Entry(EntryPlace::Withdraw),
     ),
     (
         "/matters/{m}/entries/{e}/void",
@@ -145,6 +170,7 @@ const TABLE: &[(&str, Place)] = &[
         Place::Match(MatchText::Unmatched),
     ),
     ("/firm/exceptions", Place::Report(Report::Exceptions)),
+    ("/firm/exceptions/reasons", Place::Reasons),
     ("/firm/exceptions/dismiss", Place::Dismissal),
     ("/firm/trial-balance", Place::Report(Report::Trial)),
     ("/firm/journal", Place::Report(Report::Journal)),

@@ -1,6 +1,8 @@
--- The matters of the numbers of all heads are those for which the tables stand, in order.
-use Rattle.sql_reads.proofs.Names.{◌≡◌, ℕ, ℤ, pos, List, [], ◌∷◌, map, find, Some, option_map, refl, ap₂, AllByRecursion, IsKeyedBy, all_both, Lists, is_head, kept_from, matter_from, matters_from, head_at, apart_below, int_eq-itself, numbered_at, AreNumbersOf, arith, ints, nat_tests}
-use Rattle.std.specs.Prelude.{◌<ℤ◌, ◌++◌}
+-- The numbers of all heads, and the matters of these numbers, are those for which the tables stand, in order.
+use Rattle.sql_reads.proofs.Names.{◌≡◌, ℕ, ℤ, pos, List, [], ◌∷◌, map, find, Some, option_map, refl, ap₂, AllByRecursion, IsKeyedBy, all_both, Lists, is_head, kept_from, matter_from, matters_from, part_from, sym, head_at, apart_below, int_eq-itself, numbered_at, AreNumbersOf, arith, ints, nat_tests, ap, nat_abs, ◌∙◌, ◌++◌, joined, pairs, rows_kept}
+use Rattle.std.specs.Prelude.{◌<ℤ◌}
+use Rattle.firm_rows.specs.Firm.{headed}
+use Rattle.trust_store.proofs.Headed.{headed-append, headed-pairs}
 use Rattle.trust_store.specs.Kept.{Ascends, IsBefore, IsKeptWhole}
 use Rattle.sql_tables.specs.Rows as table
 use Rattle.matter_parts.specs.Audit.{IsSoundWhole}
@@ -19,7 +21,27 @@ pub whole_more : (ks : List KeptMatter) (k : KeptMatter) → AllByRecursion IsKe
 whole_more [] k all sound = (record { whole = sound.whole; sound = sound.sound }, tt)
 whole_more (j ∷ ks) k all sound = (all.0, whole_more ks k all.1 sound)
 
+-- the numbers of heads, as natural numbers
+numbers_read : (hs : List table.Head) (ns : List ℕ) → AreNumbersOf hs ns → ns ≡ map (λ (h : table.Head). nat_abs h.no) hs
+numbers_read [] [] are = refl
+numbers_read [] (n ∷ ns) are = absurd (let e = are in cc)
+numbers_read (h ∷ hs) [] are = absurd (let e = are in cc)
+numbers_read (h ∷ hs) (n ∷ ns) are =
+    let number : pos n ≡ h.no = (let e = are in cc) in
+    let others : AreNumbersOf hs ns = (let e = are in cc) in
+    ap₂ ◌∷◌ (ap nat_abs number) (numbers_read hs ns others)
+
 module _ (a : Lists) where
+  headed_matters : (hs : List table.Head) → headed (joined (map (matter_from a) hs)) ≡ map (λ (h : table.Head). nat_abs h.no) hs
+  headed_matters [] = refl
+  headed_matters (h ∷ hs) =
+      headed-append (pairs (nat_abs h.no) (rows_kept (part_from a h))) (joined (map (matter_from a) hs))
+      ∙ ap₂ ◌++◌ (headed-pairs (nat_abs h.no) (rows_kept (part_from a h))) (headed_matters hs)
+
+  -- the numbers of all heads are those of the matters for which the tables stand
+  pub opened_read : (ns : List ℕ) → AreNumbersOf a.heads ns → ns ≡ headed (joined (matters_from a))
+  opened_read ns are = numbers_read a.heads ns are ∙ sym (headed_matters a.heads)
+
   one_matter : (h : table.Head) (n : ℕ) → pos n ≡ h.no → find (is_head h.no) a.heads ≡ Some h → numbered_at a n ≡ matter_from a h
   one_matter h n own found = grind (arith, ints, nat_tests, find, head_at, option_map, map, kept_from)
 

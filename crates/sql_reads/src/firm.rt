@@ -14,7 +14,7 @@ ghost use Rattle.sql_rows.specs.Standing.{firm_in};
 ghost use Rattle.sql_reads.specs.Parts.{without_matters};
 
 use crate::lists::{Balances, Exceptions, FirmLines, Movements, each_listed};
-use crate::matter::{head_numbers, whole_matter};
+use crate::matter::{opened_matters, whole_matter};
 use firm_rows::{
     BalanceRow, BalanceSink, ExceptionSink, FirmLine, FirmLineSink, Movement, MovementSink, Owner,
 };
@@ -38,7 +38,7 @@ fn all_matters<S: Alter>(
         → IfOk result (λ matters. AreKeptWhole matters.items) }
     ensures left { LeavesAll result (state S.Store conn.old) (state S.Store conn.new) }
 {
-    let numbers = head_numbers(conn, alloc)?;
+    let numbers = opened_matters(conn, alloc)?;
     let mut matters = Vec::new(alloc);
     'each: for number in &numbers {
         let matter = whole_matter(conn, alloc, *number)?;

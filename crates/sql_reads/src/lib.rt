@@ -21,6 +21,8 @@
 //!   as the firm has them, and no others (`found`).
 //! - within the crate `head_and_seats`, `entries_of`; `laws` `parts_are_whole`: a matter's head, totals and seats, and
 //!   all its entries: each a field of one part, which is whole (`head`, `seats`, `found`).
+//! - `opened_matters`: the numbers of all matters that were opened, in ascending order; of tables that stand for
+//!   records, sound or not, those of the firm that the tables hold (`found`), and of their heads (`read`).
 //! - `firm_ledger`, `balance_at`: the firm's own lines; the balance of a kind and day (`found`).
 //! - `all_rows`: all rows at once, each matter whole: **of tables that stand for records, sound or not**, they are
 //!   those of the firm that the tables hold (`read`), and each matter is the whole of sound rows, by number (`whole`).
@@ -47,5 +49,5 @@ pub use firm::all_rows;
 pub use lists::{
     Balances, Exceptions, FirmLines, Listing, Movements, balance_at, each_listed, firm_ledger,
 };
-pub use matter::{each_row, matter_for, whole_matter};
+pub use matter::{each_row, matter_for, opened_matters, whole_matter};
 pub use query::fault_of;

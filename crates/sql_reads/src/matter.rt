@@ -10,7 +10,7 @@ ghost use Rattle.matter_rows.specs.Shares.{number_or_none};
 ghost use Rattle.matter_parts.specs.Parts.{IsWhole, kept_in};
 ghost use Rattle.matter_parts.specs.Audit.{IsSoundWhole};
 ghost use Rattle.firm_rows.specs.Countable.{IsRowInRange};
-ghost use Rattle.firm_rows.specs.Firm.{of};
+ghost use Rattle.firm_rows.specs.Firm.{of, opened_matters};
 ghost use Rattle.firm_rows.specs.Handing.{AreHanded};
 ghost use Rattle.trust_store.specs.Named.{IsPartFor};
 ghost use Rattle.sql_schema.specs.declared.layout.Layout.{Layout};
@@ -256,15 +256,18 @@ fn numbers_in(alloc: Global, rows: &[Row]) -> Result<Vec<MatterNo>, StoreFault>
     Ok(numbers)
 }
 
-/// Returns the numbers of all heads, in order.
-pub(crate) fn head_numbers<S: Alter>(
+/// Returns the numbers of all matters that have a head, in ascending order. Returns `Store` for a number that no matter
+/// can have. Looks at no other rows, and at no more of a head.
+pub fn opened_matters<S: Alter>(
     conn: &mut Connection<S>,
     alloc: Global,
 ) -> Result<Vec<MatterNo>, StoreFault>
     requires { conn.old.in_transaction ≡ false }
     ensures mode { conn.new.in_transaction ≡ false }
-    ensures found { (l : Layout) → HasCleanDisk (state S.Store conn.new) → Stands l (state S.Store conn.old).now
+    ensures read { (l : Layout) → HasCleanDisk (state S.Store conn.new) → Stands l (state S.Store conn.old).now
         → IfOk result (λ numbers. AreNumbersOf (heads_in l (state S.Store conn.old).now.trees) numbers.items) }
+    ensures found { (l : Layout) → HasCleanDisk (state S.Store conn.new) → Stands l (state S.Store conn.old).now
+        → IfOk result (λ numbers. numbers.items ≡ opened_matters (firm_in l (state S.Store conn.old).now.trees)) }
     ensures left { LeavesAll result (state S.Store conn.old) (state S.Store conn.new) }
 {
     let rows = rows_of(conn, "SELECT no FROM matter_v2 ORDER BY no", &[])?;

@@ -7,7 +7,7 @@ ghost use Rattle.csv.specs.Records.{fields_of};
 ghost use Rattle.statement_csv.specs.declared.item.ReadFault.{ReadFault};
 ghost use Rattle.statement_csv.specs.declared.item.ReadFault.TheVariants.{BadHeader, Limit};
 ghost use Rattle.statement_csv.specs.Headers.{is_header};
-ghost use Rattle.statement_csv.specs.Items.{item_of, line_in};
+ghost use Rattle.statement_csv.specs.Items.{item_of, item_of_line as item_of_line_in, line_in};
 ghost use Rattle.statement_csv.specs.Limits.{IsTooLong, IsWithin};
 ghost use Rattle.statement_csv.specs.Lines.{line_of_texts as line_in_texts};
 ghost use Rattle.statement_csv.specs.Reading.{Gives, LacksHeader};
@@ -112,8 +112,43 @@ pub fn line_of_texts(
     }))
 }
 
+/// The item that a line in record `number` is.
+#[tactic(auto, unfolding(crate::specs::References::owner_of, crate::specs::References::entry_named))]
+pub fn item_of_line(line: Line, number: u64) -> Item
+    ensures { result ≡ item_of_line_in number line }
+{
+    let reference = line.reference.as_slice();
+    if reference == b"OPEN".as_slice() {
+        return Item::Opening(line);
+    }
+    if reference == b"CLOSE".as_slice() {
+        return Item::Closing(line);
+    }
+    if line.bank_ref.as_slice().is_empty() {
+        return Item::Unreadable(number);
+    }
+    if reference == b"FIRM".as_slice() {
+        return Item::OfFirm(line);
+    }
+    // An entry's reference is `M`, the six digits of the matter, `-`, and the four digits of the entry.
+    if reference.len() != 12 || reference[0] != b'M' || reference[7] != b'-' {
+        return Item::Stray(line);
+    }
+    match (
+        MatterNo::read(&reference[1..7]),
+        EntryNo::read(&reference[8..12]),
+    ) {
+        (Some(matter), Some(entry)) => Item::OfMatter(BankLine {
+            matter,
+            entry,
+            line,
+        }),
+        _ => Item::Stray(line),
+    }
+}
+
 /// The item of record `number`. The only error is out of memory.
-#[tactic(auto, unfolding(crate::specs::Items::item_of, crate::specs::References::owner_of, crate::specs::References::entry_named,),)]
+#[tactic(auto, unfolding(crate::specs::Items::item_of))]
 pub fn read_item(alloc: Global, row: &ByteRecord, number: u64) -> Result<Item, AllocError>
     ensures { IfOk result (λ item. item ≡ item_of number (fields_of row.now)) }
 {
@@ -128,36 +163,9 @@ pub fn read_item(alloc: Global, row: &ByteRecord, number: u64) -> Result<Item, A
         field(row, 3),
         field(row, 4),
     )?;
-    let Some(line) = read else {
-        return Ok(Item::Unreadable(number));
-    };
-    let reference = line.reference.as_slice();
-    if reference == b"OPEN".as_slice() {
-        return Ok(Item::Opening(line));
-    }
-    if reference == b"CLOSE".as_slice() {
-        return Ok(Item::Closing(line));
-    }
-    if line.bank_ref.as_slice().is_empty() {
-        return Ok(Item::Unreadable(number));
-    }
-    if reference == b"FIRM".as_slice() {
-        return Ok(Item::OfFirm(line));
-    }
-    // An entry's reference is `M`, the six digits of the matter, `-`, and the four digits of the entry.
-    if reference.len() != 12 || reference[0] != b'M' || reference[7] != b'-' {
-        return Ok(Item::Stray(line));
-    }
-    match (
-        MatterNo::read(&reference[1..7]),
-        EntryNo::read(&reference[8..12]),
-    ) {
-        (Some(matter), Some(entry)) => Ok(Item::OfMatter(BankLine {
-            matter,
-            entry,
-            line,
-        })),
-        _ => Ok(Item::Stray(line)),
+    match read {
+        Some(line) => Ok(item_of_line(line, number)),
+        None => Ok(Item::Unreadable(number)),
     }
 }
 

@@ -16,4 +16,4 @@
 mod item;
 pub mod laws;
 
-pub use item::{Item, Lines, ReadFault, Whole, field, line_of_texts, read_item};
+pub use item::{Item, Lines, ReadFault, Whole, field, item_of_line, line_of_texts, read_item};

@@ -1,5 +1,5 @@
 -- How a request is answered, by what the calls of the book were.
-use Rattle.trust_desk.proofs.Names.{Seen, ◌≡◌, ◌⊎◌, inl, inr, ◌∙◌, ℕ, true, false, Ok, Err, Result, refl, ap, sym, subst, IfOk, cond-false, is_fault, refused_by, Refusal, StoreFault, Ask, Asked, Caller, refusal, IsDecided, MatterChange, Firm, FirmChange, of, after, after_change, after_edit, IsRead, IsWrite, Reply, IsAnswered, counted_end, counted_reply, is_store, IsMade, KindIsMade, is_fault_end, Steps, after_ask, after_asked, firm_step, kind_step, Heard, Kind, OfMatter, OnlyTold, asked_on, kind_of, is_fault_reply, refused, replied, reply_for, reply_of, text_reply, List, arith, ints, nat_tests}
+use Rattle.trust_desk.proofs.Names.{Seen, ◌≡◌, ◌⊎◌, inl, inr, ◌∙◌, ℕ, true, false, Ok, Err, Result, refl, ap, sym, subst, IfOk, cond-false, is_fault, refused_by, Refusal, StoreFault, Ask, Asked, Caller, refusal, IsDecided, MatterChange, Firm, FirmChange, of, after, after_change, after_edit, IsRead, IsWrite, Reply, IsAnswered, counted_end, counted_reply, is_store, IsMade, KindIsMade, is_fault_end, Steps, after_ask, after_asked, firm_step, kind_step, Heard, Kind, OfMatter, OnlyShown, OnlyTold, asked_on, kind_of, is_fault_reply, refused, replied, reply_for, reply_of, json_reply, text_reply, List, arith, ints, nat_tests}
 use Rattle.trust_desk.proofs.Calls.{uncounted, kept-as, kept-then, read-kept, write-kept}
 use Rattle.trust_desk.proofs.Crashes.{leave-as, leave-failed, read-leaves, written-leaves}
 use Rattle.trust_desk.proofs.Refused.{IsTold, fault-counted, fault-told}
@@ -32,6 +32,15 @@ pub told-answered : {T : Type 0} {old new : Seen} {read : T} (day : ℕ) (h : He
     → (new.clean → old.stands → reply_for result ≡ text_reply (text day old.firm))
     → IsAnswered day h result old new
 told-answered {old} {new} day h text result kind plain fine read tells =
+    grind (arith, ints, nat_tests, steps-plain, kept-as, read-kept, leave-as, read-leaves)
+
+-- and so is an answer in JSON
+pub shown-answered : {T : Type 0} {old new : Seen} {read : T} (day : ℕ) (h : Heard) (json : ℕ → Firm → Result (List ℕ) Refusal) (result : Result Reply Refusal)
+    → kind_of h ≡ OnlyShown json → IfOk result (λ reply. is_fault_reply reply ≡ false) → is_fault_end result ≡ false
+    → IsRead (Ok read) old new
+    → (new.clean → old.stands → reply_for result ≡ json_reply (json day old.firm))
+    → IsAnswered day h result old new
+shown-answered {old} {new} day h json result kind plain fine read tells =
     grind (arith, ints, nat_tests, steps-plain, kept-as, read-kept, leave-as, read-leaves)
 
 -- An ask of a matter.

@@ -11,7 +11,7 @@ use Rattle.firm_periods.specs.declared.named_sink.Pick.TheVariants as pick
 use Rattle.trust_reports.specs.TextsOfPeriods.{disbursements_text, outstanding_text, receipts_text}
 use Rattle.firm_periods.proofs.NamedLists.{named-kept}
 use Rattle.trust_desk.specs.declared.day_reports.Limits.{Limits}
-use Rattle.trust_desk.specs.declared.day_reports.Named.{Named}
+use Rattle.trust_desk.specs.declared.day_reports.ReadList.{ReadList}
 use Rattle.trust_desk.specs.DayReports.{IsAppended, IsListed, told_within}
 use Rattle.trust_desk.specs.Heard.{OnlyTold}
 use Rattle.trust_desk.specs.ReportStep.{text_unless}
@@ -19,7 +19,7 @@ use Rattle.trust_desk.specs.Reports.{clients_report, disbursements_report, is_pe
 use Rattle.trust_desk.proofs.Answered.{told-answered}
 
 -- What was read of a list.
-pub named-listed : (pick : Pick) (firm : Firm) (kept : NamedKept) (named : Named)
+pub named-listed : (pick : Pick) (firm : Firm) (kept : NamedKept) (named : ReadList)
     → AreCountable IsRowInRange firm.rows → AreCountable IsFirmLineInRange firm.firm_lines → kept ≡ named_kept pick firm
     → named.list.moves.items ≡ in_order is_earlier kept.lines → named.list.total ≡ named_sum kept → named.is_purged ≡ kept.purged
     → IsListed pick firm named
@@ -32,7 +32,7 @@ named-listed pick firm kept named rows own is moves total purged =
     }
 
 -- What was read is one list.
-pub receipts-told : (a b : Seen) {k : Named} (s : Span) (limits : Limits) (old new : List ℕ)
+pub receipts-told : (a b : Seen) {k : ReadList} (s : Span) (limits : Limits) (old new : List ℕ)
     → (b.clean → a.stands → IsListed (pick.Receipts s) a.firm k)
     → limits.lacks_statement ≡ false → limits.is_purged ≡ k.is_purged → new ≡ old ++ receipts_text s k.list.moves.items k.list.total
     → b.clean → a.stands → IsAppended limits false (is_purged_since s.from a.firm) old (receipts_report s a.firm) new
@@ -41,7 +41,7 @@ receipts-told a b s limits old new listed none cut text clean stands =
     let is = listed clean stands in
     record { stated = none; cut = cut ∙ is.purged; text = text ∙ (λ i. old ++ receipts_text s (is.moves i) (is.total i)) }
 
-pub disbursements-told : (a b : Seen) {k : Named} (s : Span) (limits : Limits) (old new : List ℕ)
+pub disbursements-told : (a b : Seen) {k : ReadList} (s : Span) (limits : Limits) (old new : List ℕ)
     → (b.clean → a.stands → IsListed (pick.Disbursements s) a.firm k)
     → limits.lacks_statement ≡ false → limits.is_purged ≡ k.is_purged → new ≡ old ++ disbursements_text s k.list.moves.items k.list.total
     → b.clean → a.stands → IsAppended limits false (is_purged_since s.from a.firm) old (disbursements_report s a.firm) new
@@ -51,7 +51,7 @@ disbursements-told a b s limits old new listed none cut text clean stands =
     record { stated = none; cut = cut ∙ is.purged; text = text ∙ (λ i. old ++ disbursements_text s (is.moves i) (is.total i)) }
 
 -- or two, of one firm
-pub outstanding-told : {a b c : Seen} {k j : Named} (day : ℕ) (limits : Limits) (old new : List ℕ)
+pub outstanding-told : {a b c : Seen} {k j : ReadList} (day : ℕ) (limits : Limits) (old new : List ℕ)
     → IsRead (Ok k) a b → (b.clean → a.stands → IsListed (pick.Transit day) a.firm k)
     → IsRead (Ok j) b c → (c.clean → b.stands → IsListed (pick.Outstanding day) b.firm j)
     → limits.lacks_statement ≡ false → limits.is_purged ≡ j.is_purged

@@ -10,6 +10,8 @@ pub mod MadeRows
 pub mod ItemsRead
 pub mod OwnItems
 pub mod Own
+pub mod ToldOwn
+pub mod ReasonsTold
 pub mod Steps
 pub mod Answered
 pub mod DayReports

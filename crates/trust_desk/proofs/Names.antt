@@ -58,7 +58,7 @@ pub use Rattle.trust_base.specs.declared.refusal.Refusal.{Refusal}
 pub use Rattle.trust_base.specs.declared.refusal.StoreFault.{StoreFault}
 pub use Rattle.trust_matter.proofs.Purging.{ask-repeat, line-repeat, purged-unapplied}
 pub use Rattle.trust_matter.proofs.Steps.{step}
-pub use Rattle.trust_matter.specs.Conditions.{is_accounting, is_repeat, number_made}
+pub use Rattle.trust_matter.specs.Conditions.{is_repeat, is_text, is_whole, number_made}
 pub use Rattle.trust_matter.specs.Facts.{Asked, Facts, facts_of, fund_named, number_named}
 pub use Rattle.trust_matter.specs.KeptFacts.{holds_for, holds_for_line}
 pub use Rattle.trust_matter.specs.Laws.{ALine, AnAsk, Doing, IsSameLine, all_after}
@@ -89,14 +89,15 @@ pub use Rattle.trust_desk.specs.Counts.{counted_body, counted_end, counted_refus
 pub use Rattle.trust_desk.specs.Crashes.{AreFront, AreNoFaults, AreNoFaultsButLast, IsAfterFirst, IsMade, IsMadeInRun, IsOfItems, KindIsMade, MayLeave, MayLeaveChange, before_fault, is_fault_end, is_stopped}
 pub use Rattle.trust_desk.specs.Dismissing.{dismiss_refusal, dismiss_reply, dismissed_unless, is_exception}
 pub use Rattle.trust_desk.specs.FirmStep.{HasItsStatus, IsFaultReply, IsStopped, IsUnstopped, KindStopped, Runs, RunsSoundly, SoundRunsAreRuns, Steps, Stopped, after_ask, after_asked, firm_step, kind_step}
-pub use Rattle.trust_desk.specs.Heard.{Asks, Dismisses, Heard, Kind, NotRead, OfItems, OfMatter, OnlyTold, Own, OwnAsk, OwnLine, OwnRefusal, asked_on, concerns, heard, is_the, kind_concerns, kind_names, kind_of, kind_own, names, own_if, own_of, own_of_item, own_of_items, project, told}
+pub use Rattle.trust_desk.specs.Heard.{Asks, Dismisses, Heard, Kind, NotRead, OfItems, OfMatter, OnlyShown, OnlyTold, Own, OwnAsk, OwnLine, OwnRefusal, asked_on, concerns, heard, is_the, kind_concerns, kind_names, kind_of, kind_own, names, own_if, own_of, own_of_item, own_of_items, project, told}
 pub use Rattle.trust_desk.specs.ImportStep.{IsAfterFront, counts_text, import_refusal, import_reply, imported, is_not_of_firm, items_unless}
+pub use Rattle.trust_desk.specs.ListStep.{list_body, list_for, reasons_for}
 pub use Rattle.trust_desk.specs.Imports.{AlwaysSound, AreBelow, AreFirst, AreRead, Imports, IsStop, IsUnnamed, KeepsAllUnnamed, Told, counted_stop, stop_at}
 pub use Rattle.trust_desk.specs.ItemStep.{after_balance, after_item, after_items, after_told, balance_item, balance_on, count_item, count_sum, counted_as, counted_by, counted_of, counted_verdict, counts_after, firm_line_on, names_item, none_counted, statement_day}
 pub use Rattle.trust_desk.specs.Matching.{AreNameless, FilledLinesAreApplied, FilledLinesAreInBook, SecondMatchFillsNothing, items_of}
 pub use Rattle.trust_desk.specs.OnceOnly.{BalanceOnce, DayRun, FirmLineOnce, IsBalanceOver, IsRepeated, IsSameFirmLine, IsUnmatched, LineOnceOnly, OnceOnly, RunsOn}
 pub use Rattle.trust_desk.specs.Plan.{IsReadFor, status_of_edit, IsReadOf}
-pub use Rattle.trust_desk.specs.Replies.{body_of, is_fault_body, is_fault_reply, made_text, refused, replied, reply_for, reply_of, said, shown_text, success_of, text_reply}
+pub use Rattle.trust_desk.specs.Replies.{body_of, is_fault_body, is_fault_reply, json_reply, made_text, refused, replied, reply_for, reply_of, said, shown_text, success_of, text_reply}
 pub use Rattle.trust_desk.specs.Reports.{text_of}
 unfoldable pub use Rattle.trust_desk.specs.Reports.{clients_report, exceptions_report, has_no_statement, journal_report, own_card_report, reconciliation_report, retention_report, trial_report}
 pub use Rattle.trust_desk.specs.Solo.{own_reply, own_rows, solo_replies, solo_rows}

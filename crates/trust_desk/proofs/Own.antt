@@ -1,5 +1,5 @@
 -- Each matter's replies and rows in a run of the firm are those of its own machine.
-use Rattle.trust_desk.proofs.Names.{◌≡◌, ◌≢◌, ℕ, Bool, true, false, cond, List, [], ◌∷◌, ◌++◌, Option, Some, None, refl, sym, ap, ◌∙◌, subst, length, take, get_or, MatchBool, ◌==◌, cond_both, eqb-true, eqb-false, list_any, Line, Refusal, Asked, last_after, refusal, edit_on, rows_after, Firm, of, of-after_edit, of_other-after_edit, Request, Reply, names_item, Heard, Kind, OfMatter, OfItems, Dismisses, OnlyTold, NotRead, kind_of, OwnAsk, OwnRefusal, heard, names, kind_names, concerns, kind_concerns, own_if, own_of, kind_own, project, told, asked_on, is_the, dismiss_refusal, dismissed_unless, is_fault_reply, reply_of, refused, after_asked, after_ask, firm_step, kind_step, KindStopped, IsStopped, Steps, Runs, IsUnstopped, solo_rows, solo_replies, arith, ints, nat_tests}
+use Rattle.trust_desk.proofs.Names.{◌≡◌, ◌≢◌, ℕ, Bool, true, false, cond, List, [], ◌∷◌, ◌++◌, Option, Some, None, refl, sym, ap, ◌∙◌, subst, length, take, get_or, MatchBool, ◌==◌, cond_both, eqb-true, eqb-false, list_any, Line, Refusal, Asked, last_after, refusal, edit_on, rows_after, Firm, of, of-after_edit, of_other-after_edit, Request, Reply, names_item, Heard, Kind, OfMatter, OfItems, Dismisses, OnlyTold, OnlyShown, NotRead, kind_of, OwnAsk, OwnRefusal, heard, names, kind_names, concerns, kind_concerns, own_if, own_of, kind_own, project, told, asked_on, is_the, dismiss_refusal, dismissed_unless, is_fault_reply, reply_of, refused, after_asked, after_ask, firm_step, kind_step, KindStopped, IsStopped, Steps, Runs, IsUnstopped, solo_rows, solo_replies, arith, ints, nat_tests}
 use Rattle.trust_matter.specs.Step.{after}
 use Rattle.trust_desk.specs.Isolation.{IsOwn, KeepsOthers, EachMatterOwn, SameForTheMatter}
 use Rattle.trust_desk.proofs.OwnItems.{solo_rows-append, solo_replies-append, of-after_items, silent-items, none-front, unnamed-items}
@@ -37,6 +37,7 @@ kind-rows m day firm (OfMatter n caller ask) =
 kind-rows m day firm (OfItems refused items) = of-after_items m day firm items
 kind-rows m day firm (Dismisses caller line) = dismissed-rows m (dismiss_refusal caller line firm) line firm
 kind-rows m day firm (OnlyTold text) = refl
+kind-rows m day firm (OnlyShown json) = refl
 kind-rows m day firm (NotRead n r) = grind (arith, ints, nat_tests, cond_both, is_the, of, solo_rows)
 
 pub own-rows : (m day : ℕ) (firm : Firm) (h : Heard) → of m (firm_step day firm h).firm ≡ solo_rows (of m firm) (own_of m day h)

@@ -1,5 +1,5 @@
 -- What a refusal of an ask is, and what is read for the ask.
-use Rattle.trust_desk.proofs.Names.{◌≡◌, ◌⊎◌, ℕ, true, false, Option, Some, sym, ◌∙◌, arith, and_from, false≢true, nat_tests, Refusal, StoreFault, is_fault, refused_by, Ask, fund_named, number_named, Part, IsWhole, entry_in, kept_at, is_accounting, Rows, MayRefuse, counted_fault, named-held, is_store, counted_refusal, IsReadFor, ints, IsPartFor}
+use Rattle.trust_desk.proofs.Names.{◌≡◌, ◌⊎◌, ℕ, true, false, Option, Some, sym, ◌∙◌, arith, and_from, false≢true, nat_tests, Refusal, StoreFault, is_fault, refused_by, Ask, fund_named, number_named, Part, IsWhole, entry_in, kept_at, is_whole, Rows, MayRefuse, counted_fault, named-held, is_store, counted_refusal, IsReadFor, ints, IsPartFor}
 use Rattle.trust_base.specs.declared.refusal.Refusal.TheVariants as refusals
 use Rattle.trust_base.specs.declared.refusal.StoreFault.TheVariants as faults
 use Rattle.matter_rows.specs.Shares.{number_or_none}
@@ -26,7 +26,7 @@ pub whole-for : (rows : Rows) (ask : Ask) (part : Part) → IsWhole part rows �
 whole-for rows ask part whole = grind (arith, ints, nat_tests, and_from, entry_in, kept_at, whole-all)
 
 -- and so does what is read for the entries that it names
-pub named-for : (rows : Rows) (ask : Ask) (entry other : Option ℕ) (part : Part) → number_or_none entry ≡ number_named ask → number_or_none other ≡ fund_named ask → is_accounting ask ≡ false → IsPartFor rows entry other part → IsReadFor rows ask part
+pub named-for : (rows : Rows) (ask : Ask) (entry other : Option ℕ) (part : Part) → number_or_none entry ≡ number_named ask → number_or_none other ≡ fund_named ask → is_whole ask ≡ false → IsPartFor rows entry other part → IsReadFor rows ask part
 named-for rows ask entry other part same fund plain is = record {
   is_part = is.is_part;
   held = named-held rows ask entry other part same fund is;

@@ -10,7 +10,7 @@ use Rattle.trust_desk.specs.declared.importing.ImportStop.{ImportStop}
 use Rattle.trust_desk.specs.declared.importing.ImportStop.TheVariants as stop
 use Rattle.trust_desk.specs.declared.requests.Reply.{Reply}
 use Rattle.trust_desk.specs.declared.requests.Request.{Request}
-use Rattle.trust_desk.specs.Heard.{Heard, Asks, Kind, OfMatter, OfItems, Dismisses, OnlyTold, NotRead, kind_of, asked_on}
+use Rattle.trust_desk.specs.Heard.{Heard, Asks, Kind, OfMatter, OfItems, Dismisses, OnlyTold, OnlyShown, NotRead, kind_of, asked_on}
 use Rattle.trust_desk.specs.Replies.{is_fault_reply}
 use Rattle.trust_desk.specs.ItemStep.{after_items}
 use Rattle.trust_desk.specs.ImportStep.{IsAfterFront}
@@ -66,6 +66,7 @@ IsOfItems (OfMatter m caller ask) = ⊥
 IsOfItems (OfItems refused items) = ⊤
 IsOfItems (Dismisses caller line) = ⊥
 IsOfItems (OnlyTold text) = ⊥
+IsOfItems (OnlyShown json) = ⊥
 IsOfItems (NotRead named r) = ⊥
 
 abbrev pub IsImport : Request → Type 0
@@ -76,6 +77,7 @@ KindIsMade day firm (OfMatter m caller ask) found = found ≡ after_ask m (asked
 KindIsMade day firm (OfItems refused items) found = (rest : List Item) × IsAfterFront day firm items rest found
 KindIsMade day firm (Dismisses caller line) found = found ≡ after_dismissing caller line firm
 KindIsMade day firm (OnlyTold text) found = found ≡ firm
+KindIsMade day firm (OnlyShown json) found = found ≡ firm
 KindIsMade day firm (NotRead named r) found = found ≡ firm
 
 -- the rows with the change of what is heard; for an import, the rows after some first items

@@ -7,7 +7,7 @@ use Rattle.firm_rows.specs.Firm.{Firm}
 use Rattle.firm_periods.specs.Named.{is_cut, listed, sum_moved}
 use Rattle.firm_periods.specs.declared.named_sink.Pick.{Pick}
 use Rattle.trust_desk.specs.declared.day_reports.Limits.{Limits}
-use Rattle.trust_desk.specs.declared.day_reports.Named.{Named}
+use Rattle.trust_desk.specs.declared.day_reports.ReadList.{ReadList}
 use Rattle.trust_desk.specs.ReportStep.{text_unless}
 
 -- the text, or the refusal with the least number whose condition holds
@@ -24,7 +24,7 @@ pub record IsAppended (limits : Limits) (lacks purged : Bool) (old report new : 
   pub text : new ≡ old ++ report
 
 -- what was read is the list of a firm
-pub record IsListed (pick : Pick) (firm : Firm) (named : Named) : Type 0 where
+pub record IsListed (pick : Pick) (firm : Firm) (named : ReadList) : Type 0 where
   pub moves : named.list.moves.items ≡ listed pick firm
   pub total : named.list.total ≡ sum_moved (listed pick firm)
   pub purged : named.is_purged ≡ is_cut pick firm

@@ -11,8 +11,8 @@ use Rattle.firm_rows.specs.FirmSound.{FirmSound}
 use Rattle.statement_csv.specs.declared.item.Item.{Item}
 use Rattle.trust_desk.specs.declared.requests.Body.TheVariants.{Refused}
 use Rattle.trust_desk.specs.declared.requests.Reply.{Reply}
-use Rattle.trust_desk.specs.Heard.{Heard, Kind, OfMatter, OfItems, Dismisses, OnlyTold, NotRead, kind_of, asked_on, concerns}
-use Rattle.trust_desk.specs.Replies.{refused, reply_of, text_reply, is_fault_reply}
+use Rattle.trust_desk.specs.Heard.{Heard, Kind, OfMatter, OfItems, Dismisses, OnlyTold, OnlyShown, NotRead, kind_of, asked_on, concerns}
+use Rattle.trust_desk.specs.Replies.{refused, reply_of, json_reply, text_reply, is_fault_reply}
 use Rattle.trust_desk.specs.ItemStep.{after_items, counts_after, none_counted}
 use Rattle.trust_desk.specs.ImportStep.{IsAfterFront, import_reply}
 use Rattle.trust_desk.specs.Dismissing.{after_dismissing, dismiss_refusal, dismiss_reply}
@@ -44,6 +44,7 @@ kind_step day firm (Dismisses caller line) = record {
   reply = dismiss_reply (dismiss_refusal caller line firm);
 }
 kind_step day firm (OnlyTold text) = record { firm = firm; reply = text_reply (text day firm) }
+kind_step day firm (OnlyShown json) = record { firm = firm; reply = json_reply (json day firm) }
 kind_step day firm (NotRead named r) = record { firm = firm; reply = refused r }
 
 -- the firm's step on a day
@@ -59,6 +60,7 @@ KindStopped day firm (OfMatter m caller ask) new = new ≡ firm
 KindStopped day firm (OfItems refused items) new = (rest : List Item) × IsAfterFront day firm items rest new
 KindStopped day firm (Dismisses caller line) new = new ≡ firm
 KindStopped day firm (OnlyTold text) new = new ≡ firm
+KindStopped day firm (OnlyShown json) new = new ≡ firm
 KindStopped day firm (NotRead named r) new = new ≡ firm
 
 -- what a request that the store or memory stopped leaves: everything unchanged, except after the first items of an

@@ -11,12 +11,13 @@ use Rattle.firm_rows.specs.Firm.{Firm}
 use Rattle.statement_csv.specs.declared.item.Item.{Item}
 use Rattle.statement_csv.specs.declared.item.Item.TheVariants as item
 use Rattle.trust_desk.specs.declared.requests.Request.{Request}
-use Rattle.trust_desk.specs.declared.requests.Request.TheVariants.{Matter, Import, Match, Dismiss, Report, Reconcile, AsOf, Within}
+use Rattle.trust_desk.specs.declared.requests.Request.TheVariants.{Matter, Import, Match, Dismiss, Report, Reconcile, AsOf, Within, Listed, Reasons}
 use Rattle.trust_desk.specs.declared.requests.Reply.{Reply}
 use Rattle.trust_desk.specs.ItemStep.{names_item}
 use Rattle.trust_desk.specs.ImportStep.{import_refusal, imported}
 use Rattle.trust_desk.specs.ReportStep.{day_report_for, period_report_for, reconciliation_for, report_for}
 use Rattle.trust_desk.specs.MatchStep.{match_text}
+use Rattle.trust_desk.specs.ListStep.{list_for, reasons_for}
 
 -- a request, or a message that was refused before it became one; such a message may name a matter
 pub data Heard : Type 0 where
@@ -43,6 +44,8 @@ pub data Kind : Type 0 where
   Dismisses : (caller : Caller) (line : Line) → Kind
   -- nothing changes: the reply is a text made from the day and the firm's rows, or why it is refused
   OnlyTold : (text : ℕ → Firm → Result (List ℕ) Refusal) → Kind
+  -- the same of an answer in JSON
+  OnlyShown : (json : ℕ → Firm → Result (List ℕ) Refusal) → Kind
   -- a message that was refused before it became a request
   NotRead : (named : Option ℕ) (refusal : Refusal) → Kind
 
@@ -55,6 +58,8 @@ kind_of (Asks (Report caller report)) = OnlyTold (report_for caller report)
 kind_of (Asks (Reconcile caller day)) = OnlyTold (reconciliation_for caller day)
 kind_of (Asks (AsOf caller report day)) = OnlyTold (day_report_for caller report day)
 kind_of (Asks (Within caller report period)) = OnlyTold (period_report_for caller report period)
+kind_of (Asks (Listed caller list)) = OnlyShown (list_for caller list)
+kind_of (Asks (Reasons caller)) = OnlyShown (reasons_for caller)
 kind_of (Unread named refusal) = NotRead named refusal
 
 -- What names a matter, and gets a reply.
@@ -68,6 +73,7 @@ kind_names m (OfMatter n caller ask) = n == m
 kind_names m (OfItems refused items) = false
 kind_names m (Dismisses caller line) = false
 kind_names m (OnlyTold text) = false
+kind_names m (OnlyShown json) = false
 kind_names m (NotRead named refusal) = is_the m named
 
 -- what is heard names the matter; an import names none, nor does a request for a text
@@ -110,6 +116,7 @@ kind_own m day (OfMatter n caller ask) = own_if (n == m) (OwnAsk (asked_on day c
 kind_own m day (OfItems refused items) = own_of_items m day items
 kind_own m day (Dismisses caller line) = []
 kind_own m day (OnlyTold text) = []
+kind_own m day (OnlyShown json) = []
 kind_own m day (NotRead named refusal) = own_if (is_the m named) (OwnRefusal refusal)
 
 -- what concerns a matter in what is heard on a day: what names it, and of an import the lines that name it
@@ -126,6 +133,7 @@ kind_concerns m (OfMatter n caller ask) = n == m
 kind_concerns m (OfItems refused items) = list_any (names_item m) items
 kind_concerns m (Dismisses caller line) = false
 kind_concerns m (OnlyTold text) = false
+kind_concerns m (OnlyShown json) = false
 kind_concerns m (NotRead named refusal) = is_the m named
 
 -- what is heard concerns the matter: it names it, or it is an import with a line that does

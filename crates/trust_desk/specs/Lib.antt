@@ -5,12 +5,15 @@ pub mod Imports
 pub mod ImportStep
 pub mod ReportStep
 pub mod DayReports
+pub mod ListStep
 pub mod Dismissing
 pub mod Dismissed
 pub mod MatchStep
 pub mod Heard
 pub mod FirmStep
 pub mod Solo
+pub mod ToldOwn
+pub mod ReasonsTold
 pub mod Isolation
 pub mod NeverBelowZero
 pub mod OnceOnly

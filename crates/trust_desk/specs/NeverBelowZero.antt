@@ -5,7 +5,7 @@ use Rattle.trust_matter.specs.Step.{HasAmount}
 use Rattle.firm_rows.specs.Firm.{Firm, of}
 use Rattle.firm_rows.specs.FirmSound.{FirmSound}
 use Rattle.statement_csv.specs.declared.item.Item.{Item}
-use Rattle.trust_desk.specs.Heard.{Heard, Kind, OfMatter, OfItems, Dismisses, OnlyTold, NotRead, kind_of}
+use Rattle.trust_desk.specs.Heard.{Heard, Kind, OfMatter, OfItems, Dismisses, OnlyTold, OnlyShown, NotRead, kind_of}
 use Rattle.trust_desk.specs.ItemStep.{after_item}
 use Rattle.trust_desk.specs.FirmStep.{RunsSoundly, Steps, firm_step}
 use Rattle.trust_desk.specs.declared.requests.Reply.{Reply}
@@ -15,6 +15,7 @@ KindHasAmounts (OfMatter m caller ask) = HasAmount ask
 KindHasAmounts (OfItems refused items) = Unit {0}
 KindHasAmounts (Dismisses caller line) = Unit {0}
 KindHasAmounts (OnlyTold text) = Unit {0}
+KindHasAmounts (OnlyShown json) = Unit {0}
 KindHasAmounts (NotRead named refusal) = Unit {0}
 
 -- the amounts in what is heard are valid; a bank line may have any
@@ -40,6 +41,7 @@ KindIsCovered day firm (OfMatter m caller ask) = IsCovered firm
 KindIsCovered day firm (OfItems refused items) = AlwaysCoveredBy day firm items
 KindIsCovered day firm (Dismisses caller line) = IsCovered firm
 KindIsCovered day firm (OnlyTold text) = IsCovered firm
+KindIsCovered day firm (OnlyShown json) = IsCovered firm
 KindIsCovered day firm (NotRead named refusal) = IsCovered firm
 
 -- this is so during what is heard

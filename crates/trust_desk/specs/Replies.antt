@@ -8,12 +8,14 @@ use Rattle.trust_matter.specs.declared.ask.Ask.TheVariants as ask
 use Rattle.matter_rows.specs.Rows.{Rows, entry_at}
 use Rattle.matter_rows.specs.Balances.{left_of}
 use Rattle.trust_matter.specs.Facts.{Asked, facts_of}
-use Rattle.trust_matter.specs.Conditions.{is_accounting, is_repeat}
+use Rattle.trust_matter.specs.Conditions.{is_repeat, is_text}
 use Rattle.trust_matter.specs.Step.{refusal, rows_after}
 use Rattle.trust_desk.specs.declared.requests.Reply.{Reply}
 use Rattle.trust_desk.specs.declared.requests.Body.{Body}
 use Rattle.trust_desk.specs.declared.requests.Body.TheVariants.{Json, Refused, Text}
 use Rattle.matter_bodies.specs.Bodies.{matter_body, purge_body, receipt_body, entry_body}
+use Rattle.matter_bodies.specs.Listed.{entries_body}
+use Rattle.trust_reports.specs.TextsOfAccounts.{account_text_of}
 use Rattle.trust_reports.specs.TextsOfLedgers.{ledger_card_of}
 
 -- the reply to a refused request
@@ -29,6 +31,11 @@ reply_for (Err r) = refused r
 abbrev pub text_reply : Result (List ℕ) Refusal → Reply
 text_reply (Ok text) = record { status = 200; body = Text text }
 text_reply (Err r) = refused r
+
+-- the reply to a request for an answer in JSON: the answer, or the refusal
+abbrev pub json_reply : Result (List ℕ) Refusal → Reply
+json_reply (Ok json) = record { status = 200; body = Json json }
+json_reply (Err r) = refused r
 
 -- Faults.
 
@@ -53,8 +60,8 @@ abbrev pub shown_text : ℕ → ℕ → List Entry → Option Entry → List ℕ
 shown_text m n es None = []
 shown_text m n es (Some e) = entry_body m n e (left_of es n e)
 
--- the body from the rows of matter m after an ask: the matter, the entry as it was made, the entry as it is now, or the
--- ledger card
+-- the body from the rows of matter m after an ask: the matter, the entry as it was made, the entry as it is now, all
+-- entries, the ledger card, or the account of a period
 abbrev pub body_of : ℕ → Rows → Ask → List ℕ
 body_of m rows (ask.OpenMatter a) = matter_body m rows
 body_of m rows (ask.AddSeat s) = matter_body m rows
@@ -64,6 +71,7 @@ body_of m rows (ask.CancelDeposit n) = shown_text m n rows.entries (entry_at row
 body_of m rows (ask.Propose a) = made_text m a.number (entry_at rows.entries a.number)
 body_of m rows (ask.Approve n) = shown_text m n rows.entries (entry_at rows.entries n)
 body_of m rows (ask.Decline n) = shown_text m n rows.entries (entry_at rows.entries n)
+body_of m rows (ask.Withdraw n) = shown_text m n rows.entries (entry_at rows.entries n)
 body_of m rows (ask.VoidPayment n) = shown_text m n rows.entries (entry_at rows.entries n)
 body_of m rows (ask.EarnFee a) = made_text m a.number (entry_at rows.entries a.number)
 body_of m rows (ask.RaiseClaim a) = made_text m a.number (entry_at rows.entries a.number)
@@ -74,11 +82,13 @@ body_of m rows ask.CloseMatter = matter_body m rows
 body_of m rows ask.Purge = purge_body m rows
 body_of m rows ask.Show = matter_body m rows
 body_of m rows (ask.ShowEntry n) = shown_text m n rows.entries (entry_at rows.entries n)
+body_of m rows ask.ShowEntries = entries_body m rows
 body_of m rows ask.Accounting = ledger_card_of m rows
+body_of m rows (ask.Account period) = account_text_of period m rows
 
--- the ledger card is lines of text, and everything else is JSON
+-- the ledger card and the account are lines of text, and everything else is JSON
 abbrev pub said : Ask → List ℕ → Body
-said a text = if is_accounting a then Text text else Json text
+said a text = if is_text a then Text text else Json text
 
 -- 201 if something is made, which a repeat does not do
 abbrev pub success_of : Ask → Bool → ℕ

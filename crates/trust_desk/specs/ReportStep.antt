@@ -82,10 +82,6 @@ day_report_text Clients day firm = clients_report day firm
 day_report_text Outstanding day firm = outstanding_report day firm
 day_report_text Month day firm = month_report day firm
 
--- what is told to one who may ask: the text, or the refusal with the least number whose condition holds
-abbrev pub day_report_told : DayReport → ℕ → Firm → Result (List ℕ) Refusal
-day_report_told report day firm = text_unless (first (day_report_limits report day firm)) (day_report_text report day firm)
-
 -- the result of a report as of a day, on any business day
 abbrev pub day_report_for : Caller → DayReport → ℕ → ℕ → Firm → Result (List ℕ) Refusal
 day_report_for caller report day today firm =

@@ -126,13 +126,13 @@ fn append_clients<B: Book>(
 
 // Movements with their names, and whether a purge may have cut their list.
 #[derive(Drop)]
-struct Named {
+struct ReadList {
     list: NamedList,
     is_purged: bool,
 }
 
 // Reads the movements of a list.
-fn read_named<B: Book>(alloc: Global, book: &mut B, pick: Pick) -> Result<Named, StoreFault>
+fn read_named<B: Book>(alloc: Global, book: &mut B, pick: Pick) -> Result<ReadList, StoreFault>
     ensures told { (B.seen book.new).clean → (B.seen book.old).stands
         → IfOk result (λ named. IsListed pick (B.seen book.old).firm named) }
     ensures read { IsRead result (B.seen book.old) (B.seen book.new) }
@@ -142,7 +142,7 @@ fn read_named<B: Book>(alloc: Global, book: &mut B, pick: Pick) -> Result<Named,
     book.each_firm_line(&mut moves)?;
     let is_purged = moves.is_period_purged();
     let list = moves.finish()?;
-    Ok(Named { list, is_purged })
+    Ok(ReadList { list, is_purged })
 }
 
 // Appends what waits for the bank as of a day.

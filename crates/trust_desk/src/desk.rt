@@ -7,7 +7,8 @@ ghost use Rattle.trust_desk.specs.Crashes.{AreNoFaults, AreNoFaultsButLast, IsIm
 ghost use Rattle.trust_desk.specs.Counts.{counted_reply, counted_replies};
 ghost use Rattle.trust_desk.specs.FirmStep.{Steps, RunsSoundly, IsUnstopped, firm_step};
 ghost use Rattle.trust_desk.specs.ImportStep.{import_refusal, imported};
-ghost use Rattle.trust_desk.specs.Heard.{Asks, Dismisses, Heard, OfItems, OfMatter, OnlyTold, heard, kind_of};
+ghost use Rattle.trust_desk.specs.Heard.{Asks, Dismisses, Heard, OfItems, OfMatter, OnlyShown, OnlyTold, heard, kind_of};
+ghost use Rattle.trust_desk.specs.ListStep.{list_body, list_for, reasons_for};
 ghost use Rattle.trust_store.specs.Calls.{IsRead};
 ghost use Rattle.trust_desk.specs.Isolation.{IsOwn, KeepsOthers};
 ghost use Rattle.trust_desk.specs.Replies.{is_fault_reply};
@@ -23,23 +24,26 @@ use crate::day_reports::{
 use crate::exceptions::{ExceptionsSink, dismiss};
 use crate::importing::{ImportEnd, ImportStop};
 use crate::requests::{
-    Body, DayReport, End, MatchText, PeriodReport, Reply, Report, Request, RunEnd, check_import,
-    is_not_of_firm,
+    Body, CallerList, DayReport, End, MatchText, PeriodReport, Reply, Report, Request, RunEnd,
+    check_import, is_not_of_firm,
 };
 use crate::watching::NoWatch;
-use matter_bodies::{entry_body, import_body, matter_body, purge_body, receipt_body};
+use exception_reasons::reasons_body;
+use firm_lists::{matters_body, waiting_body};
+use matter_bodies::{entries_body, entry_body, import_body, matter_body, purge_body, receipt_body};
 use std::alloc::{AllocError, Global};
 use std::marker::Model;
 use trust_base::{Day, Line, MatterNo, OwnedBytes, Period, Refusal, Rule, StoreFault};
 use trust_matter::{Ask, Caller, Edit, Matter, decide};
+use trust_reports::laws::whole_account_is_of_rows;
 use trust_reports::{
-    JournalSink, RetentionSink, TrialSink, journal_text, ledger_card, own_card_text,
+    JournalSink, RetentionSink, TrialSink, account_text, journal_text, ledger_card, own_card_text,
     retention_text, trial_text,
 };
 use trust_store::Book;
 
 // Writes the text for the reply to an ask, by the matter with the ask's change made. The entry that the ask names is
-// loaded or does not exist; if it does not, the text is empty. For a ledger card all entries are loaded.
+// loaded or does not exist; if it does not, the text is empty. All are loaded where the text is made of all.
 fn body_after(
     alloc: Global,
     no: MatterNo,
@@ -53,10 +57,17 @@ fn body_after(
             matter_body(alloc, no, matter)
         }
         Ask::Purge => purge_body(alloc, no, matter),
+        Ask::ShowEntries => entries_body(alloc, no, matter),
         Ask::Accounting => {
             let mut card = Vec::new(alloc);
             ledger_card(no, matter, &mut card)?;
             Ok(card)
+        }
+        Ask::Account(period) => {
+            let mut account = Vec::new(alloc);
+            account_text(alloc, no, matter, *period, &mut account)?;
+            whole_account_is_of_rows();
+            Ok(account)
         }
         // An ask that makes an entry is answered with it as it was made, also when it comes again.
         Ask::Deposit(_) | Ask::Propose(_) | Ask::EarnFee(_) | Ask::RaiseClaim(_) => {
@@ -68,6 +79,7 @@ fn body_after(
         Ask::CancelDeposit(_)
         | Ask::Approve(_)
         | Ask::Decline(_)
+        | Ask::Withdraw(_)
         | Ask::VoidPayment(_)
         | Ask::Offer(_)
         | Ask::Accept(_)
@@ -91,8 +103,7 @@ fn answer_ask<B: Book>(
     ensures { (h : Heard) → kind_of h ≡ OfMatter no caller.now ask.now
         → IsAnswered day h result (B.seen book.old) (B.seen book.new) }
 {
-    // A ledger card is made of the whole matter, and any other reply of the entries that the ask names.
-    let read = if ask.is_accounting() {
+    let read = if ask.is_whole() {
         book.matter(alloc, no)
     } else {
         book.matter_for(alloc, no, ask.number(), ask.fund_number())
@@ -107,7 +118,7 @@ fn answer_ask<B: Book>(
             Edit::Open(_) | Edit::Append(_) => 201,
             _ => 200,
         },
-        body: if ask.is_accounting() {
+        body: if ask.is_text() {
             Body::Text(text)
         } else {
             Body::Json(text)
@@ -163,6 +174,25 @@ fn find_report<B: Book>(
             own_card_text(today, &ledger, &mut text)?;
             Ok(text)
         }
+    }
+}
+
+// Returns the body of a caller's list.
+//
+// Returns `Store` if the book's store failed, and `Memory` if memory ran out.
+fn find_list<B: Book>(
+    alloc: Global,
+    book: &mut B,
+    caller: &Caller,
+    list: CallerList,
+) -> Result<Vec<u8>, StoreFault>
+    ensures told { (B.seen book.new).clean → (B.seen book.old).stands
+        → IfOk result (λ text. text.items ≡ list_body list caller.now (B.seen book.old).firm) }
+    ensures read { IsRead result (B.seen book.old) (B.seen book.new) }
+{
+    match list {
+        CallerList::Matters => matters_body(alloc, book, caller),
+        CallerList::Waiting => waiting_body(alloc, book, caller),
     }
 }
 
@@ -250,6 +280,8 @@ impl<B: Book> Desk<B> {
             Request::Within(caller, report, period) => {
                 self.answer_period_report(alloc, caller, *report, *period)
             }
+            Request::Listed(caller, list) => self.answer_list(alloc, caller, *list),
+            Request::Reasons(caller) => self.answer_reasons(alloc, caller, day),
         };
         answered.unwrap_or_else(Reply::refused)
     }
@@ -331,6 +363,38 @@ impl<B: Book> Desk<B> {
         let mut text = Vec::new(alloc);
         let limits = append_period_report(alloc, &mut self.book, report, period, &mut text)?;
         tell_within(limits, text)
+    }
+
+    // Answers with a list of the matters that a caller may see. Nothing changes.
+    fn answer_list(
+        &mut self,
+        alloc: Global,
+        caller: &Caller,
+        list: CallerList,
+    ) -> Result<Reply, Refusal>
+        ensures { (day : ℕ) (h : Heard) → kind_of h ≡ OnlyShown (list_for caller.now list)
+            → IsAnswered day h result (B.seen self.old) (B.seen self.new) }
+    {
+        let text = find_list(alloc, &mut self.book, caller, list)?;
+        Ok(Reply {
+            status: 200,
+            body: Body::Json(OwnedBytes::new(text)),
+        })
+    }
+
+    // Answers with the exceptions on a business day, each with its reason, or says why it is refused. Nothing changes.
+    fn answer_reasons(&mut self, alloc: Global, caller: &Caller, day: Day) -> Result<Reply, Refusal>
+        ensures { (h : Heard) → kind_of h ≡ OnlyShown (reasons_for caller.now)
+            → IsAnswered day h result (B.seen self.old) (B.seen self.new) }
+    {
+        if is_not_of_firm(caller) {
+            return Err(Refusal::NotAllowed(Rule::Firm));
+        }
+        let text = reasons_body(alloc, &mut self.book, day)?;
+        Ok(Reply {
+            status: 200,
+            body: Body::Json(OwnedBytes::new(text)),
+        })
     }
 
     // Dismisses a line from the exceptions.

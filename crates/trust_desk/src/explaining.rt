@@ -1,45 +1,17 @@
 //! Explains why the exceptions of a book are exceptions: what an import would do with each.
 
-ghost use Rattle.std.specs.Prelude.{◌++◌, ◌∷◌, []};
 ghost use Rattle.trust_store.specs.Calls.{IsRead};
 
 use crate::desk::Desk;
 use crate::importing::{Counted, counted_by, counted_line, tell_of_balance, tell_of_firm_line};
 use crate::watching::{At, ItemWatch, NotApplied};
-use csv::ByteRecord;
-use firm_rows::{BalanceKind, ExceptionSink, FirmLedger, decide_balance, decide_firm_line};
-use statement_csv::{Item, read_item};
-use std::alloc::{AllocError, Global};
-use std::marker::Model;
-use trust_base::{Day, Line, StoreFault, write_amount};
+use exception_reasons::exceptions;
+use firm_rows::{BalanceKind, FirmLedger, decide_balance, decide_firm_line};
+use statement_csv::{Item, item_of_line};
+use std::alloc::Global;
+use trust_base::{Day, Line, StoreFault};
 use trust_matter::decide_line;
 use trust_store::Book;
-
-// Collects the exceptions that it receives.
-//
-// Contracts see it as the list of them.
-#[derive(Drop)]
-struct ExceptionList {
-    lines: Vec<Line>,
-}
-
-impl Model for ExceptionList {
-    ghost use Rattle.std.specs.Prelude.{List};
-    ghost use Rattle.trust_base.specs.declared.line.Line.{Line};
-
-    ghost Value = { List Line };
-
-    ghost view = { λ list. list.lines.items };
-}
-
-impl ExceptionSink for ExceptionList {
-    ghost noted = { λ lines line. lines ++ line ∷ [] };
-
-    fn exception(&mut self, line: &Line) -> Result<(), AllocError> {
-        self.lines.push(line.copied()?)?;
-        Ok(())
-    }
-}
 
 // Reports an exception that an import would accept.
 fn tell_of_taken<V: ItemWatch>(at: &At<'_, V>, line: &Line, counted: Counted) {
@@ -107,25 +79,7 @@ fn explain_item<B: Book, V: ItemWatch>(
     }
 }
 
-// Reads a line's fields again, as the item of a statement.
-fn item_again(alloc: Global, line: &Line, number: u64) -> Result<Item, AllocError> {
-    let mut date = Vec::new(alloc);
-    line.date.write_to(&mut date)?;
-    let mut amount = Vec::new(alloc);
-    write_amount(line.amount.get() as i128, &mut amount)?;
-    let fields = [
-        date.as_slice(),
-        line.reference.as_slice(),
-        line.bank_ref.as_slice(),
-        amount.as_slice(),
-        line.text.as_slice(),
-    ];
-    let row = ByteRecord::from_fields(alloc, &fields)?;
-    read_item(alloc, &row, number)
-}
-
-// Explains exceptions in order, given the ledger of the firm's own lines. If memory runs out before the book is asked
-// about one, nothing is reported of it.
+// Explains exceptions in order, given the ledger of the firm's own lines.
 fn explain_each<B: Book, V: ItemWatch>(
     alloc: Global,
     book: &mut B,
@@ -140,9 +94,8 @@ fn explain_each<B: Book, V: ItemWatch>(
     let mut number = 0u64;
     for line in lines {
         number = number.saturating_add(1);
-        if let Ok(item) = item_again(alloc, &line, number) {
-            explain_item(alloc, book, &item, ledger, day, &At { number, watch })?;
-        }
+        let item = item_of_line(line, number);
+        explain_item(alloc, book, &item, ledger, day, &At { number, watch })?;
     }
     Ok(())
 }
@@ -162,11 +115,8 @@ impl<B: Book> Desk<B> {
     ) -> Result<(), StoreFault>
         ensures read { IsRead result (B.seen self.old) (B.seen self.new) }
     {
-        let mut list = ExceptionList {
-            lines: Vec::new(alloc),
-        };
-        self.book.each_exception(&mut list)?;
+        let lines = exceptions(alloc, &mut self.book)?;
         let ledger = self.book.firm(alloc)?;
-        explain_each(alloc, &mut self.book, list.lines, &ledger, day, watch)
+        explain_each(alloc, &mut self.book, lines, &ledger, day, watch)
     }
 }

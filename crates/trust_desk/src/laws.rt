@@ -8,6 +8,8 @@ ghost use Rattle.trust_desk.specs.NeverBelowZero.{NeverBelowZero, RunsNeverBelow
 ghost use Rattle.trust_desk.specs.Dismissed.{DismissedOnce, DismissingMovesNothing};
 ghost use Rattle.trust_desk.specs.OnceOnly.{BalanceOnce, FirmLineOnce, LineOnceOnly, OnceOnly};
 ghost use Rattle.trust_desk.specs.Purging.{PurgingChangesNoFigure};
+ghost use Rattle.trust_desk.specs.ReasonsTold.{ReasonsAreVerdicts};
+ghost use Rattle.trust_desk.specs.ToldOwn.{EachIsToldOwn};
 
 /// In every run, each matter's replies and its rows afterwards are those of its own machine.
 #[tactic(auto, using(crate::proofs::Own::own_laws))]
@@ -20,6 +22,17 @@ pub fn own_machine()
 #[tactic(auto, using(crate::proofs::Own::own_laws))]
 pub fn two_firms()
     ensures { SameForTheMatter }
+{}
+
+/// Whatever a person asks of the desk, two firms that agree on the matters in which the person has a seat give the same
+/// reply.
+pub fn each_is_told_own()
+    ensures { EachIsToldOwn }
+{}
+
+/// What an import would count an exception as is what its reason says: applied, repeated, or an exception still.
+pub fn reasons_are_verdicts()
+    ensures { ReasonsAreVerdicts }
 {}
 
 /// A sound firm is sound after every step and every item of an import, and no matter's ledger is ever below zero. This

@@ -32,8 +32,8 @@
 //! - `Desk::answer`, of reports: an ask for a matter's ledger card is answered by the card of the matter's rows, as
 //!   plain text, or by the first refusal whose condition holds. A request for a report on the firm, for one as of a
 //!   day or of a period, or for a reconciliation, is answered by exactly the text of the definition, of the firm's rows,
-//!   or by the first of NotAllowed, NoStatement (of a reconciliation and of month's end) and PeriodPurged that holds. Store or Memory may
-//!   stop each of them instead. None of them changes anything, and these requests name no matter (by the same clauses).
+//!   or by the first of NotAllowed, NoStatement (of a reconciliation and of month's end) and PeriodPurged that holds.
+//!   Store or Memory may stop each of them instead. None of them changes anything, and these requests name no matter (by the same clauses).
 //!   That the card's matter is read whole is the contract of a private function.
 //! - `Desk::answer_beside`: the same as `replied`. No clause says what it keeps of the rows.
 //! - `Desk::match_statement`: over every book: a statement whose references may be empty is refused as an import of it
@@ -45,8 +45,8 @@
 //!   is, after a crash too (`read`). An error wants no cause.
 //! - `Desk::find_unread`: it reads, and any of its reads may fail: the book stays as it is, also after a crash if the
 //!   store still serves (`reads`), as it does after an Ok (`serves`). No clause says what it finds.
-//! - `Desk::tell_exceptions`, `tell_rows`: the book stays as it is, after a crash too (`read`). No clause says what is
-//!   reported.
+//! - `Desk::tell_exceptions`, `tell_rows`, `tell_outstanding`: the book stays as it is, after a crash too (`read`). No
+//!   clause says what is reported.
 //! - `Desk::apply_line`: an item of a statement, a matter's line, one of the firm's own, or a balance, is a step of the
 //!   definition and is counted as it says, or nothing changed (`step`, `err`). A matter that the item does not name
 //!   does not change (`others`), and of the one that it names it leaves the rows that the matter's own machine leaves
@@ -73,6 +73,10 @@
 //!   own machine on its own rows; two firms with the same rows of a matter, in which on the same day the same is asked
 //!   of it and the same lines name it, give it the same replies and leave it the same rows, whatever else they have and
 //!   hear**.
+//! - `Desk::answer`, of lists: a caller's matters, and what waits in them, are answered in JSON by exactly the body of the
+//!   definition, of the firm's rows. Nothing changes, and these requests name no matter (by the same clauses).
+//! - `laws` `each_is_told_own`: **whatever a person asks, two firms that agree on the matters in which the person has a
+//!   seat give the same reply**.
 //! - `laws` `never_below_zero`: from a sound firm, **no matter's ledger is below zero before or after any request of a
 //!   run and any item of an import** (`runs`); the same of the firm's own steps, if the amounts asked are in that range
 //!   (`steps`).
@@ -106,6 +110,7 @@ mod explaining;
 mod importing;
 pub mod laws;
 mod matching;
+mod outstanding;
 mod requests;
 mod unread;
 mod watching;
@@ -116,10 +121,13 @@ pub use desk::Desk;
 pub use firm_audit::Flaw;
 pub use importing::{Counted, ImportEnd, ImportStop};
 pub use matter_bodies::{ImportReply, entry_body, import_body, matter_body, receipt_body};
-pub use requests::{Body, DayReport, End, MatchText, PeriodReport, Reply, Report, Request, RunEnd};
+pub use requests::{
+    Body, CallerList, DayReport, End, MatchText, PeriodReport, Reply, Report, Request, RunEnd,
+};
 pub use statement_match::Matched;
 pub use trust_base::OwnedBytes;
 pub use unread::Unread;
 pub use watching::{
-    AppliedLine, At, ClearedLine, EarlierWatch, ItemWatch, NoWatch, NotApplied, RowWatch,
+    AppliedLine, At, ClearedLine, EarlierWatch, ItemWatch, NoWatch, NotApplied, PaymentWatch,
+    RowWatch,
 };

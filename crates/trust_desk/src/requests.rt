@@ -43,6 +43,16 @@ pub enum PeriodReport {
     Disbursements,
 }
 
+/// A list of what a caller may see of the matters: each that is not purged for the cashier, and for a person each in
+/// which the person has a seat.
+#[derive(Clone, Copy, PartialEq, Eq, Debug)]
+pub enum CallerList {
+    /// The matters: each with its client, its days, what the caller is in it, its sums and its counts.
+    Matters,
+    /// What waits in them for a person: each proposed payment, and each claim that is not settled.
+    Waiting,
+}
+
 /// One of the two texts that matching a statement gives.
 #[derive(Clone, Copy, PartialEq, Eq, Debug)]
 pub enum MatchText {
@@ -84,6 +94,10 @@ pub enum Request {
     AsOf(Caller, DayReport, Day),
     /// A caller asks for a report on the firm of a period.
     Within(Caller, PeriodReport, Period),
+    /// A caller asks for a list of the matters that it may see.
+    Listed(Caller, CallerList),
+    /// A caller asks for the exceptions of the firm, each with its reason.
+    Reasons(Caller),
 }
 
 impl Drop for Request {
@@ -110,7 +124,9 @@ impl Drop for Request {
             Request::Report(_caller, _)
             | Request::Reconcile(_caller, _)
             | Request::AsOf(_caller, _, _)
-            | Request::Within(_caller, _, _) => (),
+            | Request::Within(_caller, _, _)
+            | Request::Listed(_caller, _)
+            | Request::Reasons(_caller) => (),
         }
     }
 }

@@ -2,7 +2,7 @@
 
 use crate::importing::ImportStop;
 use firm_rows::{BalanceKind, FirmLedger, Owner};
-use trust_base::{BankText, Day, Line};
+use trust_base::{BankText, Day, EntryNo, Line};
 use trust_matter::{BankLine, Matter, Reason};
 
 /// An item of a statement that was not applied, or an exception as an import would find it, with what was read of the
@@ -92,6 +92,12 @@ pub trait RowWatch {
 
     /// Called with the last day on which a matter was changed.
     fn worked_on(&self, last: Day);
+}
+
+/// Is told which payments of a matter the bank has not shown. Nothing depends on whether it succeeds.
+pub trait PaymentWatch {
+    /// Called for the payment of this number, which was issued on this day and which no line of the bank has cleared.
+    fn outstanding(&self, number: EntryNo, issued: Day);
 }
 
 /// Ignores all remarks.

@@ -117,6 +117,11 @@ step-decline h seats es c n day (Some (entry.Payment p)) at s unclosed later the
     (restating-moves es n h.last day p payment.Declined [] at (rw new refl) tt) (inr (sym (ap target_in at))) (refl)
 step-decline h seats es c n day o at s unclosed later there kind state = absurd (cc)
 
+-- So does a withdrawal.
+
+pub step-withdraw : (h : Head) (seats : List Seat) (es : List Entry) (c : Caller) (n day : ℕ) (o : Option Entry) → entry_at es n ≡ o → Sound (rows-of (Some h) seats es) → h.closed ≡ None → h.last ≤ day → is_none o ≡ false → is_no_payment o ≡ false → is_payment_not_proposed o ≡ false → Stepped (Some h) seats es (asked c (ask.Withdraw n) day) (with_payment n o (λ _. payment.Declined))
+step-withdraw h seats es c n day o at s unclosed later there kind state = step-decline h seats es c n day o at s unclosed later there kind state
+
 -- A voiding gives back.
 
 abbrev taken-back : ℕ → ℕ → PaymentState

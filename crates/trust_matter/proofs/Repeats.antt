@@ -81,6 +81,7 @@ ask-leaves es (ask.CancelDeposit n) (Some (entry.Deposit d)) other day at stays 
     (entry.Deposit d, record { there = at; same = refl }, λ line. held-not d line d.state _ state)
 ask-leaves es (ask.Approve n) (Some (entry.Payment p)) other day at stays state = grind (arith, nat_tests, proposed-not)
 ask-leaves es (ask.Decline n) (Some (entry.Payment p)) other day at stays state = grind (arith, nat_tests, proposed-not)
+ask-leaves es (ask.Withdraw n) (Some (entry.Payment p)) other day at stays state = grind (arith, nat_tests, proposed-not)
 ask-leaves es (ask.VoidPayment n) (Some (entry.Payment p)) other day at stays state =
     (entry.Payment p, record { there = at; same = refl }, λ line. issued-not line p.state _ _ state)
 ask-leaves es (ask.Offer a) (Some (entry.Claim c)) other day at stays state = grind (arith, nat_tests)

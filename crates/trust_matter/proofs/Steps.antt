@@ -5,7 +5,7 @@ use Rattle.trust_matter.specs.declared.ask.Ask.TheVariants as ask
 use Rattle.trust_matter.proofs.Table.{Passes, passes}
 use Rattle.trust_matter.proofs.StepForms.{asked, claim-changes, IsStep, Stepped, head-there, none-is, some-is, not-before, next-is, step-nothing, step-unclosed, step-seat, step-unseat, step-close, step-purge}
 use Rattle.trust_matter.proofs.DepositSteps.{step-deposit, step-cancel}
-use Rattle.trust_matter.proofs.PaymentSteps.{step-propose, step-approve, step-decline, step-void}
+use Rattle.trust_matter.proofs.PaymentSteps.{step-propose, step-approve, step-decline, step-void, step-withdraw}
 use Rattle.trust_matter.proofs.ClaimSteps.{offered-days, settled-days, step-fee, step-claim, step-unsettled, step-accept}
 
 -- what passes the table
@@ -21,6 +21,7 @@ step-made (Some h) seats es c (ask.CancelDeposit n) day s amount p = search (ste
 step-made (Some h) seats es c (ask.Propose a) day s amount p = step-propose h seats es c a day s amount (none-is h.closed p.not_closed) (not-before day h.last p.forwards) p
 step-made (Some h) seats es c (ask.Approve n) day s amount p = step-approve h seats es c n day (entry_at es n) refl s (none-is h.closed p.not_closed) (not-before day h.last p.forwards) p.there p.kind p.state p.enough
 step-made (Some h) seats es c (ask.Decline n) day s amount p = step-decline h seats es c n day (entry_at es n) refl s (none-is h.closed p.not_closed) (not-before day h.last p.forwards) p.there p.kind p.state
+step-made (Some h) seats es c (ask.Withdraw n) day s amount p = step-withdraw h seats es c n day (entry_at es n) refl s (none-is h.closed p.not_closed) (not-before day h.last p.forwards) p.there p.kind p.state
 step-made (Some h) seats es c (ask.VoidPayment n) day s amount p = step-void h seats es c n day (entry_at es n) refl s (none-is h.closed p.not_closed) (not-before day h.last p.forwards) p.there p.kind p.state
 step-made (Some h) seats es c (ask.EarnFee a) day s amount p = step-fee h seats es c a day s amount (none-is h.closed p.not_closed) (not-before day h.last p.forwards) p
 step-made (Some h) seats es c (ask.RaiseClaim a) day s amount p =

@@ -38,10 +38,18 @@ abbrev pub is_purging : Ask → Bool
 is_purging ask.Purge = true
 is_purging _ = false
 
--- the only ask that is answered with the whole matter
-abbrev pub is_accounting : Ask → Bool
-is_accounting ask.Accounting = true
-is_accounting _ = false
+-- the ask is answered with lines of text
+abbrev pub is_text : Ask → Bool
+is_text ask.Accounting = true
+is_text (ask.Account p) = true
+is_text _ = false
+
+-- the ask is answered with the whole matter
+abbrev pub is_whole : Ask → Bool
+is_whole ask.ShowEntries = true
+is_whole ask.Accounting = true
+is_whole (ask.Account p) = true
+is_whole _ = false
 
 -- the ask comes under a rule that changes the matter
 abbrev pub is_changing : Ask → Bool
@@ -110,6 +118,7 @@ is_missing_for (ask.CancelDeposit n) e other = is_none e
 is_missing_for (ask.Propose a) e other = is_an_entry a.fund && is_none other
 is_missing_for (ask.Approve n) e other = is_none e
 is_missing_for (ask.Decline n) e other = is_none e
+is_missing_for (ask.Withdraw n) e other = is_none e
 is_missing_for (ask.VoidPayment n) e other = is_none e
 is_missing_for (ask.RaiseClaim a) e other = is_on_fee a.against && is_none other
 is_missing_for (ask.Offer a) e other = is_none e
@@ -163,6 +172,7 @@ is_of_another_kind_for (ask.CancelDeposit n) e other = is_no_deposit e
 is_of_another_kind_for (ask.Propose a) e other = is_no_fund a.fund other
 is_of_another_kind_for (ask.Approve n) e other = is_no_payment e
 is_of_another_kind_for (ask.Decline n) e other = is_no_payment e
+is_of_another_kind_for (ask.Withdraw n) e other = is_no_payment e
 is_of_another_kind_for (ask.VoidPayment n) e other = is_no_payment e
 is_of_another_kind_for (ask.RaiseClaim a) e other = is_on_fee a.against && is_no_fee other
 is_of_another_kind_for (ask.Offer a) e other = is_no_claim e
@@ -233,6 +243,7 @@ is_in_another_state_for (ask.CancelDeposit n) e other = is_deposit_not_held e
 is_in_another_state_for (ask.Propose a) e other = is_no_fund_yet a.fund other
 is_in_another_state_for (ask.Approve n) e other = is_payment_not_proposed e
 is_in_another_state_for (ask.Decline n) e other = is_payment_not_proposed e
+is_in_another_state_for (ask.Withdraw n) e other = is_payment_not_proposed e
 is_in_another_state_for (ask.VoidPayment n) e other = is_payment_not_issued e
 is_in_another_state_for (ask.Offer a) e other = is_claim_settled e
 is_in_another_state_for (ask.Accept a) e other = is_claim_without_offer e

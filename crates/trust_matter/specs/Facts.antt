@@ -40,6 +40,7 @@ number_named (ask.CancelDeposit n) = n
 number_named (ask.Propose a) = a.number
 number_named (ask.Approve n) = n
 number_named (ask.Decline n) = n
+number_named (ask.Withdraw n) = n
 number_named (ask.VoidPayment n) = n
 number_named (ask.EarnFee a) = a.number
 number_named (ask.RaiseClaim a) = a.number
@@ -49,7 +50,9 @@ number_named (ask.Award a) = a.number
 number_named ask.CloseMatter = 0
 number_named ask.Purge = 0
 number_named ask.Show = 0
+number_named ask.ShowEntries = 0
 number_named ask.Accounting = 0
+number_named (ask.Account p) = 0
 number_named (ask.ShowEntry n) = n
 
 -- the number of the fee or claim that the ask itself names, or 0

@@ -36,6 +36,7 @@ rule_of (ask.CancelDeposit n) = rule.Office
 rule_of (ask.Propose a) = rule.Propose
 rule_of (ask.Approve n) = rule.Sign
 rule_of (ask.Decline n) = rule.Sign
+rule_of (ask.Withdraw n) = rule.Propose
 rule_of (ask.VoidPayment n) = rule.Sign
 rule_of (ask.EarnFee a) = rule.Sign
 rule_of (ask.RaiseClaim a) = rule_against a.against
@@ -45,7 +46,9 @@ rule_of (ask.Award a) = rule.Office
 rule_of ask.CloseMatter = rule.Office
 rule_of ask.Purge = rule.Office
 rule_of ask.Show = rule.Read
+rule_of ask.ShowEntries = rule.Read
 rule_of ask.Accounting = rule.Read
+rule_of (ask.Account p) = rule.Read
 rule_of (ask.ShowEntry n) = rule.Read
 
 -- a matter changes under every rule except reading and reports of the firm

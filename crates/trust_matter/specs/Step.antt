@@ -176,6 +176,7 @@ edit_of (ask.CancelDeposit n) e day = cancelled n e day
 edit_of (ask.Propose a) e day = edit.Append (record { number = a.number; entry = payment_of a day })
 edit_of (ask.Approve n) e day = with_payment n e (λ _. payment.Issued day)
 edit_of (ask.Decline n) e day = with_payment n e (λ _. payment.Declined)
+edit_of (ask.Withdraw n) e day = with_payment n e (λ _. payment.Declined)
 edit_of (ask.VoidPayment n) e day = with_payment n e (voided day)
 edit_of (ask.EarnFee a) e day = edit.Append (record { number = a.number; entry = fee_of a day })
 edit_of (ask.RaiseClaim a) e day = edit.Append (record { number = a.number; entry = claim_of a day })
@@ -185,7 +186,9 @@ edit_of (ask.Award a) e day = with_claim a.number e (settled day a.to_client)
 edit_of ask.CloseMatter e day = edit.Close day
 edit_of ask.Purge e day = edit.Purge day
 edit_of ask.Show e day = edit.Nothing
+edit_of ask.ShowEntries e day = edit.Nothing
 edit_of ask.Accounting e day = edit.Nothing
+edit_of (ask.Account p) e day = edit.Nothing
 edit_of (ask.ShowEntry n) e day = edit.Nothing
 
 -- what an accepted ask changes

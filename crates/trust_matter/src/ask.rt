@@ -2,13 +2,13 @@
 
 ghost use Rattle.std.specs.Prelude.{◌≡◌};
 ghost use Rattle.matter_rows.specs.Shares.{number_or_none};
-ghost use Rattle.trust_matter.specs.Conditions.{is_accounting};
+ghost use Rattle.trust_matter.specs.Conditions.{is_text, is_whole};
 ghost use Rattle.trust_matter.specs.Facts.{fund_named, number_named};
 
 use crate::claim::{ClaimAsk, SplitAsk};
 use crate::payment::PaymentAsk;
 use matter_rows::Seat;
-use trust_base::{Cents, EntryNo, Label, PersonId};
+use trust_base::{Cents, EntryNo, Label, Period, PersonId};
 
 /// The cashier of the firm, or a person by name.
 #[derive(Drop)]
@@ -60,6 +60,8 @@ pub enum Ask {
     Approve(EntryNo),
     /// Turns down a proposed payment, for good.
     Decline(EntryNo),
+    /// Takes back a proposed payment, for good: it is declined.
+    Withdraw(EntryNo),
     /// Takes back an issued payment. Its fund has the money again.
     VoidPayment(EntryNo),
     /// Sets a fee apart from what is available.
@@ -80,16 +82,27 @@ pub enum Ask {
     Show,
     /// Reads an entry.
     ShowEntry(EntryNo),
+    /// Reads all entries.
+    ShowEntries,
     /// Reads the ledger card, the matter's full accounting (ABA Model Rule 1.15(d)).
     Accounting,
+    /// Reads the client's statement of account for a period.
+    Account(Period),
 }
 
 impl Ask {
-    /// Whether it is `Accounting`, the only ask answered with the whole matter.
-    pub fn is_accounting(&self) -> bool
-        ensures { result ≡ is_accounting self.now }
+    /// Whether it is answered with lines of text, and not in JSON.
+    pub fn is_text(&self) -> bool
+        ensures { result ≡ is_text self.now }
     {
-        matches!(self, Ask::Accounting)
+        matches!(self, Ask::Accounting | Ask::Account(_))
+    }
+
+    /// Whether it is answered with the whole matter, so that all its entries have to be loaded.
+    pub fn is_whole(&self) -> bool
+        ensures { result ≡ is_whole self.now }
+    {
+        matches!(self, Ask::ShowEntries | Ask::Accounting | Ask::Account(_))
     }
 
     /// The number of the entry that it names, if any.
@@ -105,6 +118,7 @@ impl Ask {
             Ask::CancelDeposit(number)
             | Ask::Approve(number)
             | Ask::Decline(number)
+            | Ask::Withdraw(number)
             | Ask::VoidPayment(number)
             | Ask::ShowEntry(number) => Some(*number),
             Ask::OpenMatter(_)
@@ -113,7 +127,9 @@ impl Ask {
             | Ask::CloseMatter
             | Ask::Purge
             | Ask::Show
-            | Ask::Accounting => None,
+            | Ask::ShowEntries
+            | Ask::Accounting
+            | Ask::Account(_) => None,
         }
     }
 

@@ -282,6 +282,12 @@ pub fn payments()
         (by_person lee (Ask.VoidPayment 2) next_monday) Refusal.WrongState }
     ensures declined { Accepts (covered_with_check friday PaymentState.Proposed)
         (by_person lee (Ask.Decline 2) next_monday) (covered_with_check next_monday PaymentState.Declined) }
+    ensures withdrawn_by_cashier { Accepts (covered_with_check friday PaymentState.Proposed)
+        (by_cashier (Ask.Withdraw 2) next_monday) (covered_with_check next_monday PaymentState.Declined) }
+    ensures client_does_not_withdraw { Refuses (covered_with_check friday PaymentState.Proposed)
+        (by_person ada (Ask.Withdraw 2) next_monday) (Refusal.NotAllowed Rule.Propose) }
+    ensures issued_is_not_withdrawn { Refuses (covered_with_check friday (PaymentState.Issued friday))
+        (by_person lee (Ask.Withdraw 2) next_monday) Refusal.WrongState }
     ensures declined_is_not_approved { Refuses (covered_with_check next_monday PaymentState.Declined)
         (by_person lee (Ask.Approve 2) next_monday) Refusal.WrongState }
     ensures proposed_is_not_voided { Refuses (covered_with_check friday PaymentState.Proposed)

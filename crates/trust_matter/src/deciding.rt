@@ -14,7 +14,9 @@ ghost use Rattle.trust_matter.specs.Step.{AnswersLateBy, Decides, change_conditi
 use crate::ask::{Ask, Caller, DepositAsk, FeeAsk};
 use crate::claim::{decide_accept, decide_award, decide_claim, decide_offer};
 use crate::head::{decide_add_seat, decide_close, decide_drop_seat, decide_open, decide_purge};
-use crate::payment::{decide_approve, decide_decline, decide_propose, decide_void};
+use crate::payment::{
+    decide_approve, decide_decline, decide_propose, decide_void, decide_withdraw,
+};
 use matter_parts::{Change, Edit, Kept, Matter, Numbered, change_of};
 use matter_rows::{Against, Deposit, DepositState, Entry, Fee, Role};
 use trust_base::{Day, EntryNo, Refusal, Rule};
@@ -50,6 +52,7 @@ pub fn decide(matter: &Matter, caller: &Caller, ask: &Ask, day: Day) -> Result<C
         Ask::Propose(asked) => decide_propose(matter, asked, day),
         Ask::Approve(number) => decide_approve(matter, *number, day),
         Ask::Decline(number) => decide_decline(matter, *number, day),
+        Ask::Withdraw(number) => decide_withdraw(matter, *number, day),
         Ask::VoidPayment(number) => decide_void(matter, *number, day),
         Ask::EarnFee(asked) => decide_fee(matter, asked, day),
         Ask::RaiseClaim(asked) => decide_claim(matter, asked, day),
@@ -59,7 +62,9 @@ pub fn decide(matter: &Matter, caller: &Caller, ask: &Ask, day: Day) -> Result<C
         Ask::CloseMatter => decide_close(matter, day),
         Ask::Purge => decide_purge(matter, day),
         Ask::Show => Ok(Edit::Nothing),
+        Ask::ShowEntries => Ok(Edit::Nothing),
         Ask::Accounting => Ok(Edit::Nothing),
+        Ask::Account(_) => Ok(Edit::Nothing),
         Ask::ShowEntry(number) => decide_show_entry(matter, *number, day),
     };
     let edit = decided?;
@@ -96,8 +101,9 @@ fn check_caller(matter: &Matter, caller: &Caller, ask: &Ask) -> Result<(), Refus
         return Err(Refusal::Purged);
     }
     let rule = match ask {
-        Ask::Show | Ask::ShowEntry(_) | Ask::Accounting => Rule::Read,
-        Ask::Propose(_) => Rule::Propose,
+        Ask::Show | Ask::ShowEntry(_) | Ask::ShowEntries | Ask::Accounting | Ask::Account(_) =>
+            Rule::Read,
+        Ask::Propose(_) | Ask::Withdraw(_) => Rule::Propose,
         Ask::Approve(_) | Ask::Decline(_) | Ask::VoidPayment(_) => Rule::Sign,
         Ask::EarnFee(_) | Ask::Offer(_) => Rule::Sign,
         Ask::RaiseClaim(asked) => match &asked.against {

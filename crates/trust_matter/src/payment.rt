@@ -198,6 +198,14 @@ pub(crate) fn decide_decline(matter: &Matter, number: EntryNo, day: Day) -> Resu
     Ok(Edit::Exchange(Numbered { number, entry }))
 }
 
+// Taking a payment back is decided as declining it is; who may do so was checked before.
+pub(crate) fn decide_withdraw(matter: &Matter, number: EntryNo, day: Day) -> Result<Edit, Refusal>
+    ensures { (c : AnyCaller) → AnswersLateBy (kept_facts matter.now (Ask.Withdraw number))
+        (record { caller = c; ask = Ask.Withdraw number; day = day }) result }
+{
+    decide_decline(matter, number, day)
+}
+
 pub(crate) fn decide_void(matter: &Matter, number: EntryNo, day: Day) -> Result<Edit, Refusal>
     ensures { (c : AnyCaller) → AnswersLateBy (kept_facts matter.now (Ask.VoidPayment number))
         (record { caller = c; ask = Ask.VoidPayment number; day = day }) result }

@@ -6,6 +6,7 @@ pub mod TextsOfClients
 pub mod TextsOfReconciliation
 pub mod TextsOfLedgers
 pub mod TextsOfPeriods
+pub mod TextsOfAccounts
 pub use Rattle.firm_figures.specs.Clients
 pub use Rattle.firm_figures.specs.Lists
 pub use Rattle.firm_figures.specs.Retained

@@ -14,7 +14,8 @@ use std::alloc::AllocError;
 use trust_base::{Day, MatterNo};
 use trust_matter::{Figures, Head, Holder, Matter};
 
-fn client(head: Option<&Head>) -> Piece<'_>
+/// The client's label, or a dash.
+pub(crate) fn client(head: Option<&Head>) -> Piece<'_>
     ensures { text_of result ≡ client_text (option_copied head.entry) }
 {
     match head {

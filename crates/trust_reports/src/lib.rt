@@ -5,12 +5,14 @@
 //! By public call, with the clauses of its contract in brackets.
 //!
 //! - `trial_text`, `journal_text`, `retention_text`, `exceptions_text`, `clients_text`, `receipts_text`,
-//!   `disbursements_text`, `outstanding_text`, `reconciliation_text`, `own_card_text`: append exactly the text of the definition, line by line, or leave the vector as it was if memory
-//!   is refused (`ok`, `err`).
+//!   `disbursements_text`, `outstanding_text`, `reconciliation_text`, `own_card_text`: append exactly the text of the
+//!   definition, line by line, or leave the vector as it was if memory is refused (`ok`, `err`).
 //! - `ledger_card`; `laws` `whole_card_is_of_rows`: the same of a matter's ledger card (ABA Model Rule 1.15(d): a full
 //!   accounting); the card of a whole matter is that of its rows, with what is left and the balances added up anew.
+//! - `account_text`; `laws` `whole_account_is_of_rows`: the same of a matter's statement of account for a period.
 #![tactic(auto)]
 
+mod account;
 mod card;
 mod card_entries;
 mod clients;
@@ -23,6 +25,7 @@ mod reconciliation;
 mod retention;
 mod trial;
 
+pub use account::account_text;
 pub use card::ledger_card;
 pub use clients::clients_text;
 pub use firm_figures::{

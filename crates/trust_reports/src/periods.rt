@@ -16,7 +16,8 @@ use firm_periods::{Cause, MoveNames, NamedList, NamedMove};
 use std::alloc::AllocError;
 use trust_base::{Day, Label, Period};
 
-fn cause_word(cause: Cause) -> &'static str
+/// A cause as it is printed.
+pub(crate) fn cause_word(cause: Cause) -> &'static str
     ensures { result.now ≡ cause_text cause }
 {
     match cause {
@@ -125,9 +126,9 @@ fn push_disbursed(page: &mut Page, lines: &[NamedMove]) -> Result<(), AllocError
     Ok(())
 }
 
-// Appends the first line of a report of a period.
+/// Appends the first line of a report of a period.
 #[tactic(auto, unfolding(crate::specs::TextsOfPeriods::period_heading))]
-fn push_period(page: &mut Page, name: &str, period: Period) -> Result<(), AllocError>
+pub(crate) fn push_period(page: &mut Page, name: &str, period: Period) -> Result<(), AllocError>
     ensures before { page.new.before ≡ page.old.before }
     ensures text { OnOk result (page.new.text ≡ page.old.text ++ period_heading name.now period) }
 {

@@ -1,7 +1,7 @@
 -- The names that the proofs of this crate cite, passed on from one place. Declares nothing.
 pub use Rattle.firm_rows.proofs.Ordered.{absent-at, all-append, found-at, rises}
 pub use Rattle.firm_rows.specs.Countable.{IsRowInRange, MOST_ROWS}
-pub use Rattle.firm_rows.specs.Firm.{EntryRow, Firm, Row, SeatRow, after_change, among, empty_firm, entry_pairs, head_pairs, joined_movement, kept_movements, moved_by, moved_without, of, own_movement, pairs, put, rows_of, seat_pairs, with_line, without_line}
+pub use Rattle.firm_rows.specs.Firm.{EntryRow, Firm, HeadRow, Row, SeatRow, after_change, among, empty_firm, entry_pairs, head_pairs, headed, joined_movement, kept_movements, moved_by, moved_without, of, own_movement, pairs, put, rows_of, seat_pairs, with_line, without_line}
 pub use Rattle.firm_rows.specs.FirmChange.{FirmChange, OfMatter}
 pub use Rattle.firm_rows.specs.FirmLines.{IsOwnBalance, as_firm_line, balance_cmp, balance_of, kept_balance, with_balance}
 pub use Rattle.firm_rows.specs.FirmSound.{FirmSound}
@@ -14,6 +14,7 @@ pub use Rattle.matter_parts.specs.declared.kept.Kept.{Kept}
 pub use Rattle.matter_rows.specs.Rows.{Rows, entry_at, unopened}
 pub use Rattle.matter_rows.specs.Shares.{number_or_none, target, target_in}
 pub use Rattle.matter_rows.specs.declared.entry.Entry.{Entry}
+pub use Rattle.matter_rows.specs.declared.head.Head.{Head}
 pub use Rattle.matter_rows.specs.declared.seat.Seat.{Seat}
 pub use Rattle.std.proofs.Common.{Bool, Err, IfErr, IfOk, List, None, Ok, Option, Result, Some, [], ap, append-nil, append_assoc, arith, cond, drop, false, fold, get_or, inl, inr, length, length-append, map, of_z, refl, rules, set, subst, suc, sym, take, tests, to_z, true, w64, zero, ℕ, ℤ, ◌++◌, ◌+ℤ◌, ◌+◌, ◌<◌, ◌∙◌, ◌∷◌, ◌≡◌, ◌≢◌, ◌≤◌, ◌⊎◌}
 pub use Rattle.std.proofs.lemmas.Bool.{cases_Bool, cases_lt}

@@ -4,7 +4,7 @@ ghost use Rattle.std.specs.Prelude.{◌≡◌, ℕ, None, IfOk, IsOk};
 ghost use Rattle.matter_parts.specs.declared.edit.Edit.TheVariants.{Nothing};
 ghost use Rattle.matter_parts.specs.Parts.{IsWhole};
 ghost use Rattle.firm_rows.specs.Countable.{IsRowInRange, IsMovementInRange, IsFirmLineInRange, IsLineInRange, IsBalanceInRange};
-ghost use Rattle.firm_rows.specs.Firm.{Firm, of};
+ghost use Rattle.firm_rows.specs.Firm.{Firm, of, opened_matters};
 ghost use Rattle.firm_rows.specs.FirmChange.{OfMatter, Repeated, Unmatched, FitsFirm, by_line, by_firm_line, by_balance};
 ghost use Rattle.firm_rows.specs.FirmLines.{kept_balance};
 ghost use Rattle.firm_rows.specs.FirmSound.{IsVerdictOn, IsFirmVerdict, IsBalanceVerdict};
@@ -56,6 +56,12 @@ pub trait Book {
     ) -> Result<Matter, StoreFault>
         ensures found { (seen self.new).clean → (seen self.old).stands
             → IfOk result (λ part. IsPartFor (of matter (seen self.old).firm) entry other part) }
+        ensures read { IsRead result (seen self.old) (seen self.new) };
+
+    /// Returns the numbers of all matters that were opened, also those that were purged since, in ascending order.
+    fn opened_matters(&mut self, alloc: Global) -> Result<Vec<MatterNo>, StoreFault>
+        ensures found { (seen self.new).clean → (seen self.old).stands
+            → IfOk result (λ numbers. numbers.items ≡ opened_matters (seen self.old).firm) }
         ensures read { IsRead result (seen self.old) (seen self.new) };
 
     /// Returns the firm's own ledger: its lines in the order of acceptance.

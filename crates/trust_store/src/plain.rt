@@ -5,7 +5,7 @@ ghost use Rattle.matter_parts.specs.declared.edit.Edit.TheVariants.{Nothing};
 ghost use Rattle.matter_parts.specs.Parts.{IsWhole, AreNumbered};
 ghost use Rattle.matter_parts.specs.Changes.{IsChange, changed};
 ghost use Rattle.firm_rows.specs.Countable.{IsRowInRange, MOST_ROWS};
-ghost use Rattle.firm_rows.specs.Firm.{empty_firm, of, joined_movement, kept_movements, moved_without, is_of_matter, pairs, head_pairs, seat_pairs, after_change, after_stray, after_match, own_movement, with_firm_line, with_balance_row};
+ghost use Rattle.firm_rows.specs.Firm.{empty_firm, headed, of, joined_movement, kept_movements, moved_without, is_of_matter, pairs, head_pairs, seat_pairs, after_change, after_stray, after_match, own_movement, with_firm_line, with_balance_row};
 ghost use Rattle.firm_rows.specs.FirmLines.{IsOwnBalance, balance_of, as_firm_line, balance_row, kept_balance};
 ghost use Rattle.firm_rows.specs.FirmSound.{FirmSound};
 ghost use Rattle.firm_rows.specs.Handing.{AreHanded, FoldsFront};
@@ -173,6 +173,10 @@ impl Book for PlainBook {
         Ok(part_of(alloc, &self.matters, matter, entry, other)?)
     }
 
+    fn opened_matters(&mut self, alloc: Global) -> Result<Vec<MatterNo>, StoreFault> {
+        Ok(headed_among(alloc, &self.matters)?)
+    }
+
     fn firm(&mut self, alloc: Global) -> Result<FirmLedger, StoreFault> {
         Ok(self.own.copied(alloc)?)
     }
@@ -318,6 +322,19 @@ fn matter_of(alloc: Global, kept: &[KeptMatter], matter: MatterNo) -> Result<Mat
         Ok(place) => kept[place].matter.copied(alloc),
         Err(_) => Ok(Matter::unopened(alloc)),
     }
+}
+
+// The numbers of the matters that have a head.
+fn headed_among(alloc: Global, kept: &[KeptMatter]) -> Result<Vec<MatterNo>, AllocError>
+    ensures { IfOk result (λ numbers. numbers.items ≡ headed (joined kept.now)) }
+{
+    let mut numbers = Vec::new(alloc);
+    for k in kept {
+        if k.matter.head().is_some() {
+            numbers.push(k.number)?;
+        }
+    }
+    Ok(numbers)
 }
 
 // A copy of a matter with the named entries and those that they draw on.

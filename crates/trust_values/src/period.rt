@@ -1,6 +1,6 @@
 // Periods of days.
 
-ghost use Rattle.std.specs.Prelude.{◌≡◌, ◌≤◌, ◌<◌, IfNone, Some, option_map};
+ghost use Rattle.std.specs.Prelude.{◌≡◌, ◌≤◌, ◌<◌, None, Some};
 ghost use Rattle.trust_values.specs.Limits.{IsDay};
 ghost use Rattle.trust_values.specs.Periods.{Span, first_of_month, month_to};
 
@@ -43,7 +43,7 @@ impl Period {
     /// The period from one day to another. None if the other is earlier.
     pub fn new(from: Day, to: Day) -> Option<Period>
         ensures some { from ≤ to → result ≡ Some (record { from = from; to = to }) }
-        ensures none { IfNone result (to < from) }
+        ensures none { to < from → result ≡ None }
     {
         if to.get() < from.get() {
             return None;

@@ -68,6 +68,13 @@ impl<B: Book> Book for RefusingBook<B> {
         }
     }
 
+    fn opened_matters(&mut self, alloc: Global) -> Result<Vec<MatterNo>, StoreFault> {
+        match self.inner.opened_matters(alloc) {
+            Ok(found) => Ok(found),
+            Err(fault) => Err(told(&mut self.refusals, fault)),
+        }
+    }
+
     fn firm(&mut self, alloc: Global) -> Result<FirmLedger, StoreFault> {
         match self.inner.firm(alloc) {
             Ok(found) => Ok(found),

@@ -1,4 +1,4 @@
-use Rattle.firm_periods.proofs.Names.{rules, ◌≡◌, IsSortedBy, answers_always, in_order}
+use Rattle.firm_periods.proofs.Names.{rules, IsSortedBy, answers_always}
 use Rattle.firm_periods.specs.Named.{is_earlier}
 use Rattle.firm_periods.proofs.Picks.{earlier_order}
 use Rattle.firm_figures.proofs.Sorted.{sorted-is}

@@ -1,13 +1,8 @@
+use Rattle.matter_bodies.proofs.Names.{◌∙◌, pos, print-outline}
+use Rattle.matter_bodies.specs.Bodies.{entry_object}
 use Rattle.matter_bodies.proofs.bodies.entry_body.Goals as goal
-use Rattle.matter_bodies.proofs.bodies.entry_body.Goals.{in-Proposed, in-Declined, in-Issued, in-Cleared, in-Voided}
 
-pub returns-after-payment : goal.returns-after-payment
-returns-after-payment c =
-    let told = rw (c.get.ensures.value, c.bank_day.ensures, c.bank_ref.ensures, c.fund_name.ensures, c.label.ensures, c.day_or_null.ensures, c.entry_or_null.ensures, c.fund_entry.ensures, c.label-in-Payment.ensures, c.label-in-Payment-2.ensures, c.day_or_null-in-Payment.ensures) at c.object_text.ensures in
-    elim c.match-payment.branch [
-      | in-Proposed w ↦ rw (c.in-Payment.is, w.in-Proposed.is) (rw w.issued-is at told)
-      | in-Declined w ↦ rw (c.in-Payment.is, w.in-Declined.is) (rw w.issued-is at told)
-      | in-Issued w ↦ rw (c.in-Payment.is, w.in-Issued.is) (rw w.issued-is at told)
-      | in-Cleared w ↦ rw (c.in-Payment.is, w.in-Cleared.is) (rw w.issued-is at told)
-      | in-Voided w ↦ rw (c.in-Payment.is, w.in-Voided.is) (rw w.issued-is at told)
-    ]
+pub returns : goal.returns
+returns c =
+    (rw (c.in_ok-write_entry.ensures.tokens, c.write_entry.ensures.before, c.in_ok-out.ensures.before, c.in_ok-out.ensures.tokens) at c.into_inner.ensures.items)
+    ∙ print-outline (entry_object c.args.matter c.args.number c.args.entry.now (pos c.args.left))

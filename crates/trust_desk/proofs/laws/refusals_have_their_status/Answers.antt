@@ -1,5 +1,5 @@
 -- The status of a reply whose body is a refusal.
-use Rattle.trust_desk.proofs.Names.{◌≡◌, inl, inr, ℕ, Bool, true, false, cond, List, Option, Result, sym, ap, subst, MatchBool, status_of, Refusal, Asked, is_accounting, dismiss_refusal, dismiss_reply, Json, Refused, Text, Rows, refusal, Firm, of, ImportReply, Kind, OfMatter, OfItems, Dismisses, OnlyTold, NotRead, kind_of, asked_on, import_reply, counts_after, none_counted, is_fault_reply, refused, replied, text_reply, HasItsStatus, IsStopped, firm_step, kind_step, arith, ints, nat_tests}
+use Rattle.trust_desk.proofs.Names.{◌≡◌, inl, inr, ℕ, Bool, true, false, cond, List, Option, Result, sym, ap, subst, MatchBool, status_of, Refusal, Asked, is_text, dismiss_refusal, dismiss_reply, Json, Refused, Text, Rows, refusal, Firm, of, ImportReply, Kind, OfMatter, OfItems, Dismisses, OnlyShown, OnlyTold, NotRead, kind_of, asked_on, import_reply, counts_after, none_counted, is_fault_reply, refused, replied, json_reply, text_reply, HasItsStatus, IsStopped, firm_step, kind_step, arith, ints, nat_tests}
 use Rattle.trust_desk.proofs.laws.refusals_have_their_status.Goals as goal
 
 refused-status : (r : Refusal) → HasItsStatus (refused r)
@@ -9,7 +9,7 @@ said-status : (b : Bool) (text : List ℕ) (s : Refusal) (P : Type 0) → cond b
 said-status b text s x3 is = grind (arith, ints, nat_tests)
 
 replied-status : (o : Option Refusal) (m : ℕ) (rows : Rows) (a : Asked) → HasItsStatus (replied o m rows a)
-replied-status o m rows a = grind (arith, ints, nat_tests, said-status, is_accounting, refused-status)
+replied-status o m rows a = grind (arith, ints, nat_tests, said-status, is_text, refused-status)
 
 import-status : (o : Option Refusal) (counts : ImportReply) → HasItsStatus (import_reply o counts)
 import-status o counts = grind (arith, ints, nat_tests, refused-status)
@@ -20,12 +20,16 @@ dismiss-status o = grind (arith, ints, nat_tests, refused-status)
 text-status : (told : Result (List ℕ) Refusal) → HasItsStatus (text_reply told)
 text-status told = grind (arith, ints, nat_tests, refused-status)
 
+json-status : (told : Result (List ℕ) Refusal) → HasItsStatus (json_reply told)
+json-status told = grind (arith, ints, nat_tests, refused-status)
+
 step-status : (day : ℕ) (firm : Firm) (k : Kind) → HasItsStatus (kind_step day firm k).reply
 step-status day firm (OfMatter m caller ask) =
     let a = asked_on day caller ask in replied-status (refusal (of m firm) a) m (of m firm) a
 step-status day firm (OfItems refused items) = import-status refused (counts_after day firm items none_counted)
 step-status day firm (Dismisses caller line) = dismiss-status (dismiss_refusal caller line firm)
 step-status day firm (OnlyTold text) = text-status (text day firm)
+step-status day firm (OnlyShown json) = json-status (json day firm)
 step-status day firm (NotRead named r) = refused-status r
 
 pub returns : goal.returns

@@ -17,4 +17,4 @@ returns-then-not-is_allowed c =
 pub returns : goal.returns
 returns c =
     let rule : c.match-ask.rule ≡ rule_of c.args.ask.now = search rules in
-    first_of (search rules, grind (arith, common_steps))
+    first_of (search rules, grind (arith, ints, nat_tests, is-known, was_purged, kept_facts, not, allows, in-Cashier-caller), grind (arith, common_steps))

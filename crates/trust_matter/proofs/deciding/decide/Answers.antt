@@ -2,7 +2,7 @@ use Rattle.trust_matter.proofs.Names.{AnswersBy, Edit, HasAmount, IfOk, IsMade, 
 use Rattle.trust_matter.proofs.Decided.{DecidesAll, decided-made, decided-refused}
 use Rattle.trust_matter.proofs.Late.{early-refused, gives-asked, handed-up}
 use Rattle.trust_matter.proofs.StepForms.{asked}
-use Rattle.trust_matter.proofs.deciding.decide.Goals.{Joined-ask-2, in-OpenMatter, in-AddSeat, in-DropSeat, in-Deposit, in-CancelDeposit, in-Propose-ask, in-Approve, in-Decline, in-VoidPayment, in-EarnFee, in-RaiseClaim-ask, in-Offer, in-Accept, in-Award, in-CloseMatter, in-Purge, in-ShowEntry, in-Show, in-Accounting}
+use Rattle.trust_matter.proofs.deciding.decide.Goals.{Joined-ask-2, in-OpenMatter, in-AddSeat, in-DropSeat, in-Deposit, in-CancelDeposit, in-Propose-ask, in-Approve, in-Decline, in-Withdraw, in-VoidPayment, in-EarnFee, in-RaiseClaim-ask, in-Offer, in-Accept, in-Award, in-CloseMatter, in-Purge, in-ShowEntry, in-Show, in-ShowEntries, in-Accounting, in-Account}
 use Rattle.trust_matter.proofs.deciding.decide.Goals as goal
 
 -- what is decided of the ask, whatever it is, and that its amount is one
@@ -16,6 +16,7 @@ given c = elim c.match-ask-2.branch [
   | in-Propose-ask w ↦ gives-asked c.args.matter.now c.args.caller.now c.args.ask.now _ c.args.day _ _ w.in-Propose-ask.is w.decided-is c.in_ok-check_caller.ensures w.decide_propose-decided.ensures.amount w.decide_propose-decided.ensures.answer
   | in-Approve w ↦ gives-asked c.args.matter.now c.args.caller.now c.args.ask.now _ c.args.day _ _ w.in-Approve.is w.decided-is c.in_ok-check_caller.ensures tt w.decide_approve-decided.ensures
   | in-Decline w ↦ gives-asked c.args.matter.now c.args.caller.now c.args.ask.now _ c.args.day _ _ w.in-Decline.is w.decided-is c.in_ok-check_caller.ensures tt w.decide_decline-decided.ensures
+  | in-Withdraw w ↦ gives-asked c.args.matter.now c.args.caller.now c.args.ask.now _ c.args.day _ _ w.in-Withdraw.is w.decided-is c.in_ok-check_caller.ensures tt w.decide_withdraw-decided.ensures
   | in-VoidPayment w ↦ gives-asked c.args.matter.now c.args.caller.now c.args.ask.now _ c.args.day _ _ w.in-VoidPayment.is w.decided-is c.in_ok-check_caller.ensures tt w.decide_void-decided.ensures
   | in-EarnFee w ↦ gives-asked c.args.matter.now c.args.caller.now c.args.ask.now _ c.args.day _ _ w.in-EarnFee.is w.decided-is c.in_ok-check_caller.ensures w.decide_fee-decided.ensures.amount w.decide_fee-decided.ensures.answer
   | in-RaiseClaim-ask w ↦ gives-asked c.args.matter.now c.args.caller.now c.args.ask.now _ c.args.day _ _ w.in-RaiseClaim-ask.is w.decided-is c.in_ok-check_caller.ensures w.decide_claim-decided.ensures.amount w.decide_claim-decided.ensures.answer
@@ -26,7 +27,9 @@ given c = elim c.match-ask-2.branch [
   | in-Purge w ↦ gives-asked c.args.matter.now c.args.caller.now c.args.ask.now _ c.args.day _ _ w.in-Purge.is w.decided-is c.in_ok-check_caller.ensures tt w.decide_purge-decided.ensures
   | in-ShowEntry w ↦ gives-asked c.args.matter.now c.args.caller.now c.args.ask.now _ c.args.day _ _ w.in-ShowEntry.is w.decided-is c.in_ok-check_caller.ensures tt w.decide_show_entry-decided.ensures
   | in-Show w ↦ gives-asked c.args.matter.now c.args.caller.now c.args.ask.now _ c.args.day _ _ w.in-Show.is w.decided-is c.in_ok-check_caller.ensures tt (λ c'. (refl, refl))
+  | in-ShowEntries w ↦ gives-asked c.args.matter.now c.args.caller.now c.args.ask.now _ c.args.day _ _ w.in-ShowEntries.is w.decided-is c.in_ok-check_caller.ensures tt (λ c'. (refl, refl))
   | in-Accounting w ↦ gives-asked c.args.matter.now c.args.caller.now c.args.ask.now _ c.args.day _ _ w.in-Accounting.is w.decided-is c.in_ok-check_caller.ensures tt (λ c'. (refl, refl))
+  | in-Account w ↦ gives-asked c.args.matter.now c.args.caller.now c.args.ask.now _ c.args.day _ _ w.in-Account.is w.decided-is c.in_ok-check_caller.ensures tt (λ c'. (refl, refl))
 ]
 
 pub returns-in_err-check_caller-clause-decided : goal.returns-in_err-check_caller-clause-decided

@@ -1,0 +1,4 @@
+pub mod Own
+pub mod OneRead
+pub mod Tokens
+pub mod Trial
