@@ -1,5 +1,6 @@
 // Amounts are texts, as the desk writes them: `18000.00`. They are compared as whole cents (BigInt), never as numbers
-// with a point. Each sum is one that the desk told, but for those in the picture of a matter's ledger.
+// with a point. Each sum is one that the desk told, but for those in the picture of a matter's ledger, of what is held
+// together, and of what else is proposed from a fund.
 
 export const cents = (amount) => BigInt(amount.replace('.', ''));
 

@@ -68,7 +68,7 @@ function bookedBox(ask, answer) {
 // Somebody took the number: that entry is shown, since it may be the same thing, and the next number is offered.
 async function otherEntry(page, ask, next, place) {
     page.say('Reading');
-    const there = await page.desk.read(entryPath(ask.matter, ask.entry));
+    const there = await page.desk.readToTheEnd(entryPath(ask.matter, ask.entry));
     page.say('');
     return [
         there.isDone && [p(`Entry ${ask.entry} is:`), entryFacts(there.body)],

@@ -1,30 +1,32 @@
-// What waits for the bank: each held deposit and each issued payment of the firm. It is read from the cards of all open
-// matters, since the desk has no list of it.
+// What waits for the bank: each held deposit and each issued payment of the firm. The desk has no list of it, so it is
+// asked for the entries of those matters that have some.
 
-import { readCard } from './card.js';
-import { cardPath } from './desk.js';
-import { readTrial } from './reports.js';
+import { entriesPath } from './desk.js';
+import { readMatters, readWaiting, unshownIn } from './lists.js';
+import { textsOf } from './words.js';
 
 const isAtBank = ({ state }) => state === 'held' || state === 'issued';
 
 // An entry with what the bank's line of it has to have. A payment leaves the account.
-const waitingOf = (card) => card.entries.filter(isAtBank).map(({ entry, kind, day, issued, amount, texts }) => ({
-    matter: card.matter,
-    entry,
-    reference: `M${card.matter}-${entry}`,
-    client: card.client,
-    kind,
-    day: issued ?? day,
-    amount: kind === 'payment' ? `-${amount}` : amount,
-    words: texts,
+const atBankOf = ({ matter, client }, entries) => entries.filter(isAtBank).map((each) => ({
+    matter,
+    entry: each.entry,
+    reference: `M${matter}-${each.entry}`,
+    client,
+    kind: each.kind,
+    day: each.issued ?? each.day,
+    amount: each.kind === 'payment' ? `-${each.amount}` : each.amount,
+    words: textsOf(each),
 }));
 
-export const waitingIn = (cards) => cards.flatMap(waitingOf);
+// All of it in these matters.
+export async function readUnshown(page, matters) {
+    const found = await Promise.all(matters.map(async (each) =>
+        atBankOf(each, (await page.desk.get(entriesPath(each.matter))).body.entries)));
+    return found.flat();
+}
 
-// All of it, and the sum of the firm's own money.
 export async function readAtBank(page) {
-    const trial = readTrial((await page.desk.get('/firm/trial-balance')).text);
-    const cards = await Promise.all(trial.matters.map(async ({ matter }) =>
-        readCard((await page.desk.get(cardPath(matter))).text)));
-    return { own: trial.firm, entries: waitingIn(cards) };
+    const [matters, waiting] = await Promise.all([readMatters(page), readWaiting(page)]);
+    return readUnshown(page, unshownIn(matters, waiting).matters);
 }

@@ -22,9 +22,9 @@ function movementsOf({ kind, day, amount, issued, undone }) {
     return moved.filter(([when]) => when);
 }
 
-// A matter's, by the movements of its entries. They are added up here, so the end has to be what the card itself tells,
-// TOTAL and HELD; else there are no points.
-export function balanceOfCard({ entries, balances }) {
+// A matter's, by the movements of its entries. They are added up here, so the end has to be the ledger that the desk
+// tells; else there are no points.
+export function balanceOfMatter(matter, entries) {
     const movements = entries.flatMap(movementsOf).sort(([one], [other]) => (one < other ? -1 : Number(one > other)));
     const points = new Map();
     let sum = 0n;
@@ -32,17 +32,17 @@ export function balanceOfCard({ entries, balances }) {
         sum += moved;
         points.set(day, sum);
     }
-    if (sum !== cents(balances.total) + cents(balances.held)) return [];
+    if (sum !== cents(matter.total) + cents(matter.held)) return [];
     return [...points].map(([day, at]) => ({ day, sum: at }));
 }
 
 // What each entry moved in its matter's ledger, held deposits included, and the ledger with it and those before it; by
 // the entries' numbers. One that moved nothing, or was undone, is not among them.
-export function movedBy(card) {
+export function movedBy(matter, entries) {
     const found = new Map();
-    if (!balanceOfCard(card).length) return found;
+    if (!balanceOfMatter(matter, entries).length) return found;
     let sum = 0n;
-    for (const each of card.entries) {
+    for (const each of entries) {
         const moved = movementsOf(each).reduce((all, [, part]) => all + part, 0n);
         sum += moved;
         if (moved !== 0n) found.set(each.entry, { moved: amountOf(moved), sum: amountOf(sum) });

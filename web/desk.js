@@ -11,6 +11,9 @@ export class Refused extends Error {
     }
 }
 
+// What is answered to a view that was left: what waits for it is forgotten.
+const never = () => new Promise(() => {});
+
 // Lets so many go at a time, in the order in which they came.
 class Turns {
     constructor(free) {
@@ -50,10 +53,10 @@ const NO_ANSWER =
     { status: 0, isDone: false, isUnknown: true, person: null, body: null, text: '', bytes: new Uint8Array() };
 
 // An address that was opened with a password in it can't be a base for paths, hence the origin.
-async function ask(method, path, body) {
+async function ask(method, path, body, signal) {
     try {
         const headers = body === undefined ? {} : { 'content-type': 'text/plain' };
-        const options = { method, body, headers, cache: 'no-store', redirect: 'error' };
+        const options = { method, body, headers, signal, cache: 'no-store', redirect: 'error' };
         const reply = await fetch(location.origin + path, options);
         return answerOf(reply, new Uint8Array(await reply.arrayBuffer()));
     } catch {
@@ -75,13 +78,27 @@ export class Desk {
         this.person = person;
         this.day = null; // the business day, once an answer has told it
         this.turns = new Turns(AT_ONCE);
+        this.view = new AbortController(); // of the view that is read or shown now
     }
 
-    // What is read; asked twice where no answer came.
+    // The view is left: what it still reads is asked no more, and waits for no turn.
+    leave() {
+        this.view.abort();
+        this.view = new AbortController();
+    }
+
+    // What a view reads. Once the view is left nobody waits for the answer, and none comes.
     async read(path) {
-        const answer = await this.inTurn('GET', path);
+        const { signal } = this.view;
+        const answer = await this.readToTheEnd(path, signal);
+        return signal.aborted ? never() : answer;
+    }
+
+    // What is read whether a view is left or not; asked twice where no answer came.
+    async readToTheEnd(path, signal = undefined) {
+        const answer = await this.inTurn('GET', path, undefined, signal);
         if (answer.person && answer.person !== this.person) location.reload();
-        return answer.status === 0 ? this.inTurn('GET', path) : answer;
+        return answer.status === 0 ? this.inTurn('GET', path, undefined, signal) : answer;
     }
 
     // What a view needs: the answer, or the view is the refusal.
@@ -99,10 +116,10 @@ export class Desk {
         return this.inTurn('POST', path, body);
     }
 
-    async inTurn(method, path, body) {
+    async inTurn(method, path, body, signal = undefined) {
         await this.turns.take();
         try {
-            return await ask(method, path, body);
+            return signal?.aborted ? NO_ANSWER : await ask(method, path, body, signal);
         } finally {
             this.turns.give();
         }
@@ -111,4 +128,6 @@ export class Desk {
 
 export const matterPath = (matter) => `/matters/${matter}`;
 export const cardPath = (matter) => `/matters/${matter}/accounting`;
+export const accountPath = (matter, from, to) => `/matters/${matter}/accounting/${from}/${to}`;
+export const entriesPath = (matter) => `/matters/${matter}/entries`;
 export const entryPath = (matter, entry) => `/matters/${matter}/entries/${entry}`;

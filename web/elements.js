@@ -12,7 +12,7 @@ const DRAWN = new Set([
     'class', 'viewBox', 'preserveAspectRatio', 'x', 'y', 'x1', 'y1', 'x2', 'y2', 'dy', 'width', 'height', 'd',
     'text-anchor', 'aria-hidden',
 ]);
-const EVENTS = new Set(['click', 'submit', 'change', 'input', 'drop', 'dragover']);
+const EVENTS = new Set(['click', 'submit', 'change', 'input', 'toggle', 'drop', 'dragover']);
 
 const isThere = (part) => part !== null && part !== undefined && part !== false;
 

@@ -1,22 +1,21 @@
-// The bank's lines that match nothing, as the desk lists them.
+// The bank's lines that match nothing, each with why, as the desk lists them; and such a line as a report prints it.
 
-// A line as the list prints it. Where a reference has a space nobody can say where it ends: such a line is not read.
+// A line as it is printed. Where a reference has a space nobody can say where it ends: such a line is not read.
 const LINE = /^(\d{4}-\d\d-\d\d) (\S+) (\S+) (-?\d+\.\d\d) (.*)$/su;
 
 // An empty field is printed so.
 const fieldOf = (printed) => (printed === '-' ? '' : printed);
 
-function readLine(whole) {
+// The fields of a printed line; null where it can't be taken apart.
+export function readPrinted(whole) {
     const found = LINE.exec(whole);
-    if (!found) return { whole, fields: null };
+    if (!found) return null;
     const [date, reference, bankRef, amount, text] = found.slice(1);
-    const fields =
-        { date, reference: fieldOf(reference), bank_ref: fieldOf(bankRef), amount, text: fieldOf(text) };
-    return { whole, fields };
+    return { date, reference: fieldOf(reference), bank_ref: fieldOf(bankRef), amount, text: fieldOf(text) };
 }
 
-// Each line whole, with its fields where they can be read. Lines are split by the line feed alone.
-export const readExceptions = (text) => text.trimEnd().split('\n').slice(1).map(readLine);
+// All of them in their order: each has its fields, and its `reason`.
+export const askExceptions = (page) => page.desk.read('/firm/exceptions/reasons');
 
 export const isEntry = (reference) => /^M\d{6}-\d{4}$/.test(reference);
 
@@ -25,12 +24,15 @@ export const movementOf = ({ date, bank_ref: number }) => JSON.stringify([date, 
 
 // The lines that are exceptions, by their movements; none where the desk does not tell.
 export async function readByMovement(page) {
-    const answer = await page.desk.read('/firm/exceptions');
+    const answer = await askExceptions(page);
     const byMovement = new Map();
-    for (const { fields } of answer.isDone ? readExceptions(answer.text) : []) {
-        if (!fields) continue;
-        const key = movementOf(fields);
-        byMovement.set(key, [...(byMovement.get(key) ?? []), fields]);
+    for (const each of answer.isDone ? answer.body.exceptions : []) {
+        const key = movementOf(each);
+        byMovement.set(key, [...(byMovement.get(key) ?? []), each]);
     }
     return byMovement;
 }
+
+// The line alone, as it is sent to be dismissed.
+export const fieldsOf = ({ date, reference, bank_ref: number, amount, text }) =>
+    ({ date, reference, bank_ref: number, amount, text });

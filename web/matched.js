@@ -93,18 +93,6 @@ const recordOf = ({ date, reference, bank_ref: number, amount, text }) =>
 
 const bodyOf = (fields) => new TextEncoder().encode([NAMES.join(','), ...fields.map(recordOf)].join('\n'));
 
-const wholeLines = (fields) => fields.map((each) => ({ ...each, isWhole: true }));
-
-// What the desk tells of each of these lines: null for all where it does not, empty for one that would be applied or
-// that is the firm's own.
-export async function reasonsOf(page, fields) {
-    const answer = await page.desk.post(UNMATCHED, bodyOf(fields));
-    if (!answer.isDone) return fields.map(() => null);
-    const lines = wholeLines(fields);
-    const reasons = new Map(readLeft(answer.text, lines).told.map(({ line, reason }) => [line, reason]));
-    return lines.map((line) => reasons.get(line) ?? '');
-}
-
 const lineKey = ({ date, bank_ref: number, amount }) => JSON.stringify([date, number, amount]);
 
 // A file of these lines without their references, in which each stands once.

@@ -24,6 +24,8 @@ export function readDay(typed) {
     return /^2[01]\d\d-\d\d-\d\d$/.test(text) ? text : null;
 }
 
+const FIRST_DAY = '2000-01-01'; // of the desk's calendar
+
 // The number of the entry behind so many.
 export const entryAfter = (count) => String(count + 1).padStart(4, '0');
 
@@ -38,6 +40,19 @@ export function dayBefore(day) {
     date.setUTCDate(date.getUTCDate() - 1);
     return date.toISOString().slice(0, 10);
 }
+
+const dayNumber = (day) => Date.parse(`${day}T00:00:00Z`) / 86400000;
+export const daysBetween = (one, other) => Math.abs(dayNumber(one) - dayNumber(other));
+
+// The first and the last day of the five years up to a day. No matter that was closed in them can be purged yet.
+export function fiveYearsTo(day) {
+    const [year, month, date] = day.split('-').map(Number);
+    const from = new Date(Date.UTC(year - 5, month - 1, date)).toISOString().slice(0, 10);
+    return [from > FIRST_DAY ? from : FIRST_DAY, day];
+}
+
+// Today by the browser's clock.
+export const clockDay = () => new Intl.DateTimeFormat('sv-SE').format(new Date());
 
 const codePoint = (letter) => letter.codePointAt(0).toString(16).toUpperCase().padStart(4, '0');
 

@@ -5,6 +5,7 @@ import { failedBox, refusedBox } from './boxes.js';
 import { Desk, Refused, askFirm, askWho } from './desk.js';
 import { button, el, label, link, p } from './elements.js';
 import { Shelf } from './shelf.js';
+import { account } from './views/account.js';
 import { clients } from './views/clients.js';
 import { showEntry } from './views/entry.js';
 import { showCard, showMatter } from './views/matter.js';
@@ -34,6 +35,7 @@ const VIEWS = [
     [/^#\/m\/(\d{6})$/, showMatter],
     [/^#\/m\/(\d{1,5})$/, showShort],
     [/^#\/m\/(\d{6})\/card$/, showCard],
+    [/^#\/m\/(\d{6})\/account(?:\/(\d{4}-\d\d-\d\d)\/(\d{4}-\d\d-\d\d))?$/, account],
     [/^#\/m\/(\d{6})\/seats$/, seats],
     [/^#\/m\/(\d{6})\/e\/(\d{4})$/, showEntry],
     [/^#\/m\/(\d{6})\/(deposit|propose|fee|claim|dispute)(?:\/(fee|claim)\/(\d{4}))?$/, newEntry],
@@ -82,13 +84,14 @@ class Page {
         else location.hash = address;
     }
 
-    // A view that was left while it was read is not drawn.
+    // A view that was left while it was read is not drawn, and reads no more.
     async draw() {
         this.draws += 1;
         const mine = this.draws;
         const isStill = () => mine === this.draws;
+        this.desk.leave();
         byId('main').setAttribute('aria-busy', 'true');
-        const late = setTimeout(() => this.say('Reading'), 400);
+        const late = setTimeout(() => isStill() && this.say('Reading'), 400);
         const view = await this.viewOf(location.hash);
         clearTimeout(late);
         if (!isStill()) return;

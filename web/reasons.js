@@ -1,10 +1,12 @@
-// What to do with a line of the bank's that has to be looked at, by the words with which the desk's reason begins. What
-// stands behind them may have a client's name in it.
+// Why a line of the bank's is an exception, and what to do with one that has to be looked at.
+
+import { money } from './elements.js';
 
 const LOOK = "Look at the slip, the check or the bank's own list";
 const ONCE = "The bank shows an entry once. Compare these lines with the bank's own list.";
 const MISSING = "Book what is missing and match again, or type FIRM if it is the firm's own money.";
 
+// By the words with which the desk's reason begins. What stands behind them may have a client's name in it.
 const ADVICE = [
     [/^no line of a statement/, "Compare it with the bank's own list, and mend it in the file."],
     [/^dated after /, 'Match it again on that day or later.'],
@@ -40,3 +42,26 @@ const ADVICE = [
 
 // Empty for a reason that the page does not know.
 export const adviceOn = (reason) => ADVICE.find(([form]) => form.test(reason))?.[1] ?? '';
+
+// Of each name that the desk's reason of an exception has (docs/HTTP.md) the words, given the reason and the line.
+const EXCEPTIONS = {
+    Applies: () => 'it would be applied now; import the same file again',
+    Repeat: () => 'the book has it already; import the same file again, and it is no exception any more',
+    Stray: (reason, { reference }) => (reference ? 'its reference names no entry' : 'it has no reference'),
+    Future: () => 'it is dated after the business day',
+    NoMatter: () => 'the book has no matter of its reference',
+    NoEntry: () => 'the book has no entry of its reference',
+    WrongKind: ({ kind }) => `its reference is that of a ${kind}, which no line of the bank clears`,
+    WrongState: ({ state }) => `its reference is that of an entry that is ${state}`,
+    WrongAmount: ({ amount }) => ['its reference is that of an entry of another amount, ', money(amount)],
+    Uncovered: ({ available }) =>
+        ['it takes a deposit back, and only ', money(available), ' is available in the matter'],
+    Zero: () => 'an amount of 0.00 moves nothing',
+    Beyond: ({ balance }) =>
+        ['the firm\u2019s own money is ', money(balance), ', and would not stay from 0.00 to 500.00 with it'],
+    OtherBalance: ({ kept }) => ['another balance of its kind and day is kept, ', money(kept)],
+};
+
+// A name that the page does not know is shown itself.
+export const whyException = (line) => (Object.hasOwn(EXCEPTIONS, line.reason.name)
+    ? EXCEPTIONS[line.reason.name](line.reason, line) : line.reason.name);

@@ -16,6 +16,7 @@ const VERBS = {
     deposit: { fields: ['amount', 'source', 'description'], path: ofEntry('deposit') },
     cancel: { fields: [], path: ofEntry('cancel') },
     propose: { fields: ['amount', 'from', 'of', 'payee', 'purpose', 'instrument'], path: ofEntry('propose') },
+    withdraw: { fields: [], path: ofEntry('withdraw') },
     claim: { fields: ['amount', 'claimant', 'reason'], path: ofEntry('claim'), more: { on: 'general' } },
     award: { fields: ['to_client'], path: ofEntry('award') },
     entry: { fields: [], path: ({ matter, entry }) => entryPath(matter, entry), isRead: true },
@@ -25,7 +26,7 @@ const VERBS = {
 const WITHOUT_ENTRY = new Set(['open', 'seat', 'drop', 'close', 'purge', 'show', 'dismiss']);
 
 // What can't be taken back.
-export const UNDONE_BY_NOTHING = new Set(['drop', 'close', 'purge', 'cancel', 'award', 'dismiss']);
+export const UNDONE_BY_NOTHING = new Set(['drop', 'close', 'purge', 'cancel', 'withdraw', 'award', 'dismiss']);
 
 const isUtf8 = (value) => !wordsOf(value).includes('\ufffd');
 

@@ -30,7 +30,7 @@ const RULES = {
     read: 'Access to the matter is needed to read it.',
     dispute: 'Only a client of the matter disputes a fee or accepts an offer.',
     claim: 'Only a lawyer of the matter or the cashier holds a part of the general fund for a claim.',
-    propose: 'Only a lawyer of the matter or the cashier proposes a payment.',
+    propose: 'Only a lawyer of the matter or the cashier proposes a payment, or withdraws it.',
     sign: 'Only a lawyer of the matter approves, declines and voids payments, earns fees and makes offers.',
     office: 'Only the cashier does that.',
     firm: "Only the cashier reads the firm's reports and imports statements.",

@@ -42,11 +42,6 @@ export const readBreaks = (text) => linesOf(text)
     .map((line) => /^OPENING (\S+) (-?\d+\.\d\d) AFTER (\S+) (-?\d+\.\d\d)$/.exec(line)).filter(Boolean)
     .map(([, day, opening, before, closing]) => ({ day, opening, before, closing }));
 
-// What a reconciliation lists of the entries that the bank has not shown.
-export const readUnshown = (text) => linesOf(text)
-    .map((line) => /^(TRANSIT|OUT) M(\d{6})-(\d{4}) (\S+) (-?\d+\.\d\d)$/.exec(line)).filter(Boolean)
-    .map(([, list, matter, entry, day, amount]) => ({ list, matter, entry, day, amount }));
-
 // The lines of a reconciliation that no other part of the packet has.
 export const readRemarks = (text) => linesOf(text).slice(11).filter((line) => !/^(TRANSIT|OUT|OPENING) /.test(line))
     .map((line) => {
@@ -77,6 +72,20 @@ export function readMovements(text) {
         } else movements.push(readMovement(line));
     }
     return lists;
+}
+
+const BALANCED = /^(\d{4}-\d\d-\d\d) (M\d{6}-\d{4}) (-?\d+\.\d\d) (-?\d+\.\d\d) ([A-Z]+)$/;
+
+// A statement of account: its first sum, each movement with the ledger behind it, and its last sum.
+export function readAccount(text) {
+    const [, , opening, ...lines] = linesOf(text);
+    const sumOf = (line) => SUM.exec(line)[2];
+    const movements = lines.slice(0, -1).map((line) => {
+        const bar = line.indexOf(' | ');
+        const [, day, reference, amount, sum, kind] = BALANCED.exec(line.slice(0, bar));
+        return { day, reference, amount, sum, kind, words: line.slice(bar + 3) };
+    });
+    return { opening: sumOf(opening), movements, closing: sumOf(lines.at(-1)) };
 }
 
 // The reports of a packet by the names in their first lines.

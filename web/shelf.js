@@ -1,9 +1,7 @@
-// What the browser keeps for a person: numbers of matters that were looked at, the days of the last statements, asks
-// that were not answered, a bank's file that is not imported yet, and which columns a bank's CSV has. Nothing else
-// stays.
+// What the browser keeps for a person: the days of the last statements, asks that were not answered, a bank's file that
+// is not imported yet, and which columns a bank's CSV has. Nothing else stays.
 
 export const ASKS = 'asks';
-export const MATTERS = 'matters';
 export const STATEMENT = 'statement';
 export const FILE = 'file';
 export const TYPED = 'typed';
@@ -11,10 +9,14 @@ export const PARTS = 'parts';
 export const LEFT = 'left';
 export const COLUMNS = 'columns';
 
+// What an earlier page kept: numbers of matters, of which the desk has a list by now.
+const OLD = 'matters';
+
 export class Shelf {
     constructor(person) {
         this.person = person;
         this.unkept = new Map(); // what the browser did not take: it lasts as long as the page is open
+        this.write(OLD, []);
     }
 
     read(name) {

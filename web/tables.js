@@ -29,6 +29,35 @@ export function table(caption, columns, rows, foot = null) {
         foot && el('tfoot', { role: 'rowgroup' }, rowOf([{ ...columns[0], name: '' }, ...columns.slice(1)], foot)));
 }
 
+// So many rows are drawn first where a list may have thousands.
+const STEP = 100;
+
+// A list as a table that draws its next rows as its end comes into view, in few steps, since all of it is laid out anew
+// each time; or all of them when asked for.
+export function growingTable({ caption, columns, items, cells }) {
+    if (!items.length) return null;
+    let count = 0;
+    const made = table(caption, columns, [[]]);
+    const [body] = made.tBodies;
+    const end = p(button(`Show all ${items.length}`, () => grow(items.length)));
+    const watch = new IntersectionObserver((seen) => {
+        if (seen.some(({ isIntersecting }) => isIntersecting)) grow(10 * count);
+    }, { rootMargin: '600px' });
+    function grow(to) {
+        const more = items.slice(count, to).map((each) => rowOf(columns, cells(each)));
+        if (count === 0) body.replaceChildren(...more);
+        else body.append(...more);
+        count += more.length;
+        made.caption.textContent = `${caption}: ${count < items.length ? `${count} of ` : ''}${items.length}`;
+        watch.disconnect(); // and watched anew, since the end may be in view still
+        if (count < items.length) watch.observe(end);
+        else end.remove();
+    }
+    const whole = el('div', { class: 'grown' }, made, end);
+    grow(STEP);
+    return whole;
+}
+
 // A table that shows so many of its rows, and all of them when asked for. Ten thousand take a browser seconds to draw.
 export function longTable({ caption, columns, items, cells, first, foot = null }) {
     if (!items.length && !foot) return null;

@@ -9,7 +9,7 @@ export const STATES = {
     cancelled: ['cancelled', 'cancelled'],
     returned: ['returned', 'returned by the bank'],
     proposed: ['waits for a lawyer', 'waits for a lawyer'],
-    declined: ['declined', 'declined'],
+    declined: ['declined', 'declined by a lawyer, or withdrawn'],
     issued: ['issued', 'issued: the bank has not shown it yet'],
     voided: ['voided', 'voided'],
     earned: ['earned', 'earned'],
@@ -40,8 +40,15 @@ export const BALANCES = [
 export const fundOf = ({ from, on, of }) =>
     ({ general: 'the general fund', fee: `fee ${of}`, claim: `claim ${of}` })[from ?? on];
 
-// The same, as a card tells it.
-export const fundWords = (fund) => (fund === 'general' ? 'the general fund' : fund);
+const TEXTS = {
+    deposit: ({ source, description }) => [source, description],
+    payment: ({ payee, purpose, instrument }) => [payee, purpose, instrument],
+    fee: ({ description }) => [description],
+    claim: ({ claimant, reason }) => [claimant, reason],
+};
+
+// What somebody typed of an entry, in a line.
+export const textsOf = (entry) => TEXTS[entry.kind](entry).filter(Boolean).join(' | ');
 
 // What the words of cards and reports mean.
 const MEANS = {

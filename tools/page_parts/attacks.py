@@ -119,7 +119,7 @@ def try_pages(firm: Firm, folder: pathlib.Path, site: OtherSite, checks: Checks)
             if page == "frame":
                 browser.web.switch_to.frame(0)
                 framed = browser.run("return document.body ? document.body.innerText : ''")
-                checks.so(f"{variant}: nothing is framed", "Your first matter" not in framed, framed)
+                checks.so(f"{variant}: nothing is framed", "My matters" not in framed, framed)
             browser.quit()
         matter = json.loads(firm.desk.ask("cashier", "GET", "/matters/000001")[1])
         entry = json.loads(firm.desk.ask("cashier", "GET", "/matters/000001/entries/0001")[1])

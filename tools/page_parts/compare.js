@@ -1,25 +1,34 @@
-// Reads a matter's card by the page's own module, and each of its entries, and hands both over.
+// What the page makes of a matter by its own modules, beside what the desk lists of it.
 
 async function told(path) {
     const reply = await fetch(path);
     return reply.headers.get('content-type') === 'application/json' ? reply.json() : reply.text();
 }
 
-// Where the card is in doubt of a deposit, the page asks its entry.
-function settle(card, entries) {
-    for (const each of card.entries.filter(({ isDoubtful }) => isDoubtful)) {
-        const { state, undone } = entries[Number(each.entry) - 1];
-        Object.assign(each, { state, undone: undone ?? undefined });
-    }
-}
+const LONG = '2000-01-01/2199-12-31';
 
 async function compare(matter) {
-    const { readCard } = await import('/page/card.js');
-    const { balanceOfCard } = await import('/page/balance.js');
-    const card = readCard(await told(`/matters/${matter}/accounting`));
-    const entries = [];
-    for (const { entry } of card.entries) entries.push(await told(`/matters/${matter}/entries/${entry}`));
-    settle(card, entries);
-    const end = balanceOfCard(card).at(-1);
-    return { card, entries, head: await told(`/matters/${matter}`), end: end ? String(end.sum) : null };
+    const { unshownIn, waitingOf } = await import('/page/lists.js');
+    const { balanceOfMatter } = await import('/page/balance.js');
+    const { readAccount } = await import('/page/reports.js');
+    const { textsOf } = await import('/page/words.js');
+    const head = await told(`/matters/${matter}`);
+    const { entries } = await told(`/matters/${matter}/entries`);
+    const alone = [];
+    for (const { entry } of entries) alone.push(await told(`/matters/${matter}/entries/${entry}`));
+    const { matters } = await told('/matters');
+    const { waiting } = await told('/waiting');
+    const end = balanceOfMatter(head, entries).at(-1);
+    return {
+        head,
+        entries,
+        alone,
+        listed: matters.find((each) => each.matter === matter),
+        waiting: waiting.filter(({ entry }) => entry.matter === matter),
+        own: waitingOf(head, entries),
+        end: end ? String(end.sum) : null,
+        isUnshown: unshownIn(matters, waiting).matters.some((each) => each.matter === matter),
+        account: readAccount(await told(`/matters/${matter}/accounting/${LONG}`)),
+        texts: Object.fromEntries(entries.map((each) => [`M${matter}-${each.entry}`, textsOf(each)])),
+    };
 }

@@ -198,7 +198,7 @@ def take_too_much_for_the_firm(bank: Bank) -> None:
     bank.has("Match nothing (exceptions)\n1", "Lines that found their place\n1")
     bank.checks.same("the box is green", bank.browser.find(".box.done"), [])
     bank.browser.to("#/report/exceptions")
-    bank.has("the firm's own money would be 1,135.50 with it, and stays from 0.00 to 500.00")
+    bank.has("the firm\u2019s own money is 323.00, and would not stay from 0.00 to 500.00 with it")
     bank.put_away()
 
 
@@ -213,13 +213,13 @@ def end_a_loop(bank: Bank) -> None:
     bank.has("Match nothing (exceptions)\n1")
     bank.put_away()
     bank.choose("loop.csv", HEAD + "2026-07-14,,L1,655.00,DEPOSIT\n")
-    bank.has("1 to be looked at.", "It was imported before under M000002-0099", "the book has no deposit or payment",
-             "Entries of its amount that wait for the bank", "M000001-0029")
+    bank.has("1 to be looked at.", "It was imported before under M000002-0099",
+             "the book has no entry of its reference", "Entries of its amount that wait for the bank", "M000001-0029")
     bank.put_away()
     bank.browser.to("#/report/exceptions")
     bank.browser.press("Decide what these lines are")
     bank.has("The exceptions is kept in this browser", "It was imported before under M000002-0099",
-             "It was imported before under FIRM", "would be 1,135.50")
+             "It was imported before under FIRM", "money is 323.00")
     line = next(each for each in bank.browser.find(".left .line") if "655.00" in each.text)
     next(each for each in line.find_elements("css selector", "button") if each.text == "Use this").click()
     other = next(each for each in bank.browser.find(".left .line") if "812.50" in each.text)

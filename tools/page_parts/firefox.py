@@ -158,7 +158,7 @@ class Firefox:
 VIEWS = ("#/", "#/open", "#/statement", "#/records", "#/report/trial-balance", "#/report/journal",
          "#/report/exceptions", "#/report/retention", f"#/reconciliation/{DAY}", f"#/clients/{DAY}", f"#/month/{DAY}",
          f"#/report/receipts/2026-03-01/{DAY}", f"#/report/outstanding/{DAY}", "#/m/000001", "#/m/000001/card",
-         "#/m/000001/propose", "#/m/000001/e/0002", "#/m/000001/seats")
+         "#/m/000001/account/2026-03-01/2026-03-31", "#/m/000001/propose", "#/m/000001/e/0002", "#/m/000001/seats")
 
 
 def look_at_views(browser: Firefox, checks: Checks) -> None:

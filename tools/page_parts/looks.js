@@ -59,9 +59,9 @@ const widthAside = () => Math.max(0, document.documentElement.scrollWidth - docu
 const cutReports = () => [...document.querySelectorAll('.report')]
     .filter(({ scrollWidth, clientWidth }) => scrollWidth > clientWidth).length;
 
-// How many rows the list of matters shows.
+// How many rows of the list of matters are drawn.
 function rowsOfMatters() {
     const tables = [...document.querySelectorAll('table')];
     const list = tables.find(({ caption }) => caption.textContent.startsWith('Matters'));
-    return list.tBodies[0].querySelectorAll('tr:not([hidden])').length;
+    return list ? list.tBodies[0].rows.length : 0;
 }

@@ -230,21 +230,26 @@ SLIPS = HEAD + """2026-03-14,M000030-0001,S1,7.00,DEPOSIT
 
 
 def see_exceptions(bank: Bank) -> None:
-    """Each with its reason, or without where the desk is away meanwhile; one that would be applied now says so."""
+    """Each with its reason, or as printed alone where the desk is away meanwhile; one that would be applied now says
+    so."""
     desk, relay = bank.firm.desk, bank.firm.relay
     desk.ask("cashier", "POST", "/firm/statements", body=SLIPS)
-    why = "the book has no deposit or payment of its reference", "no entry of its amount"
-    relay.fail("POST /firm/statements/unmatched", Fault("closed"))
-    for tell in (bank.lacks, bank.has):
-        bank.browser.to("#/report/exceptions")
-        bank.browser.settle()
-        tell(*why)
-        bank.has("A slip in a file", "Dismiss M000030-0001", "Dismiss the line of 8.00", "by the day sheet alone")
-        bank.lacks("Dismiss A SLIP", "It would be applied now")
+    slips = ("A slip in a file", "Dismiss M000030-0001", "Dismiss the line of 8.00", "Dismiss the line of 9.00",
+             "the book has no matter of its reference", "it has no reference", "its reference names no entry",
+             "the book has no entry of its reference")
+    relay.fail("GET /firm/exceptions/reasons", Fault("closed"))
+    bank.browser.to("#/report/exceptions")
+    bank.browser.settle()
+    bank.has("M000030-0001 S1 7.00", "The desk is not open.")
+    bank.lacks(*slips)
+    bank.browser.to("#/report/exceptions")
+    bank.browser.settle()
+    bank.has(*slips)
+    bank.lacks("it would be applied now")
     desk.ask("cashier", "POST", "/matters/000004/entries/0003/deposit",
              body='{"amount":"13.00","source":"Ada Chen","description":"costs"}')
     bank.browser.to("#/report/exceptions")
-    bank.has("It would be applied now: import the same file again.")
+    bank.has("it would be applied now; import the same file again")
     look(bank.browser, "the exceptions", bank.checks)
     for width in (SMALL, PHONE, NARROW):
         small = Browser("cashier", bank.firm.origin, width)
@@ -254,21 +259,20 @@ def see_exceptions(bank: Bank) -> None:
 
 
 def take_a_slip_back(bank: Bank) -> None:
-    """Exceptions that the bank does not have are dismissed, asked twice; one that can't be read back has no button."""
+    """Exceptions that the bank does not have are dismissed, asked twice, whatever their references are."""
     bank.browser.press("Dismiss M000030-0001")
     bank.has("Only where the bank does not have this line.")
     bank.browser.press("Keep it")
     bank.lacks("Only where the bank does not have this line.")
-    for name in ("Dismiss M000030-0001", "Dismiss the line of 8.00", "Dismiss M000004-0003"):
+    for name in ("Dismiss M000030-0001", "Dismiss the line of 8.00", "Dismiss the line of 9.00",
+                 "Dismiss M000004-0003"):
         bank.browser.press(name)
         bank.browser.press("The bank does not have it: dismiss it")
         bank.has("The line is no exception any more.")
         bank.lacks(name)
     left = bank.firm.desk.ask("cashier", "GET", "/firm/exceptions")[1]
     slips = [slip for slip in ("S1", "S2", "S3", "S4") if f" {slip} " in left]
-    bank.checks.same("the slips that are left", slips, ["S3"])
-    bank.firm.desk.ask("cashier", "POST", "/firm/exceptions/dismiss", body=json.dumps(
-        {"date": "2026-03-14", "reference": "A SLIP", "bank_ref": "S3", "amount": "9.00", "text": "x"}))
+    bank.checks.same("the slips that are left", slips, [])
 
 
 def see_spiteful_words(bank: Bank) -> None:
@@ -316,6 +320,36 @@ def advise(bank: Bank) -> None:
         bank.checks.so(f"the advice on {reason!r} has {words!r}, or is none", is_so, advice)
 
 
+# Reasons of exceptions as the desk has them, and the words for each; a name that the page does not know is shown.
+WHY = (
+    ({"name": "Applies"}, "it would be applied now; import the same file again"),
+    ({"name": "Repeat"}, "the book has it already; import the same file again, and it is no exception any more"),
+    ({"name": "Stray"}, "its reference names no entry"),
+    ({"name": "Future"}, "it is dated after the business day"),
+    ({"name": "NoMatter"}, "the book has no matter of its reference"),
+    ({"name": "NoEntry"}, "the book has no entry of its reference"),
+    ({"name": "WrongKind", "kind": "fee"}, "its reference is that of a fee, which no line of the bank clears"),
+    ({"name": "WrongState", "state": "voided"}, "its reference is that of an entry that is voided"),
+    ({"name": "WrongAmount", "amount": "5000.00"}, "its reference is that of an entry of another amount, 5,000.00"),
+    ({"name": "Uncovered", "available": "430.00"},
+     "it takes a deposit back, and only 430.00 is available in the matter"),
+    ({"name": "Zero"}, "an amount of 0.00 moves nothing"),
+    ({"name": "Beyond", "balance": "10.00"},
+     "the firm\u2019s own money is 10.00, and would not stay from 0.00 to 500.00 with it"),
+    ({"name": "OtherBalance", "kept": "-1000.00"}, "another balance of its kind and day is kept, -1,000.00"),
+    ({"name": "constructor"}, "constructor"),
+)
+
+
+def explain(bank: Bank) -> None:
+    """What the page's own module says of each reason that the desk has for an exception."""
+    script = ("import('/page/reasons.js').then(({ whyException }) => done([whyException(arguments[0])].flat()"
+              ".map((part) => part.textContent ?? part).join('')), String)")
+    for reason, words in WHY:
+        told = bank.browser.wait(script, {"reference": "A SLIP", "reason": reason})
+        bank.checks.same(f"why a line with the reason {reason} is an exception", told, words)
+
+
 def see_long_files(bank: Bank) -> None:
     """A hundred lines are shown, and all when asked for; the front end takes a statement of this length."""
     lines = "".join(f"2026-03-14,,K{at},{at}.25,CARD {'x' * 40}\n" for at in range(1, 1201))
@@ -332,7 +366,8 @@ def see_long_files(bank: Bank) -> None:
 
 
 CHAPTERS = (match_and_import, type_what_is_left, import_what_is_left, change_the_book_meanwhile, name_a_wrong_entry,
-            bring_in_as_it_is, see_exceptions, take_a_slip_back, see_spiteful_words, advise, see_long_files)
+            bring_in_as_it_is, see_exceptions, take_a_slip_back, see_spiteful_words, advise,
+            explain, see_long_files)
 
 # What the page says of an answer to either route, and whether it keeps the file.
 TOO_LARGE = Fault("told", 413, '{"name":"TooLarge","refusal":3}')

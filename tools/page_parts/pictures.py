@@ -20,7 +20,7 @@ Date = class extends Real {{
 DAYS = (
     ("2026-03-30", "messages/17-approve-transcript.http", (
         ("overview.png", "cashier", "#/", WIDTH, 880),
-        ("decision.png", "lee", "#/m/000003/e/0005", WIDTH, 640),
+        ("decision.png", "lee", "#/m/000003/e/0005", WIDTH, 668),
         ("matter-on-a-phone.png", "ada", "#/m/000001", PHONE, 960),
     )),
     ("2026-03-31", "messages/19-accounting.http", (

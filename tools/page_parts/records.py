@@ -11,7 +11,7 @@ from .views import look
 DAY = "2026-03-16"
 SHEET = "".join(f"open,{each:06},,Client {each},lee\ndeposit,{each:06},0001,{each}00.00,Client {each},retainer\n"
                 for each in range(1, 9)) + 'propose,000001,0002,10.00,general,,"Clerk, Court",filing fee,1001\n'
-WRONG = "withdraw,000001,0002\ndeposit,1,0001,5.00,a,b\ndeposit,000001,,5.00,a,b\ndeposit,000001,0001,5.00,a\n"
+WRONG = "refund,000001,0002\ndeposit,1,0001,5.00,a,b\ndeposit,000001,,5.00,a,b\ndeposit,000001,0001,5.00,a\n"
 
 
 def choose(browser: Browser, folder: pathlib.Path, text: str) -> None:
@@ -36,7 +36,7 @@ def play(program: str, folder: pathlib.Path, checks: Checks) -> None:
         browser.press("Look at it")
         has(checks, browser, "Choose a file.")
         choose(browser, folder, WRONG)
-        has(checks, browser, "Nothing of sheet.csv was sent.", "4 of 4 records are none.", "there is no verb withdraw",
+        has(checks, browser, "Nothing of sheet.csv was sent.", "4 of 4 records are none.", "there is no verb refund",
             "1 is no matter: write six digits", "(empty) is no entry", "deposit has 6 fields, and here are 5")
         choose(browser, folder, SHEET)
         has(checks, browser, "sheet.csv has 17 records. Nothing was sent yet.")
@@ -53,6 +53,12 @@ def play(program: str, folder: pathlib.Path, checks: Checks) -> None:
         has(checks, browser, "18 of 18 records were answered, 9 refused.", "409 WrongNumber", "409 AlreadyOpen")
         told = json.loads(firm.desk.ask("cashier", "GET", "/matters/000001")[1])
         checks.same("the entries of a matter that was sent twice", told["entries"], 2)
+        choose(browser, folder, "withdraw,000001,0002\n")
+        has(checks, browser, "1 of them can\u2019t be taken back", "cancel, withdraw, award")
+        browser.press("Send these 1")
+        has(checks, browser, "1 of 1 records were answered, 0 refused.")
+        told = json.loads(firm.desk.ask("cashier", "GET", "/matters/000001/entries/0002")[1])
+        checks.same("the payment that was withdrawn", told["state"], "declined")
         checks.same("the browser's log", browser.faults(), [])
     finally:
         browser.quit()

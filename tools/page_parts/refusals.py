@@ -112,10 +112,15 @@ def tell_statuses(asker: Asker) -> None:
 
 
 def tell_late(asker: Asker) -> None:
-    """The overview is drawn, and a card that it waits for is refused."""
-    asker.firm.relay.fail("GET /matters/000001/accounting", Fault("told", 503, "{}"))
+    """One of the lists of the overview is refused; and what is asked for once somebody wants to see it."""
+    asker.firm.relay.fail("GET /waiting", Fault("told", 503, "{}"))
     asker.browser.to("#/")
-    asker.checks.so("a card that is refused late", "The desk failed." in asker.browser.text(), asker.browser.text())
+    asker.checks.so("a list that is refused", "The desk failed." in asker.browser.text(), asker.browser.text())
+    asker.browser.to("#/")
+    asker.firm.relay.fail("GET /firm/receipts", Fault("told", 503, "{}"))
+    asker.browser.find("#find-entry")[0].send_keys("ada")
+    asker.browser.settle()
+    asker.checks.so("a search that is refused", "The desk failed." in asker.browser.text(), asker.browser.text())
 
 
 def tell_to_persons(firm: Firm, checks: Checks) -> None:
@@ -125,7 +130,6 @@ def tell_to_persons(firm: Firm, checks: Checks) -> None:
     checks.so("a person is told of no matter", "There is no such matter for you." in lee.text(), lee.text())
     lee.quit()
     named = Browser("Lee", firm.origin)
-    named.to("#/m/000001")
     checks.so("a user whose name is no name of a person", "does not take your user name" in named.text(), named.text())
     named.quit()
 

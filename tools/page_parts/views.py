@@ -25,7 +25,8 @@ FORMS = {"cashier": ["deposit", "propose", "claim", "seats"], "lee": ["propose",
 def views_of(person: str, matter: str, entries: range) -> list[str]:
     """All views that the person has, of one matter."""
     at = f"#/m/{matter}"
-    own = [at, f"{at}/card", *(f"{at}/{form}" for form in FORMS[person]), *(f"{at}/e/{each:04}" for each in entries)]
+    own = [at, f"{at}/card", f"{at}/account", f"{at}/account/2026-03-01/2026-03-31",
+           *(f"{at}/{form}" for form in FORMS[person]), *(f"{at}/e/{each:04}" for each in entries)]
     firm = ["#/open", "#/statement", "#/records", *REPORTS] if person == "cashier" else []
     return ["#/", *firm, *own, "#/m/000777", "#/nowhere"]
 
@@ -99,7 +100,11 @@ def read_with_names(firm: Firm, checks: Checks) -> None:
                                         "All ledgers together 6,838.00", "TOTAL                          6838.00")),
             ("#/report/journal", (f"{DAY} FIRM the firm -3.18 6,838.00", "M000001-0002 Ada Chen -435.00")),
             (f"#/reconciliation/{DAY}", ("The bank\u2019s closing balance 5,563.00", "Deposits in transit",
-                                         "Outstanding payments", "Cleo Marsh", "Sunrise Reporting", "| 1007 -650.00")),
+                                         "Outstanding payments", "Sunrise Reporting, LLC",
+                                         "1007 | Cleo Marsh -650.00")),
+            ("#/m/000003/account/2026-03-17/2026-03-31", (
+                "Account of Cleo Marsh, 2026-03-17 to 2026-03-31", "Opening 3,700.00", "Closing 3,850.00",
+                f"{DAY} M000003-0002 returned Dana Marsh | advance on costs -1,200.00 3,850.00")),
             ("#/m/000001", ("5,000.00 5,000.00", "-435.00 4,565.00", "-1,650.00 2,915.00")),
             ("#/m/1", ("Matter 000001, Ada Chen",)),
             ("#/m/000001/propose/fee/0009", ("Nothing is left to be paid of fee 0009.",))):
@@ -169,7 +174,8 @@ def propose_by_keys(firm: Firm, checks: Checks) -> None:
 def print_views(firm: Firm, folder: pathlib.Path, checks: Checks) -> None:
     browser = Browser("cashier", firm.origin)
     for view, words in ((f"#/reconciliation/{DAY}", "ADJUSTED BANK"), (f"#/clients/{DAY}", f"CLIENTS {DAY}"),
-                        ("#/m/000001/card", "LEDGER 000001"), ("#/m/000001", "Clerk of the Superior Court")):
+                        ("#/m/000001/card", "LEDGER 000001"), ("#/m/000001", "Clerk of the Superior Court"),
+                        ("#/m/000003/account/2026-03-17/2026-03-31", "ACCOUNT 000003 Cleo Marsh")):
         browser.to(view)
         sheet = {"preferCSSPageSize": True, "printBackground": False, "paperWidth": 8.5, "paperHeight": 11}
         path = folder / "print.pdf"
@@ -184,30 +190,37 @@ def print_views(firm: Firm, folder: pathlib.Path, checks: Checks) -> None:
 
 
 def find_among_many(firm: Firm, checks: Checks) -> None:
-    """The list of two hundred matters has its sums at once, is filled in, and can be searched."""
+    """The list of two hundred matters is drawn in parts, and all of it can be searched."""
     browser = Browser("cashier", firm.origin)
     browser.to("#/")
+    checks.same("the matters that are drawn first", see(browser, "rowsOfMatters()"), 100)
+    browser.run("scrollTo(0, document.documentElement.scrollHeight)")
+    browser.settle()
     checks.same("the matters in the list", see(browser, "rowsOfMatters()"), 200)
     checks.so("each has its client", "Client 200 of the firm" in browser.text())
     checks.so("a closed one too", f"000201 Zora Quinn {DAY}" in browser.text(), browser.text())
     checks.so("ten payments that wait are shown", "Payments that wait for a lawyer: 10 of 50" in browser.text())
     browser.press("Show all 50")
-    checks.so("and all when asked for", "000200 Client 200 of the firm Court Clerk" in browser.text(), browser.text())
-    for words, count in (("client 17 ", 11), ("0001", 111), ("nobody", 0), ("", 200)):
+    last = f"000200 Client 200 of the firm {DAY} Court Clerk"
+    checks.so("and all when asked for", last in browser.text(), browser.text())
+    for words, count, drawn in (("client 17", 11, 11), ("0001", 111, 100), ("client 200", 1, 1), ("nobody", 0, 0)):
         field = browser.find("#find")[0]
         field.clear()
-        field.send_keys(words or " ")
-        checks.same(f"the matters that have {words!r}", see(browser, "rowsOfMatters()"), count)
+        field.send_keys(words)
+        checks.same(f"the matters that have {words!r}", see(browser, "rowsOfMatters()"), drawn)
+        checks.so(f"how many have {words!r}", f"Found: {count} of 201." in browser.text(), browser.text())
     field = browser.find("#find")[0]
     field.clear()
     field.send_keys("zora")
     closed = [each.text for each in browser.find("tbody tr") if "Zora" in each.text and each.is_displayed()]
     checks.so("a closed matter is found by its client", bool(closed) and see(browser, "rowsOfMatters()") == 0, closed)
-    for words, told in (("1004", "M000004-0011 Client 4 of the firm"), ("court clerk", "Entries found: 10 of 50"),
-                        ("nothing such", "No entry of an open matter has that.")):
+    for words, told in (("1004", f"M000004-0011 {DAY} waits for a lawyer Court Clerk | filing fee | 1004 | Client 4"),
+                        ("court clerk", "Entries found: 10 of 50"), ("advance 7", "Entries found: 10 of 200"),
+                        ("nothing such", "Nothing that was paid in or out, or waits, has that.")):
         field = browser.find("#find-entry")[0]
         field.clear()
         field.send_keys(words)
+        browser.settle()
         checks.so(f"an entry is found by {words!r}", told in browser.text(), browser.text())
     browser.quit()
 

@@ -108,16 +108,13 @@ def approve_too_early(walk: Walk) -> None:
     walk.cashier.press("Propose it")
     walk.has(walk.cashier, "waits for a lawyer", "A lawyer of the matter has to approve it.")
     lee = walk.lee
-    walk.has(lee, "Your first matter")
-    lee.fill(matter="2")
-    lee.press("Look at it")
+    walk.has(lee, "There is no matter to which you have access.")
+    lee.to("#/m/2")
     walk.has(lee, "There is no such matter for you.")
-    lee.fill(matter="1")
-    lee.press("Look at it")
-    walk.checks.same("what lee sees", lee.title(), "Matter 000001, Ada Chen")
-    lee.to("#/m/000003")
-    lee.to("#/")
-    walk.has(lee, "000001", "000003", "Clerk of the Superior Court")
+    lee.open("")
+    walk.has(lee, "My matters", "000001 Ada Chen", "000003 Cleo Marsh", "Clerk of the Superior Court",
+             "435.00 0.00 not enough with 5,000.00 held 0.00")
+    walk.lacks(lee, "Bob Ruiz", "Another matter")
     lee.follow("0002")
     walk.has(lee, "It waits for you", "That is not enough")
     lee.press("Approve 435.00")
@@ -361,6 +358,43 @@ def read_and_close(walk: Walk) -> None:
     walk.has(ada, "There is no such matter for you.")
 
 
+def take_back(walk: Walk) -> None:
+    """What was proposed by mistake is withdrawn, by the cashier or a lawyer."""
+    cashier, lee, ada = walk.cashier, walk.lee, walk.ada
+    for each, check in ((cashier, "1105"), (lee, "1106")):
+        walk.send(each, "#/m/000001/propose", "Propose it", amount="12.00", payee="Court Clerk", purpose="copies",
+                  instrument=check)
+        view = each.run("return location.hash")
+        ada.to(view)
+        walk.has(ada, "waits for a lawyer", "A lawyer of the matter has to approve it.")
+        walk.checks.same("the buttons of the client", ada.find("main button"), [])
+        each.press("Withdraw it")
+        walk.has(each, "Withdrawn: 12.00 to Court Clerk.", "declined by a lawyer, or withdrawn")
+        walk.checks.same("the buttons behind it", each.find("main button"), [])
+    lee.to("#/")
+    walk.lacks(lee, "1105", "1106")
+
+
+def state_the_account(walk: Walk) -> None:
+    """A client's statement of account, by the client; a payment that the bank has long not shown is told."""
+    ada = walk.ada
+    ada.to("#/m/000001")
+    ada.follow("Statement of account")
+    walk.checks.same("the title of the form", ada.title(), "Statement of account, Ada Chen")
+    ada.press("Show the account")
+    walk.has(ada, f"Account of Ada Chen, {DAY} to {DAY}", "ACCOUNT 000001 Ada Chen", "Opening 0.00",
+             f"{DAY} M000001-0001 deposit Ada Chen | advance on fees and costs 5,000.00 5,000.00", "Closing 4,565.00",
+             "Save as text")
+    walk.lacks(ada, "more than 180 days")
+    ada.open("#/m/000001/account/2024-01-01/2024-01-31")  # a page that is loaded anew goes by the browser's clock
+    walk.has(ada, "Payment 0002 of 435.00 to Clerk of the Superior Court was issued on 2024-01-10, more than 180 days "
+             "ago, and the bank has not shown it.", "Closing 4,565.00")
+    ada.to("#/m/000001/account/2024-02-01/2024-01-01")
+    walk.has(ada, "That is no day of the calendar.", "422 BadField")
+    ada.to("#/m/000002/account/2024-01-01/2024-01-31")
+    walk.has(ada, "There is no such matter for you.")
+
+
 def sign_on_as_another(walk: Walk) -> None:
     """One browser, two people: it has one password for the site, so nothing is sent under the other's name."""
     browser = Browser("cashier", walk.firm.origin)
@@ -385,7 +419,8 @@ def lose_a_seat(walk: Walk) -> None:
     walk.cashier.press("Take the access of lee away")
     walk.cashier.press("Take it away")
     walk.lee.to("#/")
-    walk.has(walk.lee, "You have no access any more to 000003.")
+    walk.has(walk.lee, "000001 Ada Chen")
+    walk.lacks(walk.lee, "000003")
     walk.cashier.press("Take the access of sato away")
     walk.cashier.press("Take it away")
     walk.has(walk.cashier, "A matter keeps at least one lawyer.", "409 LastLawyer")
@@ -420,7 +455,8 @@ def tell_doubts(walk: Walk) -> None:
 
 CHAPTERS = (open_matters, book_deposits, approve_too_early, bring_statements, dispute_a_fee, accept_an_offer,
             pay_from_funds, two_at_once, lose_an_answer, find_the_desk_closed, be_answered_late, keep_nothing,
-            write_spiteful_labels, read_and_close, sign_on_as_another, tell_doubts, lose_a_seat)
+            write_spiteful_labels, read_and_close, take_back, state_the_account, sign_on_as_another, tell_doubts,
+            lose_a_seat)
 
 
 def play(program: str, folder: pathlib.Path, checks: Checks) -> None:

@@ -41,26 +41,43 @@ function depositDecision({ entry, role, decisions }) {
 }
 
 const NOT_ENOUGH = 'That is not enough: as it stands, approving is refused.';
+const NEEDS_A_LAWYER = 'A lawyer of the matter has to approve it.';
+const WITHDRAWING = 'Withdraw what was proposed by mistake: it is not paid, and can be proposed anew.';
+
+const paymentWords = ({ amount, payee }) => `${grouped(amount)} to ${shown(payee)}`;
+
+const withdrawing = ({ entry, decisions }) =>
+    decisions.button('withdraw', 'Withdraw it', `Withdrawn: ${paymentWords(entry)}.`);
 
 // A lawyer sees what is left of the fund before approving.
-async function proposedDecision({ page, no, matter, entry, decisions }) {
+async function proposedDecision(asked) {
+    const { page, no, matter, entry, decisions } = asked;
     const drawn = entry.from === 'general' ? null : await page.desk.get(entryPath(no, entry.of));
     const left = drawn ? drawn.body.left : matter.available;
-    const what = `${grouped(entry.amount)} to ${shown(entry.payee)}`;
+    const what = paymentWords(entry);
     return decision('It waits for you',
         p(`Left of ${fundOf(entry)}: `, money(left)),
         isMore(entry.amount, left) && el('p', { class: 'warning' }, NOT_ENOUGH),
         el('div', { class: 'buttons' },
             decisions.button('approve', `Approve ${what}`, `Approved: ${what}.`, ''),
-            decisions.button('decline', 'Decline it', 'Declined.')));
+            decisions.button('decline', 'Decline it', 'Declined.'),
+            withdrawing(asked)),
+        el('p', { class: 'hint' }, WITHDRAWING));
+}
+
+// Whoever may propose a payment may take it back.
+function proposedPayment(asked) {
+    if (asked.role === 'lawyer') return proposedDecision(asked);
+    if (asked.role === 'client') return quiet(NEEDS_A_LAWYER);
+    return decision('It waits for a lawyer', p(NEEDS_A_LAWYER), el('div', { class: 'buttons' }, withdrawing(asked)),
+        el('p', { class: 'hint' }, WITHDRAWING));
 }
 
 function paymentDecision(asked) {
     const { entry, role, decisions } = asked;
-    if (role === 'lawyer' && entry.state === 'proposed') return proposedDecision(asked);
-    if (entry.state === 'proposed') return quiet('A lawyer of the matter has to approve it.');
+    if (entry.state === 'proposed') return proposedPayment(asked);
     if (role !== 'lawyer' || entry.state !== 'issued') return null;
-    const what = `${grouped(entry.amount)} to ${shown(entry.payee)}`;
+    const what = paymentWords(entry);
     return askFirst(`Void the payment of ${what}`, {
         question: `Void the payment of ${what}, ${shown(entry.instrument)}? It can\u2019t be taken back. Have a check `
             + 'that is out stopped by the bank first: a voided one that is cashed all the same matches nothing.',

@@ -7,11 +7,12 @@ import { BankFile } from '../bank-file.js';
 import { doneBox, noteBox, refusedBox } from '../boxes.js';
 import { textOf } from '../csv.js';
 import { button, el, label, money, number, p } from '../elements.js';
-import { isEntry, readExceptions } from '../exceptions.js';
-import { areInBook, openFile, reasonsOf } from '../matched.js';
+import { askExceptions, fieldsOf, isEntry } from '../exceptions.js';
+import { areInBook, openFile } from '../matched.js';
+import { whyException } from '../reasons.js';
 import { FILE } from '../shelf.js';
 import { column, longTable } from '../tables.js';
-import { reasonWords, referenceLink } from './left.js';
+import { referenceLink } from './left.js';
 
 const PATH = '/firm/exceptions/dismiss';
 const HERE = '#/report/exceptions';
@@ -22,14 +23,17 @@ const FIRST = 100;
 // What a line is called on its button.
 const nameOf = ({ reference, amount }) => (isEntry(reference) ? reference : `the line of ${grouped(amount)}`);
 
+const wholeOf = (line) => Object.values(fieldsOf(line)).filter(Boolean).join(' ');
+
 // Asked once more, since it is not undone.
-function confirm(page, { whole, fields, isKnown }, place) {
+function confirm(page, line, place) {
+    const { isKnown } = line;
     const dismiss = () => change(page,
-        { path: PATH, fields, done: 'The line is no exception any more.', then: HERE, place });
+        { path: PATH, fields: fieldsOf(line), done: 'The line is no exception any more.', then: HERE, place });
     const words = isKnown ? '? The book has this line under another reference. Nothing else changes.'
         : '? Only where the bank does not have this line. Nothing else changes.';
     const asked = noteBox(
-        p('Dismiss ', label(whole), words),
+        p('Dismiss ', label(wholeOf(line)), words),
         el('div', { class: 'buttons' },
             button(isKnown ? 'Dismiss it' : 'The bank does not have it: dismiss it', dismiss, ''),
             button('Keep it', () => place.replaceChildren())),
@@ -44,47 +48,35 @@ const COLUMNS = [column('Day', 'tight'), column('Reference', 'tight'), column('A
 const KNOWN = 'The book has this line under another reference: this one can be dismissed.';
 
 // What the bank says, and below it why the line matches nothing.
-const wordsOf = ({ fields, reason, isKnown }) => [
-    label([fields.bank_ref, fields.text].filter(Boolean).join(' | ')),
-    isKnown ? el('p', { class: 'hint' }, KNOWN) : reason && el('p', { class: 'hint' }, reasonWords(reason)),
+const wordsOf = (line) => [
+    label([line.bank_ref, line.text].filter(Boolean).join(' | ')),
+    el('p', { class: 'hint' }, line.isKnown ? KNOWN : whyException(line)),
 ];
 
-const cellsOf = (page, place) => (line) => (line.fields
-    ? [number(line.fields.date), referenceLink(line.fields.reference), money(line.fields.amount), wordsOf(line),
-        button(`Dismiss ${nameOf(line.fields)}`, () => confirm(page, line, place))]
-    : ['', '', '', label(line.whole), 'by the day sheet alone']);
+const cellsOf = (page, place) => (line) => [number(line.date), referenceLink(line.reference), money(line.amount),
+    wordsOf(line), button(`Dismiss ${nameOf(line)}`, () => confirm(page, line, place))];
 
-const APPLIED = 'It would be applied now: import the same file again.';
-
-// Why a line with this reference is an exception: the desk tells no reason of one that would be applied.
-const reasonIn = (told, { reference }) =>
-    (told === '' && (isEntry(reference) || reference === 'FIRM') ? APPLIED : told);
-
-// The lines, with why each that could be read matches nothing, and whether the book has it by another reference.
-async function withReasons(page, lines) {
-    const whole = lines.filter(({ fields }) => fields);
-    if (!whole.length) return lines;
-    const all = whole.map(({ fields }) => fields);
-    const told = await reasonsOf(page, all);
-    const isKnown = await areInBook(page, all);
-    const found = new Map(whole.map((line, i) =>
-        [line, { reason: reasonIn(told[i], line.fields), isKnown: isKnown[i] }]));
-    return lines.map((line) => ({ ...line, ...found.get(line) }));
+// The lines, with whether the book has each by another reference.
+async function withKnown(page, lines) {
+    const isKnown = await areInBook(page, lines);
+    return lines.map((line, i) => ({ ...line, isKnown: isKnown[i] }));
 }
 
 // Takes the lines into the view of the bank's file, without the references that were wrong.
 const deciding = (page, lines) => button('Decide what these lines are', () => {
-    BankFile.taken(page.shelf, 'The exceptions', textOf(openFile(lines.map(({ fields }) => fields))));
+    BankFile.taken(page.shelf, 'The exceptions', textOf(openFile(lines)));
     page.go('#/statement');
 }, '');
 
 // What stands below the list of exceptions: nothing where it has none.
-export async function dismissal(page, text) {
-    const lines = await withReasons(page, readExceptions(text));
+export async function dismissal(page) {
+    const answer = await askExceptions(page);
+    if (!answer.isDone) return refusedBox(answer, page.person);
+    const lines = await withKnown(page, answer.body.exceptions);
     if (!lines.length) return null;
     const place = el('div', {});
     const cells = cellsOf(page, place);
-    const open = lines.filter(({ fields, isKnown }) => fields && !isKnown);
+    const open = lines.filter(({ isKnown }) => !isKnown);
     const [kept] = page.shelf.read(FILE);
     return el('section', { 'aria-labelledby': 'dismissal' },
         el('h2', { id: 'dismissal' }, 'A slip in a file'),
@@ -100,7 +92,8 @@ export async function dismissal(page, text) {
 // there are none.
 export function dismissOffers(page, all) {
     if (!all.length) return null;
-    const offerOf = (fields) => {
+    const offerOf = (line) => {
+        const fields = fieldsOf(line);
         const item = el('li', {});
         const dismiss = async () => {
             page.say('Sending');

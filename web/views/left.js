@@ -31,7 +31,7 @@ const amountOrDay = (part) => (/^-?\d+\.\d\d$/.test(part) ? money(part) : dayOf(
 const PARTS = /(M\d{6}-\d{4}|\d{4}-\d\d-\d\d|(?<=^the firm's own money would be )-?\d+\.\d\d)/u;
 
 // The entries that a reason names can be looked at.
-export const reasonWords = (reason) => reason.split(PARTS).map((part) =>
+const reasonWords = (reason) => reason.split(PARTS).map((part) =>
     (entryAt(part) ? referenceLink(part) : amountOrDay(part)));
 
 const ENTRY_COLUMNS = [column('Reference', 'tight'), column('Client'), column('Day', 'tight'), column('Words'),

@@ -3,18 +3,17 @@
 import { grouped, isNothing } from '../amounts.js';
 import { change } from '../asks.js';
 import { askFirst } from '../boxes.js';
-import { balanceOfCard, movedBy } from '../balance.js';
-import { readCard } from '../card.js';
+import { balanceOfMatter, movedBy } from '../balance.js';
 import { chart } from '../chart.js';
-import { cardPath, entryPath, matterPath } from '../desk.js';
+import { cardPath, entriesPath, matterPath } from '../desk.js';
 import { el, explained, facts, label, link, money, p, printed, quiet, readAgain, sums } from '../elements.js';
 import { form } from '../forms.js';
+import { waitingOf } from '../lists.js';
 import { shown } from '../names.js';
 import { readRetention } from '../reports.js';
-import { MATTERS } from '../shelf.js';
 import { column, longTable } from '../tables.js';
-import { BALANCES, KINDS, meansOf } from '../words.js';
-import { entryLink, stateOf, waitingIn } from './cards.js';
+import { BALANCES, KINDS, meansOf, textsOf } from '../words.js';
+import { entryLink, stateOf, waitingTables } from './lists.js';
 
 const NEWEST = 100;
 
@@ -24,16 +23,11 @@ export const roleIn = (page, matter) =>
 
 export const hasLeft = ({ kind, left }) => kind === 'fee' && !isNothing(left);
 
-// The head and the card of a matter. A deposit that may have been returned is asked of its entry.
+// A matter, and all its entries in order.
 export async function readMatterWhole(page, no) {
-    const paths = [matterPath(no), cardPath(no)];
-    const [{ body: matter }, { text }] = await Promise.all(paths.map((path) => page.desk.get(path)));
-    const card = readCard(text);
-    await Promise.all(card.entries.filter(({ isDoubtful }) => isDoubtful).map(async (each) => {
-        const { state, undone } = (await page.desk.get(entryPath(no, each.entry))).body;
-        Object.assign(each, { state, undone: undone ?? undefined });
-    }));
-    return { matter, card };
+    const paths = [matterPath(no), entriesPath(no)];
+    const [{ body: matter }, { body: { entries } }] = await Promise.all(paths.map((path) => page.desk.get(path)));
+    return { matter, entries };
 }
 
 export const backTo = (no) => p(link(`#/m/${no}`, 'Back to the matter'));
@@ -45,6 +39,7 @@ const ACTIONS = {
     claim: 'Hold for a lien or claim',
     dispute: 'Dispute a fee',
     seats: 'Access',
+    account: 'Statement of account',
     card: 'Accounting, to print',
 };
 
@@ -54,14 +49,14 @@ const MAY = {
     client: ['dispute'],
 };
 
-function actionsOf(no, role, card) {
-    const may = card.closed ? [] : MAY[role].filter((name) => name !== 'dispute' || card.entries.some(hasLeft));
+function actionsOf(no, role, matter, entries) {
+    const may = matter.closed ? [] : MAY[role].filter((name) => name !== 'dispute' || entries.some(hasLeft));
     return el('ul', { class: 'actions', 'aria-label': 'What you can do' },
-        [...may, 'card'].map((name) => el('li', {}, link(`#/m/${no}/${name}`, ACTIONS[name]))));
+        [...may, 'account', 'card'].map((name) => el('li', {}, link(`#/m/${no}/${name}`, ACTIONS[name]))));
 }
 
-const sumsOf = ({ balances }) =>
-    sums(BALANCES.map(([name, words, means]) => [name, words, money(balances[name]), means]));
+const sumsOf = (matter) =>
+    sums(BALANCES.map(([name, words, means]) => [name, words, money(matter[name]), means]));
 
 const ENTRY_COLUMNS = [column('Entry', 'tight'), column('Day', 'tight'), column('What', 'tight'), column('Words'),
     column('State'), column('Amount', 'right'), column('Ledger', 'right')];
@@ -70,17 +65,17 @@ const ENTRY_COLUMNS = [column('Entry', 'tight'), column('Day', 'tight'), column(
 function entryCells(no, moved) {
     return (each) => {
         const { moved: amount, sum } = moved.get(each.entry) ?? {};
-        return [entryLink({ matter: no, entry: each.entry }), each.day, KINDS[each.kind], label(each.texts),
+        return [entryLink({ matter: no, entry: each.entry }), each.day, KINDS[each.kind], label(textsOf(each)),
             stateOf(each), amount ? money(amount) : el('span', { class: 'money nothing' }, grouped(each.amount)),
             sum && money(sum)];
     };
 }
 
-const entriesOf = (card) => longTable({
+const entriesTable = (matter, entries) => longTable({
     caption: 'Entries, newest first',
     columns: ENTRY_COLUMNS,
-    items: [...card.entries].reverse(),
-    cells: entryCells(card.matter, movedBy(card)),
+    items: [...entries].reverse(),
+    cells: entryCells(matter.matter, movedBy(matter, entries)),
     first: NEWEST,
 });
 
@@ -116,28 +111,22 @@ async function purgingOf(page, no) {
     return quiet(`The records are kept until ${kept.until}.`);
 }
 
-function remember(page, no) {
-    const known = page.shelf.read(MATTERS);
-    if (page.person !== 'cashier' && !known.includes(no)) page.shelf.write(MATTERS, [...known, no].sort());
-}
-
 export async function showMatter(page, no) {
-    const { matter, card } = await readMatterWhole(page, no);
-    remember(page, no);
+    const { matter, entries } = await readMatterWhole(page, no);
     const place = el('div', {});
     const isCashier = page.person === 'cashier';
     const seats = matter.seats.map(({ person, role }) => `${person} (${role})`).join(', ');
     const parts = [
-        sumsOf(card),
-        actionsOf(no, roleIn(page, matter), card),
+        sumsOf(matter),
+        actionsOf(no, roleIn(page, matter), matter, entries),
         place,
-        await waitingIn(page, [card], true),
-        chart('The ledger by day, held deposits included', balanceOfCard(card), page.desk.day),
-        entriesOf(card),
+        waitingTables(waitingOf(matter, entries), true),
+        chart('The ledger by day, held deposits included', balanceOfMatter(matter, entries), page.desk.day),
+        entriesTable(matter, entries),
         facts([['Opened', matter.opened], ['Closed', matter.closed], ['Who has access', seats]]),
         readAgain(page),
-        isCashier && !card.closed && closing(page, no, matter.client, place),
-        isCashier && card.closed && await purgingOf(page, no),
+        isCashier && !matter.closed && closing(page, no, matter.client, place),
+        isCashier && matter.closed && await purgingOf(page, no),
     ];
     return { title: [`Matter ${no}, `, label(matter.client)], parts };
 }

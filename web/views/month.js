@@ -3,7 +3,7 @@
 import { sha256 } from '../bank/sha256.js';
 import { refusedBox } from '../boxes.js';
 import { button, el, explained, label, link, money, number, p, quiet, strong } from '../elements.js';
-import { readExceptions } from '../exceptions.js';
+import { readPrinted } from '../exceptions.js';
 import { shown } from '../names.js';
 import { readBreaks, readClients, readFigures, readMovements, readPacket, readRemarks } from '../reports.js';
 import { column, table } from '../tables.js';
@@ -26,7 +26,7 @@ function remarkCells({ name, rest, reference, day, amount, instrument }) {
     if (name !== 'EXCEPTION') {
         return [REMARKS[name], number(day), referenceLink(reference), instrument && label(instrument), money(amount)];
     }
-    const [{ fields }] = readExceptions(`\n${rest}`);
+    const fields = readPrinted(rest);
     if (!fields) return [REMARKS[name], '', '', label(rest), ''];
     return [REMARKS[name], number(fields.date), referenceLink(fields.reference),
         label([fields.bank_ref, fields.text].filter(Boolean).join(' | ')), money(fields.amount)];

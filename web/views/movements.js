@@ -3,13 +3,13 @@
 import { grouped, sumOf } from '../amounts.js';
 import { refusedBox } from '../boxes.js';
 import { el, label, link, money, number, p, printed, strong } from '../elements.js';
-import { findField, form, tellWrong } from '../forms.js';
-import { readDay } from '../names.js';
+import { findField, form } from '../forms.js';
 import { readMovements } from '../reports.js';
 import { column, longTable } from '../tables.js';
 import { MOVED } from '../words.js';
 import { knownClosings } from './closings.js';
 import { referenceLink } from './left.js';
+import { dayField, periodForm } from './periods.js';
 import { reportsList } from './report.js';
 
 // So many movements are shown first.
@@ -76,23 +76,6 @@ function searched(page, name, { movements, sum }) {
     return el('div', { class: 'on-screen' }, field, told, place);
 }
 
-const dayField = (name, words, value) => ({ name, words, type: 'date', value, read: readDay, wrong: 'Choose a day.' });
-
-function periodForm(page, name, from, to) {
-    const last = knownClosings(page)[0] ?? page.desk.day ?? '';
-    return form({
-        fields: [
-            dayField('from', 'The first day', from ?? (last && `${last.slice(0, 8)}01`)),
-            dayField('to', 'The last day', to ?? last),
-        ],
-        action: `List the ${name}`,
-        submit(values, place) {
-            if (values.to < values.from) return tellWrong(place, 'to', 'That is before the first day.');
-            return page.go(`#/report/${name}/${values.from}/${values.to}`);
-        },
-    });
-}
-
 // What a view of a report has below the list of reports: the report, or its refusal, and the form to ask again.
 async function reported(page, path, asked, partsOf) {
     const answer = await page.desk.read(path);
@@ -101,7 +84,9 @@ async function reported(page, path, asked, partsOf) {
 
 export async function journalOf(page, name, from = null, to = null) {
     const { title, other } = JOURNALS[name];
-    const asked = periodForm(page, name, from, to);
+    const last = knownClosings(page)[0] ?? page.desk.day ?? '';
+    const asked = periodForm({ page, from: from ?? (last && `${last.slice(0, 8)}01`), to: to ?? last,
+        action: `List the ${name}`, address: `#/report/${name}` });
     if (!from) return { title, parts: [reportsList(name), asked] };
     const path = `/firm/${name}/${from}/${to}`;
     const parts = await reported(page, path, asked, (text) => [

@@ -3,43 +3,43 @@
 import { book, isUnanswered, newAsk } from '../asks.js';
 import { grouped, isNothing } from '../amounts.js';
 import { askAbout } from '../boxes.js';
-import { entryPath } from '../desk.js';
 import { doubtsOfDeposit, doubtsOfPayment } from '../doubts.js';
 import { label, p, quiet } from '../elements.js';
 import { amountField, choiceField, form, labelField } from '../forms.js';
 import { entryAfter, shown } from '../names.js';
+import { textsOf } from '../words.js';
 import { backTo, hasLeft, readMatterWhole } from './matter.js';
 
 // The bank's line is matched by it.
 const SHOWN_BY_THE_BANK = 'With the number that the bank will print, such as: retainer, check 2291';
 
-const deposit = ({ page, card }) => ({
+const deposit = ({ page, entries }) => ({
     title: 'Book a deposit', kind: 'deposit', action: 'Book it',
     fields: [amountField(), labelField('source', 'Paid in by'),
         labelField('description', 'What for', { hint: SHOWN_BY_THE_BANK })],
     whatOf: ({ amount }) => `deposit of ${grouped(amount)}`,
-    doubtsOf: (values) => doubtsOfDeposit(values, card, page.desk.day),
+    doubtsOf: (values) => doubtsOfDeposit(values, entries, page.desk.day),
 });
 
-const upTo = (card) => ({ hint: `At most ${grouped(card.balances.available)}, which is available` });
+const upTo = ({ available }) => ({ hint: `At most ${grouped(available)}, which is available` });
 
-const fee = ({ card }) => ({
+const fee = ({ matter }) => ({
     title: 'Earn a fee', kind: 'fee', action: 'Earn it',
-    fields: [amountField(upTo(card)), labelField('description', 'For which work')],
+    fields: [amountField(upTo(matter)), labelField('description', 'For which work')],
     whatOf: ({ amount }) => `fee of ${grouped(amount)}`,
 });
 
-const claim = ({ card }) => ({
+const claim = ({ matter }) => ({
     title: 'Hold for a lien or claim', kind: 'claim', action: 'Hold it',
-    fields: [amountField(upTo(card)), labelField('claimant', 'Who claims it'), labelField('reason', 'Why')],
+    fields: [amountField(upTo(matter)), labelField('claimant', 'Who claims it'), labelField('reason', 'Why')],
     sentOf: (values) => ({ on: 'general', ...values }),
     whatOf: ({ amount }) => `claim of ${grouped(amount)}`,
 });
 
-const feeWords = (each) => `${each.entry}, ${each.day}, ${grouped(each.left)} left: ${shown(each.texts)}`;
+const feeWords = (each) => `${each.entry}, ${each.day}, ${grouped(each.left)} left: ${shown(textsOf(each))}`;
 
-function dispute({ card, of }) {
-    const fees = card.entries.filter(hasLeft);
+function dispute({ entries, of }) {
+    const fees = entries.filter(hasLeft);
     if (!fees.length) return { title: 'Dispute a fee', none: 'There is no fee left to dispute.' };
     return {
         title: 'Dispute a fee', kind: 'claim', action: 'Dispute it',
@@ -51,29 +51,23 @@ function dispute({ card, of }) {
     };
 }
 
-// The card does not tell what is left of a settled claim, or who claimed it: its entry does.
-async function settledClaims(page, no, card) {
-    const settled = card.entries.filter(({ kind, state, fund }) =>
-        kind === 'claim' && state === 'settled' && fund === 'general');
-    const claims = await Promise.all(settled.map(({ entry }) => page.desk.get(entryPath(no, entry))));
-    return claims.map(({ body }) => body).filter(({ left }) => !isNothing(left));
-}
+const isPayable = ({ kind, state, on, left }) =>
+    kind === 'claim' && state === 'settled' && on === 'general' && !isNothing(left);
 
 // What a payment can be drawn on, in words, and whom it pays where that is fixed.
-const fundsOf = (card, claims) => [
-    { value: 'general', words: `The general fund: ${grouped(card.balances.available)} available`, payee: '',
-        left: card.balances.available },
-    ...card.entries.filter(hasLeft).map(({ entry, left }) =>
+const fundsOf = ({ available }, entries) => [
+    { value: 'general', words: `The general fund: ${grouped(available)} available`, payee: '', left: available },
+    ...entries.filter(hasLeft).map(({ entry, left }) =>
         ({ value: `fee ${entry}`, words: `Fee ${entry}: ${grouped(left)} left, paid to FIRM`, payee: 'FIRM', left })),
-    ...claims.map(({ entry, left, claimant: payee }) => ({ value: `claim ${entry}`,
+    ...entries.filter(isPayable).map(({ entry, left, claimant: payee }) => ({ value: `claim ${entry}`,
         words: `Claim ${entry}: ${grouped(left)} left, paid to ${shown(payee)}`, payee, left })),
 ];
 
 // To the desk the firm is FIRM alone, and `Firm` somebody whom the general fund pays. A claim pays whom it names.
 const payeeOfDesk = (typed, fund) => (fund !== 'claim' && /^firm$/i.test(typed) ? 'FIRM' : typed);
 
-async function propose({ page, no, card, fund, of }) {
-    const funds = fundsOf(card, await settledClaims(page, no, card));
+function propose({ page, matter, entries, fund, of }) {
+    const funds = fundsOf(matter, entries);
     const payeeOf = (value) => funds.find((each) => each.value === value)?.payee ?? '';
     const chosen = fund ? `${fund} ${of}` : 'general';
     if (!funds.some(({ value }) => value === chosen)) {
@@ -95,7 +89,7 @@ async function propose({ page, no, card, fund, of }) {
         },
         whatOf: ({ amount, payee }) => `payment of ${grouped(amount)} to ${shown(payee)}`,
         doubtsOf: (values) =>
-            doubtsOfPayment(page, values, card, funds.find(({ value }) => value === values.from)?.left),
+            doubtsOfPayment(page, values, entries, funds.find(({ value }) => value === values.from)?.left),
         prepare(made) {
             const { from, payee } = made.elements;
             from.addEventListener('change', () => { payee.value = payeeOf(from.value); });
@@ -106,13 +100,13 @@ async function propose({ page, no, card, fund, of }) {
 const FORMS = { deposit, propose, fee, claim, dispute };
 
 export async function newEntry(page, no, verb, fund = null, of = null) {
-    const { matter, card } = await readMatterWhole(page, no);
+    const { matter, entries } = await readMatterWhole(page, no);
     if (isUnanswered(page, no)) {
         const first = p('First send again what was not answered, above: so nothing is booked twice.');
         return { title: `Matter ${no}`, parts: [first, backTo(no)] };
     }
     const entry = entryAfter(matter.entries);
-    const asked = await FORMS[verb]({ page, no, card, fund, of });
+    const asked = FORMS[verb]({ page, matter, entries, fund, of });
     if (asked.none) return { title: asked.title, parts: [p(asked.none), backTo(no)] };
     const askOf = (values) => newAsk({
         matter: no, entry, verb, kind: asked.kind, fields: asked.sentOf?.(values) ?? values, what: asked.whatOf(values),

@@ -1,4 +1,4 @@
-// A new matter. The next number that is in no list is proposed; a purged one is in none, and is refused.
+// A new matter. The next number that is not listed is proposed; a purged one is not listed, and is refused.
 
 import { change } from '../asks.js';
 import { askAbout } from '../boxes.js';
@@ -6,18 +6,18 @@ import { matterPath } from '../desk.js';
 import { doubtsOfLawyer } from '../doubts.js';
 import { link, p } from '../elements.js';
 import { form, labelField, matterField, personField } from '../forms.js';
+import { readMatters } from '../lists.js';
 import { matterAfter } from '../names.js';
-import { readRetention, readTrial } from '../reports.js';
 
 export async function openMatter(page) {
-    const paths = ['/firm/trial-balance', '/firm/retention'];
-    const [trial, retention] = await Promise.all(paths.map((path) => page.desk.get(path)));
-    const open = readTrial(trial.text).matters.map(({ matter }) => matter);
-    const taken = [...open, ...readRetention(retention.text).map(({ matter }) => matter)];
+    const matters = await readMatters(page);
+    const open = matters.filter(({ closed }) => !closed).map(({ matter }) => matter);
     const made = form({
         fields: [
             matterField({
-                words: 'Number', value: matterAfter(taken), hint: 'Six digits; a purged number is not used again',
+                words: 'Number',
+                value: matterAfter(matters.map(({ matter }) => matter)),
+                hint: 'Six digits; a purged number is not used again',
             }),
             labelField('client', 'Client'),
             personField('lawyer', 'First lawyer'),

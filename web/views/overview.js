@@ -1,22 +1,17 @@
 // What the cashier sees first: what waits for a lawyer and for the bank, the account by day, and all matters.
 
 import { grouped } from '../amounts.js';
+import { readUnshown } from '../at-bank.js';
 import { balanceOfJournal } from '../balance.js';
 import { noteBox } from '../boxes.js';
 import { chart } from '../chart.js';
-import { Refused, matterPath } from '../desk.js';
-import { el, label, link, money, number, p, quiet, readAgain, sums } from '../elements.js';
+import { el, link, money, number, p, quiet, readAgain, sums } from '../elements.js';
 import { findField } from '../forms.js';
-import { countLines, dayOf, readRetention, readTrial } from '../reports.js';
-import { column, rowOf, table } from '../tables.js';
-import { MATTER_COLUMNS, atBankTable, cardOf, entriesOf, foundTable, matterCells, waitingIn } from './cards.js';
-
-// From so many matters on there is a field to look for one.
-const MANY = 10;
-// So many closed matters are asked for their clients.
-const NAMED = 300;
-
-const clockDay = () => new Intl.DateTimeFormat('sv-SE').format(new Date());
+import { isProposed, readMatters, readWaiting, unshownIn } from '../lists.js';
+import { clockDay, fiveYearsTo } from '../names.js';
+import { countLines, dayOf, readMovements, readRetention, readTrial } from '../reports.js';
+import { MOVED, STATES, textsOf } from '../words.js';
+import { atBankTable, foundTable, matterLists, waitingTables } from './lists.js';
 
 const otherDay = (day) => day !== clockDay()
     && noteBox(p('The desk books everything on ', number(day), ". This browser's clock has ", number(clockDay()), '.'));
@@ -27,85 +22,100 @@ const sumsOf = (books, exceptions) => sums([
     ['exceptions', 'Bank lines that match nothing', exceptions ? link('#/report/exceptions', String(exceptions)) : '0'],
 ], 'firm');
 
-// The trial balance has the numbers and sums at once; the card of each matter comes later.
-const firstRow = ({ matter, ledger }) => rowOf(MATTER_COLUMNS,
-    [link(`#/m/${matter}`, number(matter)), '\u2026', '', '', '', '', '', money(ledger)]);
+// Reads something once it is wanted, and then shows it in a place. A refusal is told there.
+async function showLate(page, place, read) {
+    place.setAttribute('aria-busy', 'true');
+    place.replaceChildren(quiet('Reading\u2026'));
+    try {
+        place.replaceChildren(...[await read()].flat().filter(Boolean));
+    } catch (fault) {
+        place.replaceChildren(...page.failed(fault).parts);
+    } finally {
+        place.removeAttribute('aria-busy');
+    }
+}
 
-// Shows the matters, open and closed, whose number or client has these letters.
-const findIn = (rows) => findField({ id: 'find', words: 'Find a matter', hint: 'By number or client', find(wanted) {
-    for (const row of rows) row.hidden = !row.textContent.toLowerCase().includes(wanted);
-} });
+const paymentsOf = (count) => (count === 1 ? '1 issued payment' : `${count} issued payments`);
 
-// Shows the entries of open matters that have these letters, from the second one on.
-function findEntries(cards) {
-    const all = entriesOf(cards).map((each) =>
-        [`${each.texts} ${each.amount} ${grouped(each.amount)}`.toLowerCase(), each]);
-    const place = el('div', { 'aria-live': 'polite' });
-    const find = (wanted) => {
-        const found = wanted.length < 2 ? [] : all.filter(([words]) => words.includes(wanted)).map(([, each]) => each);
-        const told = foundTable(found) ?? (wanted.length > 1 && quiet('No entry of an open matter has that.'));
-        place.replaceChildren(...[told].filter(Boolean));
+// How much the bank has not shown; the entries are asked for by whoever opens the list.
+function unshownPart(page, { matters, held, issued }) {
+    if (!matters.length) return null;
+    const place = el('div', {});
+    let isRead = false;
+    const toggle = ({ target }) => {
+        if (!target.open || isRead) return;
+        isRead = true;
+        showLate(page, place, async () => atBankTable(await readUnshown(page, matters)));
     };
-    const hint = 'Of open matters, by payee, source, purpose, check number or amount';
-    const more = quiet('Those of closed matters stand among the ', link('#/report/receipts', 'receipts'), ' and the ',
+    return el('details', { class: 'unshown', toggle },
+        el('summary', {}, 'Not yet shown by the bank: deposits of ', money(held), `, ${paymentsOf(issued)}`), place);
+}
+
+// A movement of a journal, or a payment that waits, as an entry that can be looked for.
+function movedEntry({ day, reference, amount, kind, words }) {
+    const [, matter, entry] = /^M(\d{6})-(\d{4})$/.exec(reference);
+    return { matter, entry, reference, day, what: MOVED[kind], words, amount };
+}
+
+const waitingEntry = ({ client, entry: { matter, entry, day, amount, ...more } }) => ({ matter, entry, day, amount,
+    reference: `M${matter}-${entry}`, what: STATES.proposed[0], words: `${textsOf(more)} | ${client}` });
+
+// All movements of matters in the last five years, the newest first, behind what waits.
+async function readEntries(page, waiting) {
+    const days = fiveYearsTo(page.desk.day).join('/');
+    const answers = await Promise.all(['receipts', 'disbursements'].map((name) =>
+        page.desk.get(`/firm/${name}/${days}`)));
+    const moved = answers.flatMap(({ text }) => readMovements(text)[0].movements)
+        .filter(({ reference }) => reference !== 'FIRM')
+        .sort((one, other) => (one.day > other.day ? -1 : Number(one.day < other.day)));
+    const all = [...waiting.filter(({ entry }) => isProposed(entry)).map(waitingEntry), ...moved.map(movedEntry)];
+    return all.map((each) => [`${each.words} ${each.amount} ${grouped(each.amount)}`.toLowerCase(), each]);
+}
+
+// Shows the entries that have these letters, from the second one on. They are read once somebody looks for one.
+function findEntries(page, waiting) {
+    const place = el('div', { 'aria-live': 'polite' });
+    let all = null;
+    let wanted = '';
+    const found = () => {
+        if (wanted.length < 2) return null;
+        const entries = all.filter(([words]) => words.includes(wanted)).map(([, each]) => each);
+        return foundTable(entries) ?? quiet('Nothing that was paid in or out, or waits, has that.');
+    };
+    const read = async () => {
+        all = await readEntries(page, waiting);
+        return found();
+    };
+    let isRead = false;
+    const find = (words) => {
+        wanted = words;
+        if (all) place.replaceChildren(...[found()].filter(Boolean));
+        else if (!isRead) {
+            isRead = true;
+            showLate(page, place, read);
+        }
+    };
+    const hint = 'Of the last five years, by payee, source, purpose, client, check number or amount';
+    const more = quiet('Older ones stand among the ', link('#/report/receipts', 'receipts'), ' and the ',
         link('#/report/disbursements', 'disbursements'), ' of their days.');
     return [findField({ id: 'find-entry', words: 'Find an entry', hint, find }), place, more];
 }
 
-// Fills the rows in as the cards come, four at a time, and then tells what waits.
-async function fillIn(page, rows, places, isStill) {
-    const cards = await Promise.all([...rows].map(async ([matter, row]) => {
-        const { answer, card } = await cardOf(page, matter);
-        if (!card) throw new Refused(answer);
-        row.replaceChildren(...rowOf(MATTER_COLUMNS, matterCells(card)).childNodes);
-        return card;
-    }));
-    const waiting = await waitingIn(page, cards);
-    if (!isStill()) return;
-    places.waiting.replaceChildren(...waiting.filter(Boolean));
-    places.bank.replaceChildren(...[atBankTable(cards)].filter(Boolean));
-    places.entries.replaceChildren(...(cards.length ? findEntries(cards) : []));
-    places.waiting.removeAttribute('aria-busy');
-}
-
-const CLOSED_COLUMNS = [column('Matter', 'tight'), column('Client'), column('Closed', 'tight'),
-    column('Keep until', 'tight'), column('Records')];
-
-const closedRow = ({ matter, closed, until, mayGo }, client = '\u2026') => rowOf(CLOSED_COLUMNS,
-    [link(`#/m/${matter}`, number(matter)), client, closed, until, mayGo ? 'may be purged' : 'are kept']);
-
-// The list of closed matters has no names: the matters are asked for them.
-const nameClosed = (page, closed, rows) => Promise.all(closed.slice(0, NAMED).map(async (each) => {
-    const answer = await page.desk.read(matterPath(each.matter));
-    const client = answer.isDone ? label(answer.body.client) : '';
-    rows.get(each.matter).replaceChildren(...closedRow(each, client).childNodes);
-}));
-
 export async function overview(page) {
-    const [trial, retention, exceptions, journal] = await Promise.all(
-        ['trial-balance', 'retention', 'exceptions', 'journal'].map((name) => page.desk.get(`/firm/${name}`)));
-    const books = readTrial(trial.text);
-    page.desk.day = dayOf(trial.text);
-    const rows = new Map(books.matters.map((each) => [each.matter, firstRow(each)]));
-    const closed = readRetention(retention.text);
-    const closedRows = new Map(closed.map((each) => [each.matter, closedRow(each)]));
-    const places = {
-        waiting: el('div', { 'aria-busy': rows.size ? 'true' : null }, rows.size > 0 && p('Reading the matters\u2026')),
-        bank: el('div', {}),
-        entries: el('div', {}),
-    };
+    const [matters, waiting, ...reports] = await Promise.all([readMatters(page), readWaiting(page),
+        ...['trial-balance', 'exceptions', 'retention', 'journal'].map((name) => page.desk.get(`/firm/${name}`))]);
+    const [trial, exceptions, retention, journal] = reports.map(({ text }) => text);
+    page.desk.day = dayOf(trial);
+    const kept = new Map(readRetention(retention).map((each) => [each.matter, each]));
     const parts = [
         otherDay(page.desk.day),
-        sumsOf(books, countLines(exceptions.text)),
-        places.waiting,
-        places.bank,
-        chart('The account by day, as the journal has it', balanceOfJournal(journal.text), page.desk.day),
-        places.entries,
-        rows.size + closed.length > MANY && findIn([...rows.values(), ...closedRows.values()]),
-        table(`Matters: ${rows.size}`, MATTER_COLUMNS, [...rows.values()]),
-        table('Closed matters', CLOSED_COLUMNS, [...closedRows.values()]),
+        sumsOf(readTrial(trial), countLines(exceptions)),
+        matters.length > 0 && waitingTables(waiting),
+        unshownPart(page, unshownIn(matters, waiting)),
+        chart('The account by day, as the journal has it', balanceOfJournal(journal), page.desk.day),
+        matters.length > 0 && findEntries(page, waiting),
+        matterLists(matters, kept),
         readAgain(page),
     ];
-    const later = (isStill) => Promise.all([fillIn(page, rows, places, isStill), nameClosed(page, closed, closedRows)]);
-    return { title: 'Overview', parts, later };
+    return { title: 'Overview', parts };
 }

@@ -3,11 +3,11 @@
 import { grouped, isNothing } from '../amounts.js';
 import { doneBox, noteBox, warningBox } from '../boxes.js';
 import { el, explained, label, link, money, number, p, printed, quiet, strong } from '../elements.js';
-import { readBreaks, readFigures, readUnshown } from '../reports.js';
-import { column, longTable, table } from '../tables.js';
+import { readBreaks, readFigures } from '../reports.js';
+import { column, table } from '../tables.js';
 import { meansOf } from '../words.js';
-import { cardOf } from './cards.js';
 import { closingForm, lookForLast, rememberClosing } from './closings.js';
+import { outstandingTables } from './movements.js';
 
 const HERE = '#/reconciliation';
 
@@ -48,45 +48,20 @@ const FIGURES = { CLOSING: 'The bank\u2019s closing balance', 'IN TRANSIT': 'Dep
 export const figuresTable = (figures) => table('Bank, journal and ledgers', [column('What'), column('Amount', 'right')],
     Object.entries(FIGURES).filter(([name]) => figures[name]).map(([name, words]) => [words, money(figures[name])]));
 
-const UNSHOWN = [column('Entry', 'tight'), column('Day', 'tight'), column('Client'), column('Words'),
-    column('Amount', 'right')];
-
 // So many of a list are shown at first.
 const FIRST = 100;
-
-// What the bank has not shown, with clients, payees and check numbers, as the cards tell them by now.
-function unshownTables(unshown, cards) {
-    const cells = ({ matter, entry, day, amount }) => {
-        const card = cards.get(matter);
-        const found = card?.entries.find((each) => each.entry === entry);
-        return [link(`#/m/${matter}/e/${entry}`, number(`M${matter}-${entry}`)), number(day),
-            card ? label(card.client) : '\u2026', found ? label(found.texts) : '', money(amount)];
-    };
-    return [['TRANSIT', 'Deposits in transit'], ['OUT', 'Outstanding payments']].map(([list, caption]) =>
-        longTable({ caption, columns: UNSHOWN, cells, first: FIRST,
-            items: unshown.filter((each) => each.list === list) })).filter(Boolean);
-}
-
-async function nameUnshown(page, unshown, place, isStill) {
-    const matters = [...new Set(unshown.map(({ matter }) => matter))];
-    const found = await Promise.all(matters.map((matter) => cardOf(page, matter)));
-    const cards = new Map(found.map(({ matter, card }) => [matter, card]));
-    if (isStill()) place.replaceChildren(...unshownTables(unshown, cards));
-}
 
 export async function reconciliation(page, day = null) {
     const asked = () => closingForm(page, { day, address: HERE, action: 'Reconcile' });
     if (!day) return { title: 'Reconciliation', parts: [asked(), lookForLast(page, HERE)] };
     const path = `/firm/reconciliation/${day}`;
-    const { text } = await page.desk.get(path);
+    const [{ text }, unshown] = await Promise.all([page.desk.get(path), page.desk.get(`/firm/outstanding/${day}`)]);
     rememberClosing(page, day);
     const figures = readFigures(text);
-    const unshown = readUnshown(text);
-    const place = el('div', {}, unshownTables(unshown, new Map()));
     const listed = quiet('Beside it is filed ', link(`#/clients/${day}`, 'the list of clients as of that day'),
         '; both stand in the packet of the ', link(`#/month/${day}`, 'month\u2019s end'), '.');
-    const parts = [breaksBox(readBreaks(text)), resultBox(figures), figuresTable(figures), place,
+    const parts = [breaksBox(readBreaks(text)), resultBox(figures), figuresTable(figures),
+        outstandingTables(unshown.text, FIRST),
         explained(meansOf(EXPLAINED)), printed(text, path, `reconciliation-${day}.txt`), listed, asked()];
-    const later = (isStill) => nameUnshown(page, unshown, place, isStill);
-    return { title: ['Reconciliation of ', number(day)], parts, later };
+    return { title: ['Reconciliation of ', number(day)], parts };
 }

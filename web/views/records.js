@@ -70,7 +70,7 @@ class Records {
         }
         const final = this.records.filter(({ verb }) => UNDONE_BY_NOTHING.has(verb)).length;
         this.show(noteBox(p(strong(`${name} has ${this.records.length} records. Nothing was sent yet.`)),
-            final > 0 && p(`${final} of them can\u2019t be taken back (drop, close, purge, cancel, award, dismiss).`),
+            final > 0 && p(`${final} of them can\u2019t be taken back (${[...UNDONE_BY_NOTHING].join(', ')}).`),
             p(button(`Send these ${this.records.length}`, () => this.send(), ''))));
     }
 

@@ -1,7 +1,7 @@
 // The firm's reports: with names and grouped sums, and as the desk prints them.
 
-import { matterPath } from '../desk.js';
 import { button, el, label, link, money, number, p, printed } from '../elements.js';
+import { readMatters } from '../lists.js';
 import { dayOf, readJournal, readRetention, readTrial } from '../reports.js';
 import { column, longTable } from '../tables.js';
 import { dismissal } from './exceptions.js';
@@ -9,9 +9,8 @@ import { referenceLink } from './left.js';
 
 // Of a long report the end is shown first.
 const LAST = 1000;
-// So many rows of a table are shown at first, and so many matters are asked for their clients.
+// So many rows of a table are shown at first.
 const FIRST = 100;
-const NAMED = 300;
 
 const NAMES = {
     'trial-balance': 'Trial balance',
@@ -41,7 +40,7 @@ function trialRows({ matters, firm, total }) {
         { words: 'All ledgers together', ledger: total }];
 }
 
-// What each report with a table has: its columns, its rows, and the matters whose clients are named in it.
+// What each report with a table has: its columns, and its rows, in which the matters' clients are named.
 const TABLES = {
     'trial-balance': {
         caption: 'Whose money it is',
@@ -69,25 +68,13 @@ const TABLES = {
     },
 };
 
-// The table of a report; its clients are named once they are read.
-function named(page, name, text) {
+// The table of a report.
+function named(name, text, matters) {
     const { caption, columns, read, cells } = TABLES[name];
-    const items = read(text);
-    const clients = new Map();
-    const place = el('div', { class: `named ${name}` });
-    const unread = () => (clients.size ? '' : '\u2026');
-    const nameOf = (matter) => (clients.has(matter) ? label(clients.get(matter)) : unread());
-    const draw = () => place.replaceChildren(...[
-        longTable({ caption, columns, items, cells: (each) => cells(each, nameOf), first: FIRST }),
-    ].filter(Boolean));
-    const fill = async (isStill) => {
-        const matters = [...new Set(items.map(({ matter }) => matter).filter(Boolean))].slice(0, NAMED);
-        const answers = await Promise.all(matters.map((matter) => page.desk.read(matterPath(matter))));
-        matters.forEach((matter, i) => clients.set(matter, answers[i].isDone ? answers[i].body.client : ''));
-        if (isStill()) draw();
-    };
-    draw();
-    return { place, fill };
+    const clients = new Map(matters.map(({ matter, client }) => [matter, client]));
+    const nameOf = (matter) => label(clients.get(matter) ?? '');
+    return el('div', { class: `named ${name}` }, longTable({ caption, columns, items: read(text),
+        cells: (each) => cells(each, nameOf), first: FIRST }));
 }
 
 function asPrinted(text, path, file) {
@@ -104,10 +91,10 @@ function asPrinted(text, path, file) {
 
 export async function report(page, name) {
     const path = `/firm/${name}`;
-    const { text } = await page.desk.get(path);
+    const [{ text }, matters] = await Promise.all([page.desk.get(path), TABLES[name] ? readMatters(page) : []]);
     page.desk.day = dayOf(text);
-    const table = TABLES[name] && named(page, name, text);
-    const more = name === 'exceptions' && await dismissal(page, text);
-    const parts = [reportsList(name), table?.place, asPrinted(text, path, `${name}-${page.desk.day}.txt`), more];
-    return { title: NAMES[name], parts, later: table?.fill };
+    const table = TABLES[name] && named(name, text, matters);
+    const more = name === 'exceptions' && await dismissal(page);
+    const parts = [reportsList(name), table, asPrinted(text, path, `${name}-${page.desk.day}.txt`), more];
+    return { title: NAMES[name], parts };
 }

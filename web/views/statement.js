@@ -10,11 +10,12 @@ import { textOf } from '../csv.js';
 import { entryPath } from '../desk.js';
 import { button, el, facts, link, p } from '../elements.js';
 import { movementOf, readByMovement } from '../exceptions.js';
-import { areInBook, isSameAs, matchFile, reasonsOf } from '../matched.js';
+import { areInBook, isSameAs, matchFile } from '../matched.js';
+import { whyException } from '../reasons.js';
 import { readTrial } from '../reports.js';
 import { rememberClosing } from './closings.js';
 import { dismissOffers } from './exceptions.js';
-import { LeftLines, reasonWords, referenceLink } from './left.js';
+import { LeftLines, referenceLink } from './left.js';
 import { countWrong, matchedBox, writtenTable } from './matched.js';
 import { Taking } from './taking.js';
 
@@ -74,7 +75,7 @@ const isOf = (line, { date, bank_ref: number, amount }) =>
 // What stands in the book and in its exceptions beside what the desk made of the file.
 class Beside {
     constructor(own, exceptions) {
-        Object.assign(this, { own, exceptions, reasons: new Map() });
+        Object.assign(this, { own, exceptions });
     }
 
     // The exceptions of a line: it was imported before under another reference.
@@ -82,19 +83,11 @@ class Beside {
         return (this.exceptions.get(movementOf(line)) ?? []).filter((each) => isOf(line, each));
     }
 
-    // Why an exception does not fit; empty where it would be applied now.
-    async readReasons(page, lines) {
-        const all = [...new Set(lines.flatMap((line) => this.of(line)))];
-        if (!all.length) return;
-        const reasons = await reasonsOf(page, all);
-        all.forEach((each, i) => this.reasons.set(each, reasons[i] ?? ''));
-    }
-
     // What is told of a line's exceptions.
     words(line) {
         return this.of(line).map((each) => p('It was imported before under ',
             referenceLink(each.reference) || 'no reference', ', and is an exception since: ',
-            reasonWords(this.reasons.get(each) || 'it would be applied now'), '.'));
+            whyException(each), '.'));
     }
 }
 
@@ -107,10 +100,7 @@ async function readBeside(page) {
 async function look(page, file) {
     const found = await matchFile(page, file);
     if (found.refused) return found;
-    const beside = await readBeside(page);
-    const open = [...found.lines, ...found.told.map(({ line }) => line)].filter((line) => line?.isWhole);
-    await beside.readReasons(page, open);
-    return { ...found, beside };
+    return { ...found, beside: await readBeside(page) };
 }
 
 // Cleared deposits that lines below zero may take back, by the lines' numbers: of the entries that the reasons name.
@@ -286,7 +276,7 @@ class Statement {
         const mine = this.asks;
         let known = null;
         try {
-            const { entries } = await readAtBank(this.page);
+            const entries = await readAtBank(this.page);
             known = [entries, await readReturns(this.page, told, entries)];
         } catch {
             known = [null, new Map()]; // references can be typed all the same

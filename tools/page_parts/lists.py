@@ -1,4 +1,4 @@
-"""The page's reader of ledger cards, against the entries of matters with spiteful labels."""
+"""What the desk lists, and what the page makes of it by itself, of matters with spiteful labels."""
 import json
 import pathlib
 import random
@@ -34,18 +34,23 @@ class Maker:
     def label(self) -> str:
         return self.chance.choice(LABELS)
 
+    def earlier(self, entry: int) -> str:
+        return f"{self.chance.randint(1, entry):04}"
+
     def make_entry(self, entry: int) -> None:
         amount = f"{self.chance.randint(1, 40)}.00"
-        kind = self.chance.choice(["deposit", "propose", "propose", "fee", "claim", "dispute"])
+        kind = self.chance.choice(["deposit", "propose", "propose", "draw", "draw", "fee", "claim", "dispute"])
         fields = {
             "deposit": {"source": self.label(), "description": self.label()},
             "propose": {"from": "general", "payee": self.label(), "purpose": self.label(), "instrument": "1"},
+            "draw": {"from": "fee", "of": self.earlier(entry), "payee": "FIRM", "purpose": self.label(),
+                     "instrument": "1"},
             "fee": {"description": self.label()},
             "claim": {"on": "general", "claimant": self.label(), "reason": self.label()},
-            "dispute": {"on": "fee", "of": f"{self.chance.randint(1, entry):04}", "reason": self.label()},
+            "dispute": {"on": "fee", "of": self.earlier(entry), "reason": self.label()},
         }[kind]
         person = {"deposit": "cashier", "dispute": "ada"}.get(kind, "lee")
-        verb = "claim" if kind == "dispute" else kind
+        verb = {"dispute": "claim", "draw": "propose"}.get(kind, kind)
         if self.ask(person, entry, verb, amount=amount, **fields) != 201:
             self.ask("cashier", entry, "deposit", amount=amount, source=self.label(), description=self.label())
 
@@ -78,30 +83,51 @@ class Maker:
                 self.show_at_bank(self.chance.randint(1, entry))
 
 
+SHARED = ("available", "claims", "client", "closed", "disputed", "entries", "fees", "held", "matter", "opened", "total")
+
+
+def cents(amount: str) -> int:
+    return int(amount.replace(".", ""))
+
+
+def moved_in(entry: dict[str, typing.Any]) -> int:
+    """What an entry moved in its matter's ledger, as it stands by now."""
+    if entry["kind"] == "deposit":
+        return cents(entry["amount"]) if entry["state"] in ("held", "cleared") else 0
+    return -cents(entry["amount"]) if entry["kind"] == "payment" and entry["state"] in ("issued", "cleared") else 0
+
+
+def look_at_account(told: dict[str, typing.Any], checks: Checks) -> None:
+    """The statement of account of all time: it adds up, and has the words of its entries."""
+    account, matter = told["account"], told["head"]["matter"]
+    checks.same(f"the opening of the account of {matter}", account["opening"], "0.00")
+    ledger = 0
+    for each in account["movements"]:
+        ledger += cents(each["amount"])
+        checks.same(f"the ledger behind {each['reference']}", cents(each["sum"]), ledger)
+        checks.same(f"the words of {each['reference']}", each["words"], told["texts"].get(each["reference"]))
+    checks.same(f"the closing of the account of {matter}", cents(account["closing"]), ledger)
+    checks.same(f"the ledger of {matter} by its entries", sum(map(moved_in, told["entries"])), ledger)
+
+
 def look_at(told: dict[str, typing.Any], checks: Checks) -> set[str]:
-    """Compares a card with its entries; the states that it had."""
-    card, head = told["card"], told["head"]
-    checks.same(f"the client of {card['matter']}", card["client"], head["client"])
-    checks.same(f"the count of {card['matter']}", len(card["entries"]), head["entries"])
-    for name, sum_read in card["balances"].items():
-        checks.same(f"{name} of {card['matter']}", sum_read, head[name])
-    cents = sum(int(head[name].replace(".", "")) for name in ("total", "held"))
-    checks.so(f"the picture of {card['matter']} ends at its ledger", told["end"] in (str(cents), None), told["end"])
-    checks.so(f"there is a picture of {card['matter']}", told["end"] is not None)
-    states = set()
-    for read, entry in zip(card["entries"], told["entries"]):
-        what = f"entry {entry['entry']} of {card['matter']}"
-        for name in ("entry", "kind", "day", "amount"):
-            checks.same(f"{name} of {what}", read[name], entry[name])
-        if entry["kind"] == "fee":
-            checks.same(f"what is left of {what}", read["left"], entry["left"])
-            continue
-        states.add(f"{entry['kind']} {entry['state']}")
-        checks.same(f"the state of {what}", read["state"], entry["state"])
-        if "fund" in read:
-            fund = entry.get("from") or entry["on"]
-            checks.same(f"the fund of {what}", read["fund"], fund if fund == "general" else f"{fund} {entry['of']}")
-    return states
+    """Compares what is told of a matter in several places; the states that it had."""
+    head, listed, entries = told["head"], told["listed"], told["entries"]
+    matter = head["matter"]
+    for name in SHARED:
+        checks.same(f"{name} of {matter} in the list", listed[name], head[name])
+    ledger = cents(head["total"]) + cents(head["held"])
+    checks.same(f"the ledger of {matter} in the list", cents(listed["ledger"]), ledger)
+    checks.same(f"the role in {matter}", listed["role"], "cashier")
+    checks.same(f"the entries of {matter}, each by itself", told["alone"], entries)
+    checks.same(f"what waits in {matter}, by its entries", told["own"], told["waiting"])
+    checks.same(f"where the picture of {matter} ends", told["end"], str(ledger))
+    is_at_bank = any(each.get("state") in ("held", "issued") for each in entries)
+    checks.same(f"whether the bank has not shown something of {matter}", told["isUnshown"], is_at_bank)
+    pending = sum(each["kind"] == "payment" and each["state"] in ("proposed", "issued") for each in entries)
+    checks.same(f"the payments of {matter} that pend", listed["pending"], pending)
+    look_at_account(told, checks)
+    return {f"{each['kind']} {each['state']}" for each in entries if each["kind"] != "fee"}
 
 
 def play(program: str, folder: pathlib.Path, checks: Checks) -> None:
@@ -115,7 +141,7 @@ def play(program: str, folder: pathlib.Path, checks: Checks) -> None:
             told = browser.wait(f"{COMPARE} compare(arguments[0]).then(done, (fault) => done(String(fault)))",
                                 f"{each:06}")
             if isinstance(told, str):
-                checks.so(f"the card of {each:06} is read", False, told)
+                checks.so(f"matter {each:06} is read", False, told)
             else:
                 states |= look_at(told, checks)
         checks.same("the states that came", sorted(states), [

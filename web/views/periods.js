@@ -1,0 +1,17 @@
+// Forms that ask for a day, or for the first and the last day of a period.
+
+import { form, tellWrong } from '../forms.js';
+import { readDay } from '../names.js';
+
+export const dayField = (name, words, value) =>
+    ({ name, words, type: 'date', value, read: readDay, wrong: 'Choose a day.' });
+
+// The view of a period stands at the address, before its days.
+export const periodForm = ({ page, from, to, action, address }) => form({
+    fields: [dayField('from', 'The first day', from), dayField('to', 'The last day', to)],
+    action,
+    submit(values, place) {
+        if (values.to < values.from) return tellWrong(place, 'to', 'That is before the first day.');
+        return page.go(`${address}/${values.from}/${values.to}`);
+    },
+});
