@@ -27,16 +27,17 @@ numbers text = map without_zeros (filter is_number (tokens text))
 
 -- A telling number: one of six digits or more, or one after a word that says what it is.
 
--- a word that the number of a check or of a deposit slip follows
+-- a word that the number of a check, of a deposit slip or of a wire follows
 abbrev pub is_label : List ℕ → Bool
 is_label word =
     bytes_eq word (codes "check") || bytes_eq word (codes "chk") || bytes_eq word (codes "ck")
-    || bytes_eq word (codes "cheque") || bytes_eq word (codes "slip")
+    || bytes_eq word (codes "cheque") || bytes_eq word (codes "slip") || bytes_eq word (codes "wire")
 
 -- a word that may stand between such a word, or `id`, and the number
 abbrev pub is_number_word : List ℕ → Bool
 is_number_word word =
     bytes_eq word (codes "no") || bytes_eq word (codes "number") || bytes_eq word (codes "num")
+    || bytes_eq word (codes "paid")
 
 -- the tokens before a number say what it is; `last` stands directly before it, and `second` before that
 unfoldable pub are_labels : List ℕ → List ℕ → Bool

@@ -101,7 +101,7 @@ fn is_number(token: &[u8]) -> bool
     is_of_digits(token) && 3 <= without_zeros(token).len()
 }
 
-// Whether the number of a check or of a deposit slip follows the word.
+// Whether the number of a check, of a deposit slip or of a wire follows the word.
 fn is_label(word: &[u8]) -> bool
     ensures { result ≡ is_label_word word.now }
 {
@@ -110,13 +110,17 @@ fn is_label(word: &[u8]) -> bool
         || word == b"ck".as_slice()
         || word == b"cheque".as_slice()
         || word == b"slip".as_slice()
+        || word == b"wire".as_slice()
 }
 
 // Whether the word may stand between such a word and the number.
 fn is_number_word(word: &[u8]) -> bool
     ensures { result ≡ is_number_word_text word.now }
 {
-    word == b"no".as_slice() || word == b"number".as_slice() || word == b"num".as_slice()
+    word == b"no".as_slice()
+        || word == b"number".as_slice()
+        || word == b"num".as_slice()
+        || word == b"paid".as_slice()
 }
 
 // Whether two tokens say that a number follows them.
