@@ -107,6 +107,10 @@ export class BankFile {
             ?? [{ ...line, reference: line.isWhole ? this.referenceOf(line) : line.reference }]);
     }
 
+    closesBelowZero() {
+        return this.lines.some(({ reference, amount }) => reference === 'CLOSE' && amount.startsWith('-'));
+    }
+
     // How many lines would be exceptions, since they have no reference.
     countOpen() {
         return this.sent().filter((line) => line.isWhole && !line.reference).length;

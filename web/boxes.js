@@ -26,11 +26,15 @@ export function askFirst(words, { question, yes, act }) {
     return place;
 }
 
-// Asks beside a form about doubts, before anything is sent: `act` sends it all the same. The form can be changed.
+// Asks beside a form about doubts, before anything is sent: `act` sends it all the same. The form can be changed; then
+// what was asked is gone, since `act` has what stood there before.
 export function askAbout(place, doubts, action, act) {
     const asked = noteBox(doubts.map((each) => p(each)), el('div', { class: 'buttons' }, button(action, act, '')));
+    const made = place.closest('form');
     place.replaceChildren(asked);
-    for (const each of place.closest('form')?.elements ?? []) each.disabled = false;
+    for (const each of made.elements) each.disabled = false;
+    made.addEventListener('input', () => asked.remove());
+    made.addEventListener('change', ({ target }) => target.tagName === 'SELECT' && asked.remove());
     asked.focus();
 }
 

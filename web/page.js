@@ -6,6 +6,7 @@ import { Desk, Refused, askFirm, askWho } from './desk.js';
 import { button, el, label, link, p } from './elements.js';
 import { Shelf } from './shelf.js';
 import { account } from './views/account.js';
+import { accounts } from './views/accounts.js';
 import { clients } from './views/clients.js';
 import { showEntry } from './views/entry.js';
 import { showCard, showMatter } from './views/matter.js';
@@ -48,6 +49,7 @@ const VIEWS = [
     [/^#\/month(?:\/(\d{4}-\d\d-\d\d))?$/, month],
     [/^#\/reconciliation(?:\/(\d{4}-\d\d-\d\d))?$/, reconciliation],
     [/^#\/clients(?:\/(\d{4}-\d\d-\d\d))?$/, clients],
+    [/^#\/accounts(?:\/(\d{4}-\d\d-\d\d)\/(\d{4}-\d\d-\d\d))?$/, accounts],
 ];
 
 const PLACES = [
@@ -143,7 +145,7 @@ class Page {
             el('li', {}, el('a', { href, 'aria-current': isHere(href) ? 'page' : null }, name)))));
         const { day } = this.desk;
         byId('who').replaceChildren(this.person, day ? ` \u00b7 ${day}` : '');
-        byId('printed').textContent = `Printed by ${this.person}${day ? `, the desk's day ${day}` : ''}`;
+        byId('printed').textContent = `Printed by ${this.person}${day ? `, business day ${day}` : ''}`;
     }
 }
 

@@ -1,5 +1,6 @@
 // Why a line of the bank's is an exception, and what to do with one that has to be looked at.
 
+import { isMore } from './amounts.js';
 import { money } from './elements.js';
 
 const LOOK = "Look at the slip, the check or the bank's own list";
@@ -54,8 +55,10 @@ const EXCEPTIONS = {
     WrongKind: ({ kind }) => `its reference is that of a ${kind}, which no line of the bank clears`,
     WrongState: ({ state }) => `its reference is that of an entry that is ${state}`,
     WrongAmount: ({ amount }) => ['its reference is that of an entry of another amount, ', money(amount)],
-    Uncovered: ({ available }) =>
-        ['it takes a deposit back, and only ', money(available), ' is available in the matter'],
+    // The amount of such a line is below zero.
+    Uncovered: ({ available }, { amount }) => (isMore(amount.slice(1), available)
+        ? ['it takes a deposit back, and only ', money(available), ' is available in the matter']
+        : 'it takes a deposit back, and the business day is before the last day of its matter'),
     Zero: () => 'an amount of 0.00 moves nothing',
     Beyond: ({ balance }) =>
         ['the firm\u2019s own money is ', money(balance), ', and would not stay from 0.00 to 500.00 with it'],

@@ -59,7 +59,7 @@ const REFUSALS = {
     NotAllowed: (told) => ['You may not do this.', RULES[told.rule] ?? 'Have it asked by one who may.'],
     AlreadyOpen: () => ['A matter with this number was opened before.', 'Take the next free number.'],
     Closed: () => ['The matter is closed. It can be read.', 'What comes later needs a new matter.'],
-    DateBackwards: (told) => [`The desk's day is before the last change of this matter (${told.last}).`,
+    DateBackwards: (told) => [`The business day is before the last change of this matter (${told.last}).`,
         'The operator has to begin the desk with the right day.'],
     WrongNumber: (told) => ['Somebody booked another entry under this number in the meantime.', told.next
         ? `Nothing of yours was booked. Look at that entry; if yours is another one, book it as ${told.next}.`
@@ -73,7 +73,7 @@ const REFUSALS = {
     BadSplit: () => ["The client's part is more than the claim, or no longer what was offered.",
         'Look at the claim: the part that is offered now is shown there.'],
     Short: (told) => [`Only ${grouped(told.left)} is there for this.`,
-        'A deposit counts once the bank has shown it. Wait for the statement, or take at most what is left.'],
+        'Take at most that, or wait for the statement: a deposit counts once the bank has shown it.'],
     SeatTaken: () => ['This person has access to the matter.',
         'To change the role, take the access away and give the other.'],
     NoSeat: () => ['This person has no access to the matter.', 'Look at the name.'],

@@ -50,8 +50,10 @@ const TEXTS = {
 // What somebody typed of an entry, in a line.
 export const textsOf = (entry) => TEXTS[entry.kind](entry).filter(Boolean).join(' | ');
 
-// What the words of cards and reports mean.
+// What the words of forms, cards and reports mean.
 const MEANS = {
+    'General fund': 'the client\u2019s money to which no fee and no claim has a right',
+    'Earned fee': 'set apart for the firm, and paid to it by a payment of its own',
     CLOSING: 'what the bank had as the day closed, by its statement',
     'IN TRANSIT': 'deposits that are booked, and that the bank has not shown by that day',
     OUTSTANDING: 'payments that are issued, and that the bank has not shown by that day',

@@ -49,25 +49,51 @@ PAYMENTS = (
 )
 
 
+# Words that show a number, and the number as the office typed it: behind what a deposit is for, or as what a payment is
+# made with. Of the words of PAYMENTS the first two show theirs too, but with a word between, or without one in front.
+NUMBERED = (
+    ("DEPOSIT CHECK 2291 A CHEN", "retainer, check 2291"),
+    ("DEPOSIT  ID NUMBER 417", "retainer, slip 417"),
+    ("REMOTE DEPOSIT SLIP #0881", "retainer, slip 881"),
+    ("MOBILE DEPOSIT CHK 5530", "advance, check 5530"),
+    ("WIRE TYPE:WIRE IN DATE: 260707 TIME:1412 ET TRN:2026070700123456", "settlement, wire 2026070700123456"),
+    ("Zelle payment from IDA UMBER 22915520118", "retainer, Zelle 22915520118"),
+    ("LAWPAY DES:DEPOSIT ID:884120556 INDN:GRAY AND LEE CO ID:9888888888 CCD", "by card, LawPay 884120556"),
+    ("ACH CREDIT STATE FARM CLAIM 0000731984", "settlement, claim 731984"),
+)
+NUMBERED_PAYMENTS = (
+    ("CHECK 4110", "4110"), ("CHECK # 4111", "4111"), ("CHECK NO. 4112", "4112"), ("CHK4113", "4113"),
+    ("CK 4114", "4114"), ("CASHED CHECK 4115 07/08", "4115"), ("OUTGOING WIRE TRN 771204455", "wire 771204455"),
+)
+
+
 def amount_of(at: int) -> str:
-    return f"{300 + at * 7}.{at:02}"
+    return f"{300 + at * 7}.{at % 100:02}"
 
 
 def sheet_of_thirty() -> str:
     """Two matters: deposits, of which a first one is cleared, and payments of it that are approved."""
     lines = ["open,000001,,Ada Chen,lee", "open,000002,,Bob Ruiz,lee",
-             "deposit,000002,0001,20000.00,Bob Ruiz,purchase price"]
+             "deposit,000002,0001,20000.00,Bob Ruiz,purchase price", "open,000004,,Dan Quill,lee",
+             "deposit,000004,0001,20000.00,Dan Quill,purchase price"]
     lines += [f"deposit,000001,{at:04},{amount_of(at)},{source},{what}"
               for at, (_, source, what) in enumerate(DEPOSITS, 1)]
+    lines += ["open,000003,,Cleo Marsh,lee"]
+    lines += [f'deposit,000003,{at:04},{amount_of(100 + at)},Cleo Marsh,"{what}"'
+              for at, (_, what) in enumerate(NUMBERED, 1)]
     return "\n".join(lines) + "\n"
 
 
 def sheet_of_payments() -> str:
-    return "".join(f"propose,000002,{at + 1:04},{amount_of(50 + at)},general,,{payee},{purpose},{instrument}\n"
-                   for at, (_, payee, purpose, instrument) in enumerate(PAYMENTS, 1))
+    lines = [f"propose,000002,{at + 1:04},{amount_of(50 + at)},general,,{payee},{purpose},{instrument}\n"
+             for at, (_, payee, purpose, instrument) in enumerate(PAYMENTS, 1)]
+    lines += [f"propose,000004,{at + 1:04},{amount_of(150 + at)},general,,Court Clerk,filing fee,{instrument}\n"
+              for at, (_, instrument) in enumerate(NUMBERED_PAYMENTS, 1)]
+    return "".join(lines)
 
 
-FIRST = HEAD + "2026-07-14,M000002-0001,W1,20000.00,WIRE\n2026-07-14,FIRM,O1,123.00,OWN\n"
+FIRST = HEAD + ("2026-07-14,M000002-0001,W1,20000.00,WIRE\n2026-07-14,M000004-0001,W2,20000.00,WIRE\n"
+                "2026-07-14,FIRM,O1,123.00,OWN\n")
 
 
 def thirty_lines() -> str:
@@ -86,8 +112,22 @@ def begin(program: str, folder: pathlib.Path) -> Desk:
 
 
 def approve_all(bank: Bank) -> None:
-    for at in range(1, len(PAYMENTS) + 1):
-        ask(bank, "lee", f"/matters/000002/entries/{at + 1:04}/approve")
+    for matter, payments in (("000002", PAYMENTS), ("000004", NUMBERED_PAYMENTS)):
+        for at in range(1, len(payments) + 1):
+            ask(bank, "lee", f"/matters/{matter}/entries/{at + 1:04}/approve")
+
+
+def fill_by_number(bank: Bank) -> None:
+    """Where the bank's words show the number that was typed, nothing is left to decide."""
+    lines = [f'2026-07-14,,N{at},{amount_of(100 + at)},"{text}"' for at, (text, _) in enumerate(NUMBERED, 1)]
+    lines += [f'2026-07-14,,Q{at},-{amount_of(150 + at)},"{text}"'
+              for at, (text, _) in enumerate(NUMBERED_PAYMENTS, 1)]
+    bank.choose("numbered.csv", HEAD + "\n".join(lines) + "\n")
+    count = len(lines)
+    bank.checks.same("the lines with a number that are filled", len(bank.browser.find("[data-state=filled]")), count)
+    bank.has(f"{count} lines would be imported, 0 in the book already, 0 to be looked at.")
+    bank.browser.press("Import these")
+    bank.has(f"Lines that found their place\n{count}", "Match nothing (exceptions)\n0")
 
 
 def use_all(bank: Bank) -> int:
@@ -278,7 +318,7 @@ def look_at_it(bank: Bank) -> None:
     bank.put_away()
 
 
-CHAPTERS = (approve_all, look_at_it, decide_thirty, split_lines, take_too_much_for_the_firm, end_a_loop,
+CHAPTERS = (approve_all, look_at_it, fill_by_number, decide_thirty, split_lines, take_too_much_for_the_firm, end_a_loop,
             take_a_deposit_back)
 
 

@@ -48,6 +48,23 @@ def give(bank: Bank, **values: str) -> None:
     bank.browser.settle()
 
 
+# Drops a file of this name and text on the form.
+DROP = """const data = new DataTransfer();
+data.items.add(new File([arguments[1]], arguments[0]));
+document.querySelector('main form').dispatchEvent(
+    new DragEvent('drop', { dataTransfer: data, bubbles: true, cancelable: true }));"""
+
+
+def drop_qbo(bank: Bank) -> None:
+    """A file is dropped, of the name that QuickBooks gives OFX."""
+    bank.put_away()
+    bank.browser.run(DROP, "march.qbo", (BANK / "first-half.ofx").read_text(encoding="ascii"))
+    bank.browser.press("Match")
+    bank.has("What march.qbo has", "26,788.00 on 2026-03-16")
+    bank.browser.press("Take it and match")
+    is_kept(bank, "march.qbo", by_script("--close", "2026-03-16", str(BANK / "first-half.ofx")))
+
+
 def take_ofx(bank: Bank) -> None:
     """The file's own balance is of a moment: it closes with a day before."""
     take(bank, "first-half.ofx")
@@ -104,7 +121,8 @@ def take_csv(bank: Bank) -> None:
 BAD = (
     ("paper.pdf", b"%PDF-1.7 ...", "of a PDF or a spreadsheet nothing can be read"),
     ("sheet.xlsx", b"PK\x03\x04\x00\x00", "of a PDF or a spreadsheet nothing can be read"),
-    ("wide.csv", "date,amount\n".encode("utf-16"), "of a PDF or a spreadsheet nothing can be read"),
+    ("book.xls", b"\xd0\xcf\x11\xe0\x00\x00", "of a PDF or a spreadsheet nothing can be read"),
+    ("wide.csv", "date,amount\n".encode("utf-16"), "The file is in UTF-16: save it again as CSV in UTF-8."),
     ("mixed.csv", b"Date,Amount,Text\n03/19/2026,1.00,\x81\n", "the text is neither UTF-8 nor Windows-1252"),
     ("empty.csv", b"", "no column is the day"),
     ("words.csv", b"day,amount\n", "no column is the day"),
@@ -126,6 +144,26 @@ def refuse(bank: Bank) -> None:
         taking = [each for each in bank.browser.find("button") if each.text == "Take it and match"]
         bank.checks.same(f"whether {name} can be taken", [each.is_enabled() for each in taking], [False] * len(taking))
     bank.checks.same("how often it was imported", len(bank.firm.relay.imported), before)
+
+
+TURNED = "Date,Details,Paid\n03/04/2026,CHECK 1001,435.00\n04/03/2026,DEPOSIT,-2000.00\n"
+TURNED_RULES = "skip 1\ndate-format %d/%m/%Y\ndate %1\namount -%3\ndescription %2\n"
+
+
+def turn_around(bank: Bank) -> None:
+    """Days that may be read in two orders are told; signs that are the other way round are turned."""
+    choose(bank, "card.csv", TURNED.encode())
+    bank.has("Nothing is taken of card.csv.", "no column is an amount")
+    give(bank, column_2="amount")
+    bank.has("The days of this file could also be day/month/year: compare them.", "2026-03-04", "2,000.00")
+    give(bank, format="%d/%m/%Y")
+    bank.browser.find("#turned")[0].click()
+    bank.has("2026-04-03 -435.00 CHECK 1001", "2026-03-04 2,000.00 DEPOSIT")
+    bank.browser.press("Take it and match")
+    paths = [bank.folder / "turned.csv", bank.folder / "turned.rules"]
+    for path, text in zip(paths, (TURNED, TURNED_RULES)):
+        path.write_text(text, encoding="ascii")
+    is_kept(bank, "card.csv", by_script(*map(str, paths)))
 
 
 def match_it(bank: Bank) -> None:
@@ -163,7 +201,7 @@ def look_small(bank: Bank) -> None:
         small.quit()
 
 
-CHAPTERS = (take_ofx, take_camt, take_csv, refuse, look_small, match_it)
+CHAPTERS = (take_ofx, drop_qbo, take_camt, take_csv, turn_around, refuse, look_small, match_it)
 
 
 def play(program: str, folder: pathlib.Path, checks: Checks) -> None:

@@ -155,10 +155,22 @@ class Firefox:
             self.process.wait()
 
 
+@contextlib.contextmanager
+def signed_on(person: str, firm: Firm, folder: pathlib.Path, checks: Checks) -> typing.Iterator[Firefox]:
+    """A person's browser, whose console has no fault of the page at the end."""
+    browser = Firefox(person, firm.origin, folder / f"firefox-{person}")
+    try:
+        yield browser
+        checks.same(f"what the console of {person}'s Firefox has of the page", browser.faults(), [])
+    finally:
+        browser.end()
+
+
 VIEWS = ("#/", "#/open", "#/statement", "#/records", "#/report/trial-balance", "#/report/journal",
          "#/report/exceptions", "#/report/retention", f"#/reconciliation/{DAY}", f"#/clients/{DAY}", f"#/month/{DAY}",
          f"#/report/receipts/2026-03-01/{DAY}", f"#/report/outstanding/{DAY}", "#/m/000001", "#/m/000001/card",
-         "#/m/000001/account/2026-03-01/2026-03-31", "#/m/000001/propose", "#/m/000001/e/0002", "#/m/000001/seats")
+         "#/m/000001/account/2026-03-01/2026-03-31", "#/m/000001/propose", "#/m/000001/e/0002", "#/m/000001/seats",
+         f"#/accounts/2026-03-01/{DAY}")
 
 
 def look_at_views(browser: Firefox, checks: Checks) -> None:
@@ -203,6 +215,47 @@ def bring_statement(browser: Firefox, folder: pathlib.Path, checks: Checks) -> N
     browser.click("button", "Match")
     told = browser.text()
     checks.so("the bank's file is matched", "5.00 on" in told, told)
+    browser.click(".left button", "Use this")
+    browser.click("button", "Match again")
+    browser.click("button", "Import these")
+    told = browser.text()
+    checks.so("and imported", "statement.csv was imported." in told and "Lines that found their place 1" in told, told)
+
+
+def propose(browser: Firefox, checks: Checks) -> None:
+    browser.to("#/m/000001/propose")
+    for name, words in (("amount", "12"), ("payee", "Court Clerk"), ("purpose", "copies"), ("instrument", "1012")):
+        browser.type(f"[name={name}]", words)
+    browser.click("button", "Propose it")
+    told = browser.text()
+    checks.so("a payment is proposed", "payment of 12.00 to Court Clerk, entry 0007 of matter 000001" in told, told)
+
+
+def be_a_lawyer(browser: Firefox, checks: Checks) -> None:
+    """The first view has what waits; it is approved, and does not stand there any more."""
+    told = browser.text()
+    checks.so("a lawyer's first view", "My matters" in told and "Court Clerk | copies | 1012" in told, told)
+    browser.click("main a", "0007")
+    browser.click("button", "Approve 12.00")
+    told = browser.text()
+    checks.so("a lawyer approves", "Approved: 12.00 to Court Clerk." in told and "Void the payment" in told, told)
+    browser.to("#/")
+    told = browser.text()
+    checks.so("what was approved waits no more", "Court Clerk | copies | 1012" not in told, told)
+    browser.to("#/report/journal")
+    told = browser.text()
+    checks.so("a lawyer reads no report", "Only the cashier reads the firm's reports" in told, told)
+
+
+def be_a_client(browser: Firefox, checks: Checks) -> None:
+    told = browser.text()
+    checks.so("a client's first view", "Matter 000001, Ada Chen" in told and "12.00" in told, told)
+    browser.to("#/m/000001/card")
+    told = browser.text()
+    checks.so("a client's card", "LEDGER 000001 Ada Chen" in told, told)
+    browser.to("#/m/000002")
+    told = browser.text()
+    checks.so("another's matter", "There is no such matter for you." in told, told)
 
 
 def see_month(firm: Firm, browser: Firefox, folder: pathlib.Path, checks: Checks) -> None:
@@ -242,16 +295,17 @@ def play(program: str, folder: pathlib.Path, checks: Checks) -> None:
     desk = Desk(program, folder / "book.db", DAY)
     desk.run("sheet", text=SPITEFUL)
     firm = Firm(desk, folder / "front")
-    browser = None
     try:
-        browser = Firefox("cashier", firm.origin, folder / "firefox")
-        see_month(firm, browser, folder, checks)
-        search(browser, checks)
-        look_at_views(browser, checks)
-        book_by_keys(browser, checks)
-        bring_statement(browser, folder, checks)
-        checks.same("what Firefox's console has of the page", browser.faults(), [])
+        with signed_on("cashier", firm, folder, checks) as browser:
+            see_month(firm, browser, folder, checks)
+            search(browser, checks)
+            look_at_views(browser, checks)
+            book_by_keys(browser, checks)
+            propose(browser, checks)
+            bring_statement(browser, folder, checks)
+        with signed_on("lee", firm, folder, checks) as browser:
+            be_a_lawyer(browser, checks)
+        with signed_on("ada", firm, folder, checks) as browser:
+            be_a_client(browser, checks)
     finally:
-        if browser:
-            browser.end()
         firm.end()

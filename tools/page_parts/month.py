@@ -129,6 +129,26 @@ def search(browser: Browser, checks: Checks) -> None:
     has(checks, browser, "outstanding items", ("Deposits in transit", "Together 2,040.00", "Together -650.00"))
 
 
+# Whose statements of account are printed, each with its last sum.
+ACCOUNTS = (("Ada Chen, matter 000001", "2,915.00"), ("Bob Ruiz, matter 000002", "0.00"),
+            ("Cleo Marsh, matter 000003", "3,850.00"), ("Dee | 9.99 Lane, matter 000004", "40.00"))
+
+
+def print_accounts(browser: Browser, folder: pathlib.Path, checks: Checks) -> None:
+    """Each client's account begins a sheet, under the firm's name."""
+    browser.to(f"#/month/{DAY}")
+    browser.follow("The clients\u2019 statements of account")
+    checks.same("the days of the accounts", browser.run("return location.hash"), f"#/accounts/2026-03-01/{DAY}")
+    has(checks, browser, "the accounts", ("Printed, each of the 4 begins a sheet.", "Closing 3,850.00",
+        f"{DAY} M000003-0002 returned Dana Marsh | advance on costs -1,200.00 3,850.00"))
+    sheets = sheets_of(browser, folder)
+    checks.same("the sheets of the accounts", len(sheets), len(ACCOUNTS))
+    for sheet, words in zip(sheets, ACCOUNTS):
+        checks.so(f"a sheet has the firm and {words}", all(word in sheet for word in (NAME, ACCOUNT, *words)), sheet)
+    browser.to("#/accounts/2026-01-01/2026-02-28")
+    has(checks, browser, "days before the firm began", ("No matter had money or a movement in these days.",))
+
+
 def play(program: str, folder: pathlib.Path, checks: Checks) -> None:
     firms.play_month(program, folder / "book.db", until="messages/19-accounting.http")
     desk = Desk(program, folder / "book.db", DAY)
@@ -142,6 +162,7 @@ def play(program: str, folder: pathlib.Path, checks: Checks) -> None:
         see_month(firm, browser, folder, checks)
         be_refused(firm, browser, checks)
         search(browser, checks)
+        print_accounts(browser, folder, checks)
         checks.same("the log of the cashier", browser.faults(), [])
         browser.quit()
         lawyer = Browser("lee", firm.origin)

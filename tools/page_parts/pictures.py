@@ -20,8 +20,8 @@ Date = class extends Real {{
 DAYS = (
     ("2026-03-30", "messages/17-approve-transcript.http", (
         ("overview.png", "cashier", "#/", WIDTH, 880),
-        ("decision.png", "lee", "#/m/000003/e/0005", WIDTH, 668),
-        ("matter-on-a-phone.png", "ada", "#/m/000001", PHONE, 960),
+        ("decision.png", "lee", "#/m/000003/e/0005", WIDTH, 712),
+        ("matter-on-a-phone.png", "ada", "#/m/000001", PHONE, 984),
     )),
     ("2026-03-31", "messages/19-accounting.http", (
         ("month-end.png", "cashier", "#/month/2026-03-31", WIDTH, 1190),

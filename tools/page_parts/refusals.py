@@ -111,6 +111,14 @@ def tell_statuses(asker: Asker) -> None:
         asker.sees(f"status {status}", Fault("told", status, "{}"), words)
 
 
+def tell_empty(asker: Asker) -> None:
+    """A report without a line says so."""
+    for name, words in (("exceptions", "Each line of the bank\u2019s has its entry."),
+                        ("journal", "Nothing came into the account yet."), ("retention", "No matter is closed.")):
+        asker.browser.to(f"#/report/{name}")
+        asker.checks.so(f"the empty report {name}", words in asker.browser.text(), asker.browser.text())
+
+
 def tell_late(asker: Asker) -> None:
     """One of the lists of the overview is refused; and what is asked for once somebody wants to see it."""
     asker.firm.relay.fail("GET /waiting", Fault("told", 503, "{}"))
@@ -161,6 +169,7 @@ def play(program: str, folder: pathlib.Path, checks: Checks) -> None:
         tell_refusals(asker)
         tell_statuses(asker)
         tell_late(asker)
+        tell_empty(asker)
         tell_to_persons(firm, checks)
         tell_no_answer(firm, checks)
         checks.same("the browser's log", browser.faults(), [])

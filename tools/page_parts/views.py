@@ -18,7 +18,8 @@ WIDTHS = WIDTHS_OF_MANY = (WIDE, PHONE, NARROW)
 REPORTS = ["#/report/trial-balance", "#/report/journal", "#/report/exceptions", "#/report/retention",
            "#/reconciliation", "#/reconciliation/2026-03-31", "#/clients", "#/clients/2026-03-31", "#/month",
            "#/month/2026-03-31", "#/report/receipts", "#/report/receipts/2026-03-01/2026-03-31",
-           "#/report/disbursements/2026-03-01/2026-03-31", "#/report/outstanding", "#/report/outstanding/2026-03-31"]
+           "#/report/disbursements/2026-03-01/2026-03-31", "#/report/outstanding", "#/report/outstanding/2026-03-31",
+           "#/accounts", "#/accounts/2026-03-01/2026-03-31"]
 FORMS = {"cashier": ["deposit", "propose", "claim", "seats"], "lee": ["propose", "fee", "claim"], "ada": ["dispute"]}
 
 
@@ -183,7 +184,7 @@ def print_views(firm: Firm, folder: pathlib.Path, checks: Checks) -> None:
         done = subprocess.run(["pdftotext", "-layout", str(path), "-"], stdout=subprocess.PIPE, check=True)
         text = done.stdout.decode()
         checks.so(f"{view} is printed with the firm and its account", NAME in text and ACCOUNT in text, text)
-        checks.so(f"{view} is printed", words in text and f"Printed by cashier, the desk's day {DAY}" in text, text)
+        checks.so(f"{view} is printed", words in text and f"Printed by cashier, business day {DAY}" in text, text)
         left = [word for word in ("Save as text", "Read again", "Overview", "Propose a payment") if word in text]
         checks.same(f"{view}: the buttons that are printed", left, [])
     browser.quit()

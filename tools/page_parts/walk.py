@@ -1,7 +1,7 @@
 """A firm of three matters, played from its first day by five browsers: two cashiers, two lawyers, a client."""
 import pathlib
 
-from .browser import Browser
+from .browser import PHONE, Browser
 from .checks import Checks
 from .firm import HEAD, Desk, Fault, Firm
 
@@ -116,7 +116,8 @@ def approve_too_early(walk: Walk) -> None:
              "435.00 0.00 not enough with 5,000.00 held 0.00")
     walk.lacks(lee, "Bob Ruiz", "Another matter")
     lee.follow("0002")
-    walk.has(lee, "It waits for you", "That is not enough")
+    walk.has(lee, "It waits for you", "That is not enough",
+             "Held: 5,000.00. It counts once the bank has shown it.")
     lee.press("Approve 435.00")
     walk.has(lee, "Only 0.00 is there for this.", "409 Short")
 
@@ -137,6 +138,13 @@ def bring_statements(walk: Walk) -> None:
     walk.has(walk.cashier, "The file has more than 4,194,304 bytes")
     bring_in(walk, "day,amount\n")
     walk.has(walk.cashier, "Nothing is taken of statement.csv.", "no column is the day")
+    before = len(walk.firm.relay.imported)
+    bring_in(walk, HEAD + f"{DAY},CLOSE,,-5.00,Closing balance\n")
+    walk.has(walk.cashier, "Its closing balance is below zero", "Import it all the same")
+    walk.cashier.press("Match")
+    walk.has(walk.cashier, "1 line would be imported", "Its closing balance is below zero")
+    walk.cashier.press("Put it away")
+    walk.checks.same("how often it was imported", len(walk.firm.relay.imported), before)
     bring_in(walk, STATEMENT)
     walk.has(walk.cashier, "statement.csv was imported.", "Lines that found their place\n6",
              "Match nothing (exceptions)\n1", "Not readable\n1", f"Closing balance of\n{DAY}")
@@ -151,11 +159,11 @@ def dispute_a_fee(walk: Walk) -> None:
     lee.to("#/m/000001/e/0002")
     lee.press("Approve 435.00")
     walk.has(lee, "Approved: 435.00 to Clerk of the Superior Court.", "issued: the bank has not shown it yet")
-    walk.send(lee, "#/m/000001/fee", "Earn it", amount="9000", description="work")
+    walk.send(lee, "#/m/000001/fee", "Record it", amount="9000", description="work")
     walk.has(lee, "Only 4,565.00 is there for this.")
     walk.focus(lee, "amount")
     lee.fill(amount="1800", description="work to 9 January, 6.0 hours")
-    lee.press("Earn it")
+    lee.press("Record it")
     walk.has(lee, f"Booked on {DAY}: fee of 1,800.00", "Left of it\n1,800.00")
     ada.to("#/m/000001")
     walk.has(ada, "Available\n2,765.00", "Dispute a fee", "1,800.00 left")
@@ -183,14 +191,42 @@ def accept_an_offer(walk: Walk) -> None:
     lee.fill(to_client="100")
     lee.press("Offer it")
     ada.press("Accept 150.00")
+    walk.has(ada, "Accept 150.00 of 300.00? It settles the claim for good.")
+    ada.press("Accept it for good")
     walk.has(ada, "no longer what was offered", "422 BadSplit")
     ada.to("#/m/000001/e/0004")
     walk.has(ada, "Accept 100.00")
     lee.fill(to_client="150")
     lee.press("Offer it")
+    walk.cashier.to("#/")
+    walk.cashier.find("#find-entry")[0].send_keys("hour is counted")
+    walk.cashier.settle()
+    walk.has(walk.cashier, "Entries found", "M000001-0004", "open claim")
     ada.to("#/m/000001/e/0004")
     ada.press("Accept 150.00")
+    ada.press("Leave it as it is")
+    ada.press("Accept 150.00")
+    ada.press("Accept it for good")
     walk.has(ada, "The claim is settled.", "Left to the client\n150.00")
+
+
+# Where the button of these words stands in the window.
+PLACE = """const has = ({ textContent }) => textContent.includes(arguments[0]);
+const { top, bottom } = [...document.querySelectorAll('main button')].find(has).getBoundingClientRect();
+return [top, bottom];"""
+
+
+def approve_on_a_phone(walk: Walk) -> None:
+    """What a thumb touched once approves, and does not void where it touches again."""
+    phone = Browser("sato", walk.firm.origin, PHONE)
+    phone.to("#/m/000002/e/0003")
+    top, bottom = phone.run(PLACE, "Approve 2,000.00")
+    phone.press("Approve 2,000.00")
+    walk.has(phone, "Approved: 2,000.00 to Bay Clinic.")
+    void_top, void_bottom = phone.run(PLACE, "Void the payment")
+    is_apart = void_top > bottom or void_bottom < top
+    walk.checks.so("Void does not stand where Approve stood on a phone", is_apart, (top, bottom, void_top, void_bottom))
+    phone.quit()
 
 
 def pay_from_funds(walk: Walk) -> None:
@@ -204,14 +240,14 @@ def pay_from_funds(walk: Walk) -> None:
     walk.send(sato, "#/m/000002/claim", "Hold it", amount="2400", claimant="Bay Clinic", reason="treatment bills")
     walk.has(sato, f"Booked on {DAY}: claim of 2,400.00")
     walk.send(cashier, "#/m/000002/e/0002", "Award it", to_client="400")
+    walk.has(cashier, "Give the client 400.00 of 2,400.00? It settles the claim for good.")
+    cashier.press("Award it for good")
     walk.has(cashier, "The claim is settled.", "Left of it\n2,000.00")
     cashier.follow("Propose its payment to the claimant")
     walk.checks.same("whom a claim pays", cashier.find("#payee")[0].get_attribute("value"), "Bay Clinic")
     cashier.fill(amount="2000", purpose="treatment bills, as settled", instrument="1003")
     cashier.press("Propose it")
-    sato.to("#/m/000002/e/0003")
-    sato.press("Approve 2,000.00")
-    walk.has(sato, "Approved: 2,000.00 to Bay Clinic.")
+    approve_on_a_phone(walk)
     lee.to("#/m/000001/e/0005")
     approve = next(each for each in lee.find("button") if "Approve" in each.text).rect
     lee.press("Approve 1,650.00")
@@ -236,6 +272,7 @@ def two_at_once(walk: Walk) -> None:
     cashier.press("Book mine as 0004")
     walk.has(cashier, f"Booked on {DAY}: payment of 650.00 to Sunrise Reporting, LLC, entry 0004")
     lee.to("#/m/000003/e/0003")
+    walk.has(lee, "Other payments that are proposed from it: 650.00")
     sato.to("#/m/000003/e/0003")
     sato.press("Decline it")
     lee.press("Approve 3,900.00")
@@ -352,6 +389,8 @@ def read_and_close(walk: Walk) -> None:
     walk.lacks(cashier, "Purge")
     ada.to("#/m/000001/card")
     walk.has(ada, "LEDGER 000001 Ada Chen", "TOTAL")
+    ada.find("details.explained summary")[0].click()
+    walk.has(ada, "paid in, and not shown by the bank yet")
     ada.to("#/report/journal")
     walk.has(ada, "Only the cashier reads the firm's reports")
     ada.to("#/m/000003")
@@ -449,8 +488,16 @@ def tell_doubts(walk: Walk) -> None:
     cashier.press_once("Open it")
     walk.has(cashier, "nobody is the lawyer of no other matter.")
     cashier.fill(lawyer="lee")
+    walk.lacks(cashier, "nobody is the lawyer", "all the same")
     cashier.press_once("Open it")
-    walk.has(cashier, "Dee Frost", "is open.")
+    walk.has(cashier, "Dee Frost", "is open.", "lee (lawyer)")
+    cashier.to("#/m/000002/seats")
+    cashier.fill(person="leee", role="lawyer")
+    cashier.press_once("Give access")
+    walk.has(cashier, "leee is the lawyer of no other matter.", "Give access all the same")
+    cashier.fill(role="client")
+    cashier.press_once("Give access")
+    walk.has(cashier, "leee has access as client.")
 
 
 CHAPTERS = (open_matters, book_deposits, approve_too_early, bring_statements, dispute_a_fee, accept_an_offer,

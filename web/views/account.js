@@ -19,19 +19,21 @@ const FIRST = 200;
 // A payment that the bank has not shown after so many days is told.
 const STALE = 180;
 
-const COLUMNS = [column('Day', 'tight'), column('Entry', 'tight'), column('What', 'tight'), column('Words'),
+const COLUMNS = [column('Day', 'tight'), column('Entry', 'tight'), column('What', 'tight'), column('Details'),
     column('Amount', 'right'), column('Ledger', 'right')];
 
 const cellsOf = ({ day, reference, kind, words, amount, sum }) =>
     [number(day), referenceLink(reference), MOVED[kind], label(words), money(amount), money(sum)];
 
-function accountTable(text) {
-    const { opening, movements, closing } = readAccount(text);
+// What moved between the two sums; so many movements are shown first.
+export function movedTable({ opening, movements, closing }, first) {
     const items = [{ opening }, ...movements];
     const cells = (each) => (each.opening ? ['Opening', '', '', '', '', money(each.opening)] : cellsOf(each));
-    return el('div', { class: 'on-screen' }, longTable({ caption: 'What came in and went out', columns: COLUMNS, items,
-        cells, first: FIRST, foot: [strong('Closing'), '', '', '', '', strong(money(closing))] }));
+    return longTable({ caption: 'What came in and went out', columns: COLUMNS, items, cells, first: first + 1,
+        foot: [strong('Closing'), '', '', '', '', strong(money(closing))] });
 }
+
+const accountTable = (text) => el('div', { class: 'on-screen' }, movedTable(readAccount(text), FIRST));
 
 // Payments that were issued by the last day and long ago, and that the bank has not shown yet.
 function staleBox(page, entries, to) {

@@ -2,11 +2,12 @@
 
 import { grouped, isMore, isNothing } from '../amounts.js';
 import { change } from '../asks.js';
-import { askFirst } from '../boxes.js';
-import { entryPath, matterPath } from '../desk.js';
+import { askAbout, askFirst } from '../boxes.js';
+import { entriesPath, entryPath, matterPath } from '../desk.js';
 import { button, el, label, link, money, p, quiet } from '../elements.js';
 import { entryFacts } from '../entry-facts.js';
 import { form, partField } from '../forms.js';
+import { waitingOf } from '../lists.js';
 import { shown } from '../names.js';
 import { KINDS, fundOf } from '../words.js';
 import { backTo, roleIn } from './matter.js';
@@ -41,6 +42,7 @@ function depositDecision({ entry, role, decisions }) {
 }
 
 const NOT_ENOUGH = 'That is not enough: as it stands, approving is refused.';
+const DECIDED = 'It was decided meanwhile. Open it again.';
 const NEEDS_A_LAWYER = 'A lawyer of the matter has to approve it.';
 const WITHDRAWING = 'Withdraw what was proposed by mistake: it is not paid, and can be proposed anew.';
 
@@ -49,15 +51,20 @@ const paymentWords = ({ amount, payee }) => `${grouped(amount)} to ${shown(payee
 const withdrawing = ({ entry, decisions }) =>
     decisions.button('withdraw', 'Withdraw it', `Withdrawn: ${paymentWords(entry)}.`);
 
-// A lawyer sees what is left of the fund before approving.
+// A lawyer sees what is left of the fund before approving, what may still come, and what else is proposed from it.
 async function proposedDecision(asked) {
     const { page, no, matter, entry, decisions } = asked;
-    const drawn = entry.from === 'general' ? null : await page.desk.get(entryPath(no, entry.of));
-    const left = drawn ? drawn.body.left : matter.available;
+    const { entries } = (await page.desk.get(entriesPath(no))).body;
+    const waits = waitingOf(matter, entries).find((each) => each.entry.entry === entry.entry);
+    if (!waits) return quiet(DECIDED);
+    const { left, held, others } = waits;
     const what = paymentWords(entry);
     return decision('It waits for you',
         p(`Left of ${fundOf(entry)}: `, money(left)),
         isMore(entry.amount, left) && el('p', { class: 'warning' }, NOT_ENOUGH),
+        entry.from === 'general' && !isNothing(held)
+            && p('Held: ', money(held), '. It counts once the bank has shown it.'),
+        !isNothing(others) && p('Other payments that are proposed from it: ', money(others)),
         el('div', { class: 'buttons' },
             decisions.button('approve', `Approve ${what}`, `Approved: ${what}.`, ''),
             decisions.button('decline', 'Decline it', 'Declined.'),
@@ -100,9 +107,12 @@ function offered({ entry, decisions }) {
     if (entry.to_client === null) return quiet('Nothing was offered yet.');
     const { amount, to_client: part } = entry;
     const accept = () => decisions.ask('accept', SETTLED, { to_client: part });
-    return decision('You were made an offer',
-        p('Of ', money(amount), ', ', money(part), ' stays yours. Accepting settles the claim for good.'),
-        p(button(`Accept ${grouped(part)}`, accept, '')));
+    return decision('You were made an offer', p('Of ', money(amount), ', ', money(part), ' stays yours.'),
+        askFirst(`Accept ${grouped(part)}`, {
+            question: `Accept ${grouped(part)} of ${grouped(amount)}? It settles the claim for good.`,
+            yes: 'Accept it for good',
+            act: accept,
+        }));
 }
 
 const offering = ({ decisions }) => form({
@@ -110,9 +120,11 @@ const offering = ({ decisions }) => form({
     submit: (fields, place) => decisions.ask('offer', `Offered: ${grouped(fields.to_client)}.`, fields, place),
 });
 
-const awarding = ({ decisions }) => form({
+const awarding = ({ entry, decisions }) => form({
     title: 'Settle it by an award', fields: [partField('is given')], action: 'Award it',
-    submit: (fields, place) => decisions.ask('award', SETTLED, fields, place),
+    submit: (fields, place) => askAbout(place, [`Give the client ${grouped(fields.to_client)} of `
+        + `${grouped(entry.amount)}? It settles the claim for good.`], 'Award it for good',
+    () => decisions.ask('award', SETTLED, fields, place)),
 });
 
 function claimDecision(asked) {

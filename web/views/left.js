@@ -34,7 +34,7 @@ const PARTS = /(M\d{6}-\d{4}|\d{4}-\d\d-\d\d|(?<=^the firm's own money would be 
 const reasonWords = (reason) => reason.split(PARTS).map((part) =>
     (entryAt(part) ? referenceLink(part) : amountOrDay(part)));
 
-const ENTRY_COLUMNS = [column('Reference', 'tight'), column('Client'), column('Day', 'tight'), column('Words'),
+const ENTRY_COLUMNS = [column('Reference', 'tight'), column('Client'), column('Day', 'tight'), column('Details'),
     column('Amount', 'right'), column('Use', 'tight')];
 
 const entryCells = (entry, use) => [referenceLink(entry.reference), label(entry.client), number(entry.day),

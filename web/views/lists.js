@@ -70,7 +70,7 @@ export function waitingTables(waiting, isOne = false) {
     return tables.length ? tables : [quiet('Nothing waits for a decision.')];
 }
 
-const BANK_COLUMNS = [column('Reference', 'tight'), column('Client'), column('Words'), column('Day', 'tight'),
+const BANK_COLUMNS = [column('Reference', 'tight'), column('Client'), column('Details'), column('Day', 'tight'),
     column('Amount', 'right')];
 
 // The reference is the one that the bank's line has to have.
@@ -87,7 +87,7 @@ export const atBankTable = (entries) => longTable({
 });
 
 const FOUND_COLUMNS = [column('Reference', 'tight'), column('Day', 'tight'), column('What', 'tight'),
-    column('Words, client'), column('Amount', 'right')];
+    column('Details, client'), column('Amount', 'right')];
 
 const foundCells = ({ matter, entry, reference, day, what, words, amount }) =>
     [link(`#/m/${matter}/e/${entry}`, number(reference)), number(day), what, label(words), money(amount)];

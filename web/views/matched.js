@@ -32,11 +32,12 @@ const count = (many, one, words) => (many === 1 ? `1 ${one}` : `${many} ${words}
 // How many lines that would be imported are told all the same: what they name can't be theirs.
 export const countWrong = ({ told }) => told.filter(({ line }) => line?.isWhole && line.reference).length;
 
+export const BELOW_ZERO = 'Its closing balance is below zero: look at it once more.';
+
 // What the file became, in a sentence; the counts are the desk's own, but for what the page leaves to a person.
 export const matchedBox = (file, { written, inBook, left }) => noteBox(
     p(strong(`${file.name}: ${count(written, 'line', 'lines')} would be imported, ${inBook} in the book already, `
         + `${left} to be looked at.`)),
     p('Nothing was imported by this.'),
-    file.lines.some(({ reference, amount }) => reference === 'CLOSE' && amount.startsWith('-'))
-        && p('Its closing balance is below zero: look at it once more.'),
+    file.closesBelowZero() && p(BELOW_ZERO),
 );

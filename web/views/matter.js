@@ -35,7 +35,7 @@ export const backTo = (no) => p(link(`#/m/${no}`, 'Back to the matter'));
 const ACTIONS = {
     deposit: 'Book a deposit',
     propose: 'Propose a payment',
-    fee: 'Earn a fee',
+    fee: 'Record an earned fee',
     claim: 'Hold for a lien or claim',
     dispute: 'Dispute a fee',
     seats: 'Access',
@@ -58,7 +58,7 @@ function actionsOf(no, role, matter, entries) {
 const sumsOf = (matter) =>
     sums(BALANCES.map(([name, words, means]) => [name, words, money(matter[name]), means]));
 
-const ENTRY_COLUMNS = [column('Entry', 'tight'), column('Day', 'tight'), column('What', 'tight'), column('Words'),
+const ENTRY_COLUMNS = [column('Entry', 'tight'), column('Day', 'tight'), column('What', 'tight'), column('Details'),
     column('State'), column('Amount', 'right'), column('Ledger', 'right')];
 
 // What is paid out has a minus; the ledger is told behind each entry that moved it.

@@ -16,8 +16,8 @@ import { EXPLAINED, breaksBox, figuresTable, resultBox } from './reconciliation.
 
 const HERE = '#/month';
 
-const REMARK_COLUMNS = [column('What', 'tight'), column('Day', 'tight'), column('Reference', 'tight'), column('Words'),
-    column('Amount', 'right')];
+const REMARK_COLUMNS = [column('What', 'tight'), column('Day', 'tight'), column('Reference', 'tight'),
+    column('Details'), column('Amount', 'right')];
 
 const REMARKS = { EARLY: 'early', DOUBLE: 'double', EXCEPTION: 'exception' };
 
@@ -97,7 +97,8 @@ function packet(page, day, { text, bytes }) {
     });
     return [
         el('p', { class: 'tools' }, button('Print', () => window.print(), ''), button('Keep', () => keep(bytes, name)),
-            el('span', { class: 'quiet' }, 'Printed, each part begins a sheet.')),
+            el('span', { class: 'quiet' }, 'Printed, each part begins a sheet.'),
+            link(`#/accounts/${day.slice(0, 8)}01/${day}`, 'The clients\u2019 statements of account')),
         sheets,
         el('details', {}, el('summary', {}, 'As the desk printed it'),
             el('pre', { class: 'report', tabindex: '0', role: 'region', 'aria-label': 'The packet' },

@@ -9,7 +9,7 @@ import { column, longTable } from '../tables.js';
 import { MOVED } from '../words.js';
 import { knownClosings } from './closings.js';
 import { referenceLink } from './left.js';
-import { dayField, periodForm } from './periods.js';
+import { dayField, lastPeriod, periodForm } from './periods.js';
 import { reportsList } from './report.js';
 
 // So many movements are shown first.
@@ -84,9 +84,9 @@ async function reported(page, path, asked, partsOf) {
 
 export async function journalOf(page, name, from = null, to = null) {
     const { title, other } = JOURNALS[name];
-    const last = knownClosings(page)[0] ?? page.desk.day ?? '';
-    const asked = periodForm({ page, from: from ?? (last && `${last.slice(0, 8)}01`), to: to ?? last,
-        action: `List the ${name}`, address: `#/report/${name}` });
+    const [first, last] = lastPeriod(page);
+    const asked = periodForm({ page, from: from ?? first, to: to ?? last, action: `List the ${name}`,
+        address: `#/report/${name}` });
     if (!from) return { title, parts: [reportsList(name), asked] };
     const path = `/firm/${name}/${from}/${to}`;
     const parts = await reported(page, path, asked, (text) => [

@@ -4,10 +4,10 @@ import { book, isUnanswered, newAsk } from '../asks.js';
 import { grouped, isNothing } from '../amounts.js';
 import { askAbout } from '../boxes.js';
 import { doubtsOfDeposit, doubtsOfPayment } from '../doubts.js';
-import { label, p, quiet } from '../elements.js';
+import { explained, label, p, quiet } from '../elements.js';
 import { amountField, choiceField, form, labelField } from '../forms.js';
 import { entryAfter, shown } from '../names.js';
-import { textsOf } from '../words.js';
+import { meansOf, textsOf } from '../words.js';
 import { backTo, hasLeft, readMatterWhole } from './matter.js';
 
 // The bank's line is matched by it.
@@ -24,7 +24,7 @@ const deposit = ({ page, entries }) => ({
 const upTo = ({ available }) => ({ hint: `At most ${grouped(available)}, which is available` });
 
 const fee = ({ matter }) => ({
-    title: 'Earn a fee', kind: 'fee', action: 'Earn it',
+    title: 'Record an earned fee', kind: 'fee', action: 'Record it',
     fields: [amountField(upTo(matter)), labelField('description', 'For which work')],
     whatOf: ({ amount }) => `fee of ${grouped(amount)}`,
 });
@@ -45,7 +45,8 @@ function dispute({ entries, of }) {
         title: 'Dispute a fee', kind: 'claim', action: 'Dispute it',
         about: 'The part that you dispute stays in the account until it is settled, and the firm is not paid it.',
         fields: [choiceField('of', 'Fee', fees.map((each) => [each.entry, feeWords(each)]), of),
-            amountField({ words: 'How much of it' }), labelField('reason', 'Why')],
+            amountField({ words: 'How much of it', hint: 'At most what is left of the fee' }),
+            labelField('reason', 'Why')],
         sentOf: (values) => ({ on: 'fee', ...values }),
         whatOf: ({ amount, of: disputed }) => `dispute of ${grouped(amount)} of fee ${disputed}`,
     };
@@ -76,6 +77,7 @@ function propose({ page, matter, entries, fund, of }) {
     return {
         title: 'Propose a payment', kind: 'propose', action: 'Propose it',
         about: 'A lawyer of the matter has to approve it before anything is paid.',
+        means: ['General fund', 'Earned fee'],
         fields: [
             choiceField('from', 'Drawn on', funds.map(({ value, words }) => [value, words]), chosen),
             amountField(),
@@ -125,5 +127,6 @@ export async function newEntry(page, no, verb, fund = null, of = null) {
         },
     });
     asked.prepare?.(made);
-    return { title: asked.title, parts: [asked.about && p(asked.about), made, backTo(no)] };
+    const parts = [asked.about && p(asked.about), made, asked.means && explained(meansOf(asked.means)), backTo(no)];
+    return { title: asked.title, parts };
 }

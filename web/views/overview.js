@@ -51,14 +51,15 @@ function unshownPart(page, { matters, held, issued }) {
         el('summary', {}, 'Not yet shown by the bank: deposits of ', money(held), `, ${paymentsOf(issued)}`), place);
 }
 
-// A movement of a journal, or a payment that waits, as an entry that can be looked for.
+// A movement of a journal, or what waits, as an entry that can be looked for.
 function movedEntry({ day, reference, amount, kind, words }) {
     const [, matter, entry] = /^M(\d{6})-(\d{4})$/.exec(reference);
     return { matter, entry, reference, day, what: MOVED[kind], words, amount };
 }
 
 const waitingEntry = ({ client, entry: { matter, entry, day, amount, ...more } }) => ({ matter, entry, day, amount,
-    reference: `M${matter}-${entry}`, what: STATES.proposed[0], words: `${textsOf(more)} | ${client}` });
+    reference: `M${matter}-${entry}`, what: isProposed(more) ? STATES.proposed[0] : 'open claim',
+    words: `${textsOf(more)} | ${client}` });
 
 // All movements of matters in the last five years, the newest first, behind what waits.
 async function readEntries(page, waiting) {
@@ -68,7 +69,7 @@ async function readEntries(page, waiting) {
     const moved = answers.flatMap(({ text }) => readMovements(text)[0].movements)
         .filter(({ reference }) => reference !== 'FIRM')
         .sort((one, other) => (one.day > other.day ? -1 : Number(one.day < other.day)));
-    const all = [...waiting.filter(({ entry }) => isProposed(entry)).map(waitingEntry), ...moved.map(movedEntry)];
+    const all = [...waiting.map(waitingEntry), ...moved.map(movedEntry)];
     return all.map((each) => [`${each.words} ${each.amount} ${grouped(each.amount)}`.toLowerCase(), each]);
 }
 
@@ -97,7 +98,8 @@ function findEntries(page, waiting) {
     };
     const hint = 'Of the last five years, by payee, source, purpose, client, check number or amount';
     const more = quiet('Older ones stand among the ', link('#/report/receipts', 'receipts'), ' and the ',
-        link('#/report/disbursements', 'disbursements'), ' of their days.');
+        link('#/report/disbursements', 'disbursements'), ' of their days; a fee, or a claim that is settled, in its '
+            + 'matter.');
     return [findField({ id: 'find-entry', words: 'Find an entry', hint, find }), place, more];
 }
 

@@ -2,7 +2,7 @@
 
 import { button, el, label, link, money, number, p, printed } from '../elements.js';
 import { readMatters } from '../lists.js';
-import { dayOf, readJournal, readRetention, readTrial } from '../reports.js';
+import { countLines, dayOf, readJournal, readRetention, readTrial } from '../reports.js';
 import { column, longTable } from '../tables.js';
 import { dismissal } from './exceptions.js';
 import { referenceLink } from './left.js';
@@ -19,12 +19,20 @@ const NAMES = {
     retention: 'Retention',
 };
 
+// What is said where a report has no line.
+const EMPTY = {
+    journal: 'Nothing came into the account yet.',
+    exceptions: 'Each line of the bank\u2019s has its entry.',
+    retention: 'No matter is closed.',
+};
+
 // Those of a day or of a period have views of their own.
 const PLACES = {
     clients: ['#/clients', 'Clients as of a day'],
     receipts: ['#/report/receipts', 'Receipts'],
     disbursements: ['#/report/disbursements', 'Disbursements'],
     outstanding: ['#/report/outstanding', 'Outstanding items'],
+    accounts: ['#/accounts', 'Statements of account'],
     ...Object.fromEntries(Object.entries(NAMES).map(([name, words]) => [name, [`#/report/${name}`, words]])),
 };
 
@@ -95,6 +103,7 @@ export async function report(page, name) {
     page.desk.day = dayOf(text);
     const table = TABLES[name] && named(name, text, matters);
     const more = name === 'exceptions' && await dismissal(page);
-    const parts = [reportsList(name), table, asPrinted(text, path, `${name}-${page.desk.day}.txt`), more];
+    const empty = countLines(text) === 0 && p(EMPTY[name]);
+    const parts = [reportsList(name), empty || table, asPrinted(text, path, `${name}-${page.desk.day}.txt`), more];
     return { title: NAMES[name], parts };
 }

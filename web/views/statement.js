@@ -16,7 +16,7 @@ import { readTrial } from '../reports.js';
 import { rememberClosing } from './closings.js';
 import { dismissOffers } from './exceptions.js';
 import { LeftLines, referenceLink } from './left.js';
-import { countWrong, matchedBox, writtenTable } from './matched.js';
+import { BELOW_ZERO, countWrong, matchedBox, writtenTable } from './matched.js';
 import { Taking } from './taking.js';
 
 const GREATEST = 4194304;
@@ -35,6 +35,7 @@ const HINT = 'As the bank gives it: OFX, QFX, QBO, camt.053 or CSV; or a stateme
     + 'bytes. The same file may come again: nothing is counted twice.';
 const NO_TEXT = 'This is no bank\u2019s file: of a PDF or a spreadsheet nothing can be read. Take OFX, camt.053 or '
     + 'CSV.';
+const WIDE = 'The file is in UTF-16: save it again as CSV in UTF-8.';
 const ACCEPTED = '.csv,.txt,.ofx,.qfx,.qbo,.xml,text/csv';
 const CHOICE = "Match fills in the references that the bank's words make sure, and imports nothing. "
     + 'Import as it is imports the file as it is.';
@@ -44,10 +45,11 @@ function wrongWith(file) {
     return file.size > GREATEST ? TOO_LARGE : '';
 }
 
-// A text has no zero byte, and begins like none of these.
-function isNoText(bytes) {
+// Why a file is no text; empty where it is one. A text has no zero byte, and begins like none of these.
+function whyNoText(bytes) {
     const front = textOf(bytes.subarray(0, 8));
-    return bytes.includes(0) || front.startsWith('%PDF') || front.startsWith('PK\u0003\u0004');
+    if (front.startsWith('\u00ff\u00fe') || front.startsWith('\u00fe\u00ff')) return WIDE;
+    return bytes.includes(0) || front.startsWith('%PDF') || front.startsWith('PK\u0003\u0004') ? NO_TEXT : '';
 }
 
 // The counts in words. The desk tells how many lines were not readable, and not which.
@@ -185,7 +187,7 @@ class Statement {
         } catch {
             this.error.textContent = NOT_READ;
         }
-        if (bytes && isNoText(bytes)) this.error.textContent = NO_TEXT;
+        if (bytes) this.error.textContent = whyNoText(bytes);
         if (!this.error.textContent) return bytes;
         this.tell();
         this.input.focus();
@@ -342,10 +344,12 @@ class Statement {
     // The file as it is. Its lines without a reference would be exceptions, so that is asked again.
     async bringAll(isAsked = false) {
         const open = this.file.countOpen();
-        if (open && !isAsked) {
-            const all = button('Import them as exceptions', () => this.run(() => this.bringAll(true)));
-            this.tell(noteBox(p(`Lines without a reference: ${open}. Imported so they are exceptions. `
-                + 'Match the file first.'), p(all)));
+        const isBelow = this.file.closesBelowZero();
+        if ((open || isBelow) && !isAsked) {
+            const all = button(open ? 'Import them as exceptions' : 'Import it all the same',
+                () => this.run(() => this.bringAll(true)));
+            this.tell(noteBox(open > 0 && p(`Lines without a reference: ${open}. Imported so they are exceptions. `
+                + 'Match the file first.'), isBelow && p(BELOW_ZERO), p(all)));
             return;
         }
         const told = await this.bringIn(this.file.bytes());

@@ -1,0 +1,78 @@
+// The statements of account of all matters over the same days, each on a sheet of its own: what goes to the clients at
+// a month's end.
+
+import { isNothing } from '../amounts.js';
+import { Refused, accountPath } from '../desk.js';
+import { button, el, label, link, number, p, quiet } from '../elements.js';
+import { readMatters } from '../lists.js';
+import { readAccount } from '../reports.js';
+import { movedTable } from './account.js';
+import { lastPeriod, periodForm } from './periods.js';
+import { reportsList } from './report.js';
+
+// A matter that was open on one of the days.
+const wasOpen = ({ opened, closed }, from, to) => opened <= to && (!closed || closed >= from);
+
+const isEmpty = ({ opening, movements }) => isNothing(opening) && movements.length === 0;
+
+const TOO_MUCH = 429;
+const second = () => new Promise((go) => setTimeout(go, 1000));
+
+// The front end bounds how often a person asks in a second: a firm of thousands of matters is read over some seconds.
+async function readPatiently(page, path) {
+    let answer = await page.desk.read(path);
+    while (answer.status === TOO_MUCH) {
+        await second();
+        answer = await page.desk.read(path);
+    }
+    if (!answer.isDone) throw new Refused(answer);
+    return answer.text;
+}
+
+async function readAll(page, matters, from, to) {
+    let count = 0;
+    return Promise.all(matters.map(async (each) => {
+        const text = await readPatiently(page, accountPath(each.matter, from, to));
+        count += 1;
+        page.say(`Read ${count} of ${matters.length}`);
+        return { ...each, account: readAccount(text) };
+    }));
+}
+
+// Above the first sheet the firm stands by itself.
+const sheetHead = (page) => el('p', { class: 'sheet-head on-paper' },
+    page.firm.map((line) => el('span', {}, label(line))));
+
+const daysOf = (from, to) => [number(from), ' to ', number(to)];
+
+function sheetOf(page, { matter, client, account }, days, at) {
+    const id = `account-${matter}`;
+    return el('section', { class: 'sheet', 'aria-labelledby': id },
+        at > 0 && sheetHead(page),
+        el('h2', { id }, label(client), ', matter ', link(`#/m/${matter}`, number(matter)), ', ', days),
+        movedTable(account, account.movements.length));
+}
+
+export async function accounts(page, from = null, to = null) {
+    const [first, last] = lastPeriod(page);
+    const asked = periodForm({ page, from: from ?? first, to: to ?? last, action: 'Show the accounts',
+        address: '#/accounts' });
+    const title = 'Statements of account';
+    if (!from) return { title, parts: [reportsList('accounts'), asked] };
+    const matters = (await readMatters(page)).filter((each) => wasOpen(each, from, to));
+    const read = await readAll(page, matters, from, to);
+    const moved = read.filter(({ account }) => !isEmpty(account));
+    const left = read.length - moved.length;
+    return {
+        title: [`${title}, `, daysOf(from, to)],
+        parts: [
+            reportsList('accounts'),
+            moved.length > 0 && el('p', { class: 'tools' }, button('Print', () => window.print(), ''),
+                el('span', { class: 'quiet' }, `Printed, each of the ${moved.length} begins a sheet.`)),
+            moved.map((each, at) => sheetOf(page, each, daysOf(from, to), at)),
+            moved.length === 0 && p('No matter had money or a movement in these days.'),
+            left > 0 && quiet(`Left out, without money or a movement: ${left}.`),
+            asked,
+        ],
+    };
+}
