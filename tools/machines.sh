@@ -1,23 +1,13 @@
 # shellcheck shell=bash
-# What tools/try-package and tools/try-machines have in common: counting, and machines of bare Debian under a systemd of
-# their own. `room` is a folder that is deleted at the end, `bare` that of a bare Debian.
+# What tools/try-package and tools/try-machines have in common: counting, and machines of bare Debian, each under a
+# systemd of its own. `room` is a folder that is deleted at the end, `bare` that of a bare Debian.
 
-passed=0 failed=0
+. "$root/tools/counting.sh"
 declare -A nspawn=() leader=()
 
 fail() {
     echo "${0##*/}: $1" >&2
     exit 1
-}
-
-# Counts a thing that was looked at: what it is, and whether it is so.
-count() {
-    if "${@:2}"; then
-        passed=$((passed + 1))
-    else
-        failed=$((failed + 1))
-        echo "NOT SO: $1"
-    fi
 }
 
 # is WHAT WANTED GOT
@@ -37,7 +27,11 @@ layer() {
     mkdir "$room/$2" "$room/$2.own" "$room/$2.work" &&
         mount -t overlay overlay -o "lowerdir=$1,upperdir=$room/$2.own,workdir=$room/$2.work" "$room/$2" ||
         fail "no overlay for $2"
+    ln -sf "/usr/share/zoneinfo/$(zone_of_noon)" "$room/$2/etc/localtime"
 }
+
+# A zone in which it is past eleven on this day of UTC: no midnight comes to a machine but one that is tried.
+zone_of_noon() { printf 'Etc/GMT%+d\n' $(($(date -u +%-H) - 11)); }
 
 # A command of a machine's administrator: on MACHINE COMMAND
 on() {
