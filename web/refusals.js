@@ -98,7 +98,7 @@ const STATUSES = {
     403: ['The front end refused this.', 'Open the page by its own address, not from another site.'],
     413: [STATEMENT_TOO_LARGE, IN_PARTS],
     414: ['The address is too long.', LOAD_AGAIN],
-    429: ['Too much was asked at once.', 'Wait a moment, and ask again.'],
+    429: ['Too much was asked at once.', 'Wait a minute, and ask again.'],
     502: ['The desk is not open.',
         'It opens on working days in the morning. What was not answered can be sent again then: it is booked once.'],
     503: ['The desk failed.', 'Wait a moment, and send it again: it is booked once.'],

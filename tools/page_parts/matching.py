@@ -333,6 +333,8 @@ WHY = (
     ({"name": "WrongAmount", "amount": "5000.00"}, "its reference is that of an entry of another amount, 5,000.00"),
     ({"name": "Uncovered", "available": "430.00"},
      "it takes a deposit back, and only 430.00 is available in the matter"),
+    ({"name": "Uncovered", "available": "500.00"},
+     "it takes a deposit back, and the business day is before the last day of its matter"),
     ({"name": "Zero"}, "an amount of 0.00 moves nothing"),
     ({"name": "Beyond", "balance": "10.00"},
      "the firm\u2019s own money is 10.00, and would not stay from 0.00 to 500.00 with it"),
@@ -346,7 +348,7 @@ def explain(bank: Bank) -> None:
     script = ("import('/page/reasons.js').then(({ whyException }) => done([whyException(arguments[0])].flat()"
               ".map((part) => part.textContent ?? part).join('')), String)")
     for reason, words in WHY:
-        told = bank.browser.wait(script, {"reference": "A SLIP", "reason": reason})
+        told = bank.browser.wait(script, {"reference": "A SLIP", "amount": "-500.00", "reason": reason})
         bank.checks.same(f"why a line with the reason {reason} is an exception", told, words)
 
 

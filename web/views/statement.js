@@ -12,7 +12,7 @@ import { button, el, facts, link, p } from '../elements.js';
 import { movementOf, readByMovement } from '../exceptions.js';
 import { areInBook, isSameAs, matchFile } from '../matched.js';
 import { whyException } from '../reasons.js';
-import { readTrial } from '../reports.js';
+import { countLines, readTrial } from '../reports.js';
 import { rememberClosing } from './closings.js';
 import { dismissOffers } from './exceptions.js';
 import { LeftLines, referenceLink } from './left.js';
@@ -20,6 +20,8 @@ import { BELOW_ZERO, countWrong, matchedBox, writtenTable } from './matched.js';
 import { Taking } from './taking.js';
 
 const GREATEST = 4194304;
+const LINES_A_MINUTE = 3600; // on a busy disk
+const OFTEN = 5000; // milliseconds between two words on a long import
 
 const EMPTY = 'Choose a file.';
 const TOO_LARGE = 'The file has more than 4,194,304 bytes: import it in parts.';
@@ -66,6 +68,11 @@ function countsBox(name, told) {
         told.unreadable > 0 && p('A line that is not readable was left out. Compare the file with the bank.'),
         told.statement && p(link(`#/reconciliation/${told.statement}`, `Reconcile ${told.statement}`), ', or show the ',
             link(`#/month/${told.statement}`, 'month\u2019s end'), '.'));
+}
+
+function importingOf(count) {
+    const minutes = Math.ceil(count / LINES_A_MINUTE);
+    return `Importing lines: ${count}${minutes > 1 ? ` (some ${minutes} minutes on a busy disk)` : ''}`;
 }
 
 // The file is the wrong one, which no other sending mends.
@@ -328,11 +335,24 @@ class Statement {
         this.tell(...boxes);
     }
 
+    // Says how many lines are imported and, every few seconds, for how long by now.
+    async sayWhile(count, work) {
+        const begun = Date.now();
+        const seconds = () => Math.round((Date.now() - begun) / 1000);
+        this.page.say(importingOf(count));
+        const clock = setInterval(() => this.page.say(`${importingOf(count)}, ${seconds()} seconds so far`), OFTEN);
+        try {
+            return await work();
+        } finally {
+            clearInterval(clock);
+            this.page.say('');
+        }
+    }
+
     // The box that tells the counts; null where the statement is refused, which is told.
     async bringIn(bytes) {
-        this.page.say('Importing the statement');
-        const answer = await this.page.desk.post('/firm/statements', bytes);
-        this.page.say('');
+        const answer = await this.sayWhile(countLines(textOf(bytes)),
+            () => this.page.desk.post('/firm/statements', bytes));
         if (!answer.isDone) {
             this.refuse(answer, ...(answer.isUnknown ? [p(STILL_READ)] : []));
             return null;
