@@ -111,10 +111,7 @@ fn run_records<W: Write, B: Book, M: Remarks>(
         → LinesAreKept day (B.seen desk.old).firm (sheet_records bytes.now) (B.seen desk.old)
         (W.contents writer.old) (W.contents writer.new) result (B.seen desk.new) }
 {
-    let telling = Telling {
-        sheet: bytes,
-        remarks,
-    };
+    let telling = Telling::new(bytes, remarks);
     let mut refused = false;
     let rdr = ReaderBuilder::new()
         .has_headers(false)

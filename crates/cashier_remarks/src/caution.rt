@@ -2,6 +2,7 @@
 
 use crate::excerpt::Excerpt;
 use crate::fields::text_at;
+use crate::sighting::{EMPTY_MARK, Sighting, marked};
 use csv::ByteRecord;
 use day_sheet::{Verb, field_bytes, form_of};
 use std::fmt;
@@ -11,6 +12,10 @@ use std::fmt;
 pub enum Caution<'a> {
     /// This payee of the general fund differs from the firm only in letter case or blanks.
     NotFirm(Excerpt<'a>),
+    /// This payee has a word for cash in it.
+    LikeCash(Excerpt<'a>),
+    /// The record that begins on the line `before` proposes another payment with this number.
+    SameNumber { before: u64, number: Excerpt<'a> },
     /// A single double quote stands in a field that is in double quotes: the field with this number, from 1, is read as
     /// this.
     LoneQuote(usize, Excerpt<'a>),
@@ -64,19 +69,70 @@ fn place_in_single_quotes(row: &ByteRecord) -> Option<usize> {
     None
 }
 
+// Whether a record proposes a payment.
+fn is_proposing(row: &ByteRecord) -> bool {
+    matches!(form_of(row), Some(form) if form.verb == Verb::Propose)
+}
+
 // Whether a record proposes a payment from the general fund to a payee that is written almost like the firm.
 fn is_almost_to_firm(row: &ByteRecord) -> bool {
-    matches!(form_of(row), Some(form) if form.verb == Verb::Propose)
+    is_proposing(row)
         && field_bytes(row, 4) == b"general".as_slice()
         && field_bytes(row, 6)
             .trim_ascii()
             .eq_ignore_ascii_case(b"FIRM")
 }
 
+// Whether a word stands for cash.
+fn is_cash(word: &[u8]) -> bool {
+    word.eq_ignore_ascii_case(b"cash")
+        || word.eq_ignore_ascii_case(b"atm")
+        || word.eq_ignore_ascii_case(b"bearer")
+}
+
+// Whether a record proposes a payment to cash in other words. The word alone is refused.
+fn is_to_cash(row: &ByteRecord) -> bool {
+    if !is_proposing(row) {
+        return false;
+    }
+    for word in field_bytes(row, 6).split(|byte| !byte.is_ascii_alphanumeric()) {
+        if is_cash(word) {
+            return true;
+        }
+    }
+    false
+}
+
+/// Makes the marks of a payment that a record proposes by a check or another instrument with a number. None if it does
+/// not.
+pub fn payment_in(line: u64, row: &ByteRecord) -> Option<Sighting> {
+    let number = field_bytes(row, 8);
+    if !is_proposing(row) || !number.iter().any(|byte| byte.is_ascii_digit()) {
+        return None;
+    }
+    let matter = marked(EMPTY_MARK, field_bytes(row, 1));
+    Some(Sighting {
+        line,
+        name: marked(matter, field_bytes(row, 2)),
+        mark: marked(EMPTY_MARK, number),
+    })
+}
+
+/// Returns the warning about a payment whose number the one that begins on the line `before` has too.
+pub fn caution_on_number(row: &ByteRecord, before: u64) -> Caution<'_> {
+    Caution::SameNumber {
+        before,
+        number: Excerpt::new(text_at(row, 8)),
+    }
+}
+
 /// Returns the warning about an accepted record, which is at the start of these bytes.
 pub fn caution_on<'a>(row: &'a ByteRecord, bytes: &[u8]) -> Option<Caution<'a>> {
     if is_almost_to_firm(row) {
         return Some(Caution::NotFirm(Excerpt::new(text_at(row, 6))));
+    }
+    if is_to_cash(row) {
+        return Some(Caution::LikeCash(Excerpt::new(text_at(row, 6))));
     }
     if let Some(place) = place_of_lone_quote(bytes) {
         return Some(Caution::LoneQuote(place.saturating_add(1), Excerpt::new(text_at(row, place))));
@@ -92,6 +148,14 @@ impl fmt::Display for Caution<'_> {
                 f,
                 "{payee} is not FIRM, the firm: if the firm is meant, withdraw it, \
                 and pay FIRM from a fee that was earned"
+            ),
+            Caution::LikeCash(payee) => write!(
+                f,
+                "{payee}: nobody is paid in cash from a trust account; name the person or the office"
+            ),
+            Caution::SameNumber { before, number } => write!(
+                f,
+                "the payment of line {before} has the number {number} too: look whether it is one check"
             ),
             Caution::LoneQuote(number, text) => write!(
                 f,

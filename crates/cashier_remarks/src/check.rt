@@ -57,11 +57,11 @@ fn write_entry<W: fmt::Write>(
     match after {
         None => write!(
             f,
-            "the first row of entry_v2 of matter {matter} stands for nothing"
+            "the first row of entry_v2 of matter {matter} can't be read"
         ),
         Some(entry) => write!(
             f,
-            "the row of entry_v2 behind entry {entry} of matter {matter} stands for nothing"
+            "the row of entry_v2 behind entry {entry} of matter {matter} can't be read"
         ),
     }
 }
@@ -70,19 +70,17 @@ fn write_entry<W: fmt::Write>(
 pub fn write_unread<W: fmt::Write>(f: &mut fmt::Formatter<W>, unread: &Unread) -> fmt::Result {
     match unread {
         Unread::Matter(matter) => write_matter(f, *matter),
-        Unread::Head(None) => f.write_str("the first row of matter_v2 stands for nothing"),
+        Unread::Head(None) => f.write_str("the first row of matter_v2 can't be read"),
         Unread::Head(Some(matter)) => write!(
             f,
-            "the row of matter_v2 behind matter {matter} stands for nothing"
+            "the row of matter_v2 behind matter {matter} can't be read"
         ),
-        Unread::Seat(matter) => {
-            write!(f, "a row of seat_v2 of matter {matter} stands for nothing")
-        }
+        Unread::Seat(matter) => { write!(f, "a row of seat_v2 of matter {matter} can't be read") }
         Unread::Entry { matter, after } => write_entry(f, *matter, *after),
-        Unread::Movement(number) => write!(f, "row {number} of journal stands for nothing"),
-        Unread::FirmLine(number) => write!(f, "row {number} of firm_line stands for nothing"),
-        Unread::Exception(number) => write!(f, "row {number} of exception stands for nothing"),
-        Unread::Balance(number) => write!(f, "row {number} of balance stands for nothing"),
+        Unread::Movement(number) => write!(f, "row {number} of journal can't be read"),
+        Unread::FirmLine(number) => write!(f, "row {number} of firm_line can't be read"),
+        Unread::Exception(number) => write!(f, "row {number} of exception can't be read"),
+        Unread::Balance(number) => write!(f, "row {number} of balance can't be read"),
         Unread::Elsewhere => f.write_str("the rows can't be read together"),
     }
 }

@@ -30,6 +30,7 @@ mod record;
 mod refused;
 mod remarks;
 mod rereading;
+mod sighting;
 mod statement;
 mod sum_meant;
 mod telling;

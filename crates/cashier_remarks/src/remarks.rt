@@ -162,7 +162,7 @@ impl fmt::Display for Remark<'_> {
             Remark::RowsEnd(fault) => write!(f, "{fault}: nothing more is told beside the report"),
             Remark::EarlierEnd(fault) => write!(
                 f,
-                "{fault}: it is not told which lines stand on another entry by an earlier import"
+                "{fault}: could not look for lines that an earlier import put on another entry"
             ),
             Remark::Flaw(flaw) => write_flaw(f, *flaw),
             Remark::Unread(unread) => write_unread(f, unread),

@@ -3,10 +3,11 @@
 use crate::line_fault::has_open_quote;
 use crate::remarks::{Remark, Remarks};
 use crate::rereading::{Found, Rereading};
+use crate::sighting::{EMPTY_MARK, Seen, Sighting, marked};
 use csv::ByteRecord;
 use day_sheet::field_bytes;
 use std::fmt;
-use trust_base::Day;
+use trust_base::{BankAmount, Day};
 
 /// What only the file of a statement shows about a record.
 #[derive(Clone, Copy)]
@@ -17,6 +18,8 @@ pub enum FileRemark {
     Again { before: u64 },
     /// It has the same day, bank reference and amount as the record that begins on this line, but another reference.
     Twice { before: u64 },
+    /// It closes the statement with this balance, which is below zero.
+    Overdrawn { amount: BankAmount },
 }
 
 impl fmt::Display for FileRemark {
@@ -37,71 +40,22 @@ impl fmt::Display for FileRemark {
                 "the same day, bank reference and amount as line {before}, under another reference: \
                 look whether the bank has both, or the sum of them"
             ),
+            FileRemark::Overdrawn { amount } => write!(
+                f,
+                "a closing balance of {amount}, below zero: no trust account is overdrawn; \
+                look whether the sign is meant, and call the bank"
+            ),
         }
     }
 }
-
-// How many of the preceding records each one is compared with.
-const WINDOW: usize = 64;
-
-// A record that was seen: the line on which it begins, 0 if there is none, and marks of its reference, and of its day,
-// bank reference and amount. Equal marks mean equal fields, except for a chance of 1 in 2^64.
-#[derive(Clone, Copy)]
-struct Sighting {
-    line: u64,
-    reference: u64,
-    mark: u64,
-}
-
-// The mark of bytes that follow others with this mark.
-fn marked(before: u64, bytes: &[u8]) -> u64 {
-    let mut mark = before;
-    for byte in bytes {
-        mark = (mark ^ *byte as u64).wrapping_mul(0x0000_0100_0000_01b3);
-    }
-    // Separates the field from the next.
-    (mark ^ 0xff).wrapping_mul(0x0000_0100_0000_01b3)
-}
-
-const EMPTY_MARK: u64 = 0xcbf2_9ce4_8422_2325;
 
 // Makes the marks of a record.
 fn sighting_of(line: u64, row: &ByteRecord) -> Sighting {
     let day = marked(EMPTY_MARK, field_bytes(row, 0));
     Sighting {
         line,
-        reference: marked(EMPTY_MARK, field_bytes(row, 1)),
+        name: marked(EMPTY_MARK, field_bytes(row, 1)),
         mark: marked(marked(day, field_bytes(row, 2)), field_bytes(row, 3)),
-    }
-}
-
-// The records that were seen last.
-#[derive(Drop)]
-struct Seen {
-    window: [Sighting; WINDOW],
-    // Where the next one is put.
-    next: usize,
-}
-
-impl Seen {
-    // Returns the first record in the window that has the same day, bank reference and amount.
-    fn same(&self, seen: &Sighting) -> Option<Sighting> {
-        self.window
-            .iter()
-            .find(|before| before.line > 0 && before.mark == seen.mark)
-            .copied()
-    }
-
-    // Puts a record into the window, in place of the oldest.
-    fn take(&mut self, seen: Sighting) {
-        if let Some(place) = self.window.get_mut(self.next) {
-            *place = seen;
-        }
-        self.next = if self.next < WINDOW - 1 {
-            self.next + 1
-        } else {
-            0
-        };
     }
 }
 
@@ -156,7 +110,7 @@ fn tell_of_same<M: Remarks>(found: &Found<'_>, remarks: &M, seen: &mut Seen) {
     let sighting = sighting_of(found.line, row);
     if let Some(before) = seen.same(&sighting) {
         let line = before.line;
-        let told = if before.reference == sighting.reference {
+        let told = if before.name == sighting.name {
             FileRemark::Again { before: line }
         } else {
             FileRemark::Twice { before: line }
@@ -169,17 +123,30 @@ fn tell_of_same<M: Remarks>(found: &Found<'_>, remarks: &M, seen: &mut Seen) {
     seen.take(sighting);
 }
 
-/// Reports what only the file of a statement shows about its records: which continue after their lines, and which have
-/// the same day, bank reference and amount as one of the 64 before them.
-pub fn tell_of_records<M: Remarks>(records: &mut Rereading, remarks: &M, is_match: bool) {
-    let mut seen = Seen {
-        window: [Sighting {
-            line: 0,
-            reference: 0,
-            mark: 0,
-        }; WINDOW],
-        next: 0,
+// Reports a closing balance below zero: a trust account is never overdrawn.
+fn tell_of_closing<M: Remarks>(found: &Found<'_>, remarks: &M) {
+    let row = found.row;
+    if row.len() != 5
+        || field_bytes(row, 1) != b"CLOSE".as_slice()
+        || Day::read(field_bytes(row, 0)).is_none()
+    {
+        return;
+    }
+    let Some(amount) = BankAmount::read(field_bytes(row, 3)) else {
+        return;
     };
+    if amount.get() < 0 {
+        remarks.tell(&Remark::OfFile {
+            line: found.line,
+            told: FileRemark::Overdrawn { amount },
+        });
+    }
+}
+
+/// Reports what only the file of a statement shows about its records: which continue after their lines, which have the
+/// same day, bank reference and amount as one of the 64 before them, and which close it below zero.
+pub fn tell_of_records<M: Remarks>(records: &mut Rereading, remarks: &M, is_match: bool) {
+    let mut seen = Seen::new();
     for number in 1..u64::MAX {
         if !records.has_read(number) {
             return;
@@ -187,5 +154,6 @@ pub fn tell_of_records<M: Remarks>(records: &mut Rereading, remarks: &M, is_matc
         let found = records.found();
         tell_of_ends(&found, remarks, is_match);
         tell_of_same(&found, remarks, &mut seen);
+        tell_of_closing(&found, remarks);
     }
 }
