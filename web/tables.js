@@ -8,12 +8,14 @@ export const column = (name, kind = null) => ({ name, kind });
 const headOf = (columns) => el('thead', { role: 'rowgroup' }, el('tr', { role: 'row' }, columns.map(({ name, kind }) =>
     el('th', { scope: 'col', role: 'columnheader', class: kind }, name))));
 
-// The element within a cell keeps its contents together where the cell is a grid.
+// What stands in a cell is one element, since on a phone the cell is a grid: texts and several parts get one.
+const oneOf = (inside) => (inside instanceof HTMLSpanElement ? inside : el('span', {}, inside));
+
 function cellOf(inside, { name, kind }, isFirst) {
     const attributes = { 'data-label': name, class: kind };
     return isFirst
-        ? el('th', { ...attributes, scope: 'row', role: 'rowheader' }, el('span', {}, inside))
-        : el('td', { ...attributes, role: 'cell' }, el('span', {}, inside));
+        ? el('th', { ...attributes, scope: 'row', role: 'rowheader' }, oneOf(inside))
+        : el('td', { ...attributes, role: 'cell' }, oneOf(inside));
 }
 
 export const rowOf = (columns, cells) =>

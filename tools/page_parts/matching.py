@@ -402,6 +402,26 @@ def be_refused(bank: Bank) -> None:
             bank.put_away()
 
 
+# Notes all that the page says while it does something.
+HEAR = """const said = document.getElementById('said');
+window.heard = [];
+new MutationObserver(() => heard.push(said.textContent)).observe(said, { childList: true, characterData: true,
+    subtree: true });"""
+
+
+def wait_for_an_import(bank: Bank) -> None:
+    """One that the front end gives up: meanwhile its lines and its seconds are told."""
+    bank.put_away()
+    bank.firm.relay.fail("POST /firm/statements$", Fault("late"))
+    bank.browser.run(HEAR)
+    bank.choose("none.csv", HEAD + "2026-03-14,OPEN,,zero,\n", "Import as it is")
+    heard = bank.browser.run("return window.heard")
+    for words in ("Importing lines: 1", "Importing lines: 1, 5 seconds so far", "Importing lines: 1, 10 seconds so far"):
+        bank.checks.so(f"while it waits the page says {words!r}", words in heard, heard)
+    bank.has("A long statement may still be read.", "none.csv is kept in this browser")
+    bank.put_away()
+
+
 def be_no_cashier(bank: Bank) -> None:
     """A lawyer, who has no such place in the list, and another site."""
     lee = Browser("lee", bank.firm.origin)
@@ -438,7 +458,7 @@ def play(program: str, folder: pathlib.Path, checks: Checks) -> None:
     bank = Bank(firm, folder, checks, browser)
     try:
         look_at_it(bank)
-        for chapter in (*CHAPTERS, be_refused, be_no_cashier):
+        for chapter in (*CHAPTERS, be_refused, wait_for_an_import, be_no_cashier):
             chapter(bank)
         checks.same("the browser's log", browser.faults(), [])
     finally:

@@ -12,6 +12,7 @@ from .checks import Checks
 from .firm import ACCOUNT, NAME, Desk, Fault, Firm
 
 DAY = "2026-03-31"
+TOO_MUCH = Fault("told", 429, "{}")
 PURGED = Fault("told", 409, '{"name":"PeriodPurged","refusal":28}')
 SHEET = {"preferCSSPageSize": True, "printBackground": False, "paperWidth": 8.5, "paperHeight": 11}
 
@@ -134,10 +135,12 @@ ACCOUNTS = (("Ada Chen, matter 000001", "2,915.00"), ("Bob Ruiz, matter 000002",
             ("Cleo Marsh, matter 000003", "3,850.00"), ("Dee | 9.99 Lane, matter 000004", "40.00"))
 
 
-def print_accounts(browser: Browser, folder: pathlib.Path, checks: Checks) -> None:
-    """Each client's account begins a sheet, under the firm's name."""
+def print_accounts(firm: Firm, browser: Browser, folder: pathlib.Path, checks: Checks) -> None:
+    """Each client's account begins a sheet, under the firm's name. Where the front end bounds the page, it waits."""
+    firm.relay.fail("GET /matters/00000[13]/accounting/", TOO_MUCH, 3)
     browser.to(f"#/month/{DAY}")
     browser.follow("The clients\u2019 statements of account")
+    checks.same("the bounds that were not met", firm.relay.faults, [])
     checks.same("the days of the accounts", browser.run("return location.hash"), f"#/accounts/2026-03-01/{DAY}")
     has(checks, browser, "the accounts", ("Printed, each of the 4 begins a sheet.", "Closing 3,850.00",
         f"{DAY} M000003-0002 returned Dana Marsh | advance on costs -1,200.00 3,850.00"))
@@ -162,7 +165,7 @@ def play(program: str, folder: pathlib.Path, checks: Checks) -> None:
         see_month(firm, browser, folder, checks)
         be_refused(firm, browser, checks)
         search(browser, checks)
-        print_accounts(browser, folder, checks)
+        print_accounts(firm, browser, folder, checks)
         checks.same("the log of the cashier", browser.faults(), [])
         browser.quit()
         lawyer = Browser("lee", firm.origin)
