@@ -1,7 +1,7 @@
 // Clients that accept their answers slowly, and clocks that cannot be read.
 
 use crate::cases::{Case, DONE, serves};
-use crate::clients::{Arrival, Client, GOOD, MESSAGE, QUIET};
+use crate::clients::{Client, GOOD, MESSAGE, QUIET};
 
 // A client that accepts nothing.
 const TAKES_NOTHING: Client = Client {
@@ -53,7 +53,7 @@ const CASES: &[(&str, Case<'static>)] = &[
     (
         "who takes nothing has a minute",
         Case {
-            arrivals: &[Arrival::Comes(TAKES_NOTHING), Arrival::Comes(GOOD)],
+            clients: &[TAKES_NOTHING, GOOD],
             lines: "WriteFault\nEnded\n",
             passed: 60_000,
             ..DONE
@@ -62,7 +62,7 @@ const CASES: &[(&str, Case<'static>)] = &[
     (
         "a head that is taken slowly has a minute",
         Case {
-            arrivals: &[Arrival::Comes(TAKES_BYTES), Arrival::Comes(GOOD)],
+            clients: &[TAKES_BYTES, GOOD],
             lines: "WriteFault\nEnded\n",
             passed: 60_000,
             ..DONE
@@ -71,7 +71,7 @@ const CASES: &[(&str, Case<'static>)] = &[
     (
         "answers to one read do not share a minute",
         Case {
-            arrivals: &[Arrival::Comes(TAKES_LATE)],
+            clients: &[TAKES_LATE],
             lines: "Ended\n",
             passed: 354_000,
             ..DONE
@@ -80,12 +80,7 @@ const CASES: &[(&str, Case<'static>)] = &[
     (
         "a clock that fails ends the connection",
         Case {
-            arrivals: &[
-                Arrival::Comes(GOOD),
-                Arrival::Comes(IN_TWO),
-                Arrival::Comes(UNANSWERED),
-                Arrival::Comes(QUIET),
-            ],
+            clients: &[GOOD, IN_TWO, UNANSWERED, QUIET],
             clock: 2,
             lines: "Ended\nReadFault\nWriteFault\nEnded\n",
             ..DONE

@@ -1,6 +1,6 @@
 // Clients that are served in turn, and what is expected.
 
-use crate::clients::{ANSWER, Arrival, Client};
+use crate::clients::{ANSWER, Client};
 use crate::clock::TrialClock;
 use crate::halves::TrialPeer;
 use crate::listener::TrialListener;
@@ -15,14 +15,10 @@ use trust_store::PlainBook;
 /// Clients that are served in turn, all of them.
 #[derive(Clone, Copy)]
 pub(crate) struct Case<'a> {
-    /// The result of each accept.
-    pub(crate) arrivals: &'a [Arrival],
+    /// The clients, in order.
+    pub(crate) clients: &'a [Client],
     /// How many readings of the clock succeed.
     pub(crate) clock: u64,
-    /// How many writes of the operator's lines succeed, each of at most seven bytes.
-    pub(crate) writes: u64,
-    /// How serving ends.
-    pub(crate) end: ServeEnd,
     /// The operator's lines.
     pub(crate) lines: &'a str,
     /// How many milliseconds pass in total.
@@ -31,10 +27,8 @@ pub(crate) struct Case<'a> {
 
 /// All clients are served in no time, with no fault except their own.
 pub(crate) const DONE: Case<'static> = Case {
-    arrivals: &[],
+    clients: &[],
     clock: u64::MAX,
-    writes: u64::MAX,
-    end: ServeEnd::Done,
     lines: "",
     passed: 0,
 };
@@ -101,11 +95,9 @@ fn check_client(
     Ok(())
 }
 
-fn check_clients(alloc: Global, peers: &[TrialPeer], arrivals: &[Arrival]) -> Result<(), Wrong> {
-    for (place, (peer, arrival)) in peers.iter().zip(arrivals.iter()).enumerate() {
-        if let Arrival::Comes(client) = arrival {
-            check_client(alloc, peer, client, place)?;
-        }
+fn check_clients(alloc: Global, peers: &[TrialPeer], clients: &[Client]) -> Result<(), Wrong> {
+    for (place, (peer, client)) in peers.iter().zip(clients.iter()).enumerate() {
+        check_client(alloc, peer, client, place)?;
     }
     Ok(())
 }
@@ -114,16 +106,16 @@ fn check_clients(alloc: Global, peers: &[TrialPeer], arrivals: &[Arrival]) -> Re
 pub(crate) fn serves(alloc: Global, case: &Case<'_>) -> Result<(), Wrong> {
     let clock = TrialClock::new(case.clock);
     let mut peers = Vec::new(alloc);
-    for _ in case.arrivals {
+    for _ in case.clients {
         peers.push(TrialPeer::new(alloc))?;
     }
     let mut listener = TrialListener {
         clock: &clock,
-        arrivals: case.arrivals,
+        clients: case.clients,
         peers: peers.as_slice(),
     };
-    let count = u32::try_from(case.arrivals.len()).unwrap_or(u32::MAX);
-    let mut lines = TrialWriter::new(alloc, 7, case.writes);
+    let count = u32::try_from(case.clients.len()).unwrap_or(u32::MAX);
+    let mut lines = TrialWriter::new(alloc, 7, u64::MAX);
     let mut desk = Desk::new(PlainBook::new(alloc));
     let day = Day::read(b"2024-01-10").ok_or(Wrong::Day)?;
     let end = serve_connections(
@@ -135,7 +127,7 @@ pub(crate) fn serves(alloc: Global, case: &Case<'_>) -> Result<(), Wrong> {
         &mut desk,
         day,
     );
-    if end != case.end {
+    if end != ServeEnd::Done {
         return Err(Wrong::End(end));
     }
     if lines.as_slice() != case.lines.as_bytes() {
@@ -144,5 +136,5 @@ pub(crate) fn serves(alloc: Global, case: &Case<'_>) -> Result<(), Wrong> {
     if clock.passed() != Duration::from_millis(case.passed) {
         return Err(Wrong::Passed(clock.passed()));
     }
-    check_clients(alloc, peers.as_slice(), case.arrivals)
+    check_clients(alloc, peers.as_slice(), case.clients)
 }

@@ -27,17 +27,6 @@ pub(crate) struct Client {
     pub(crate) read: u64,
 }
 
-/// The result of an accept.
-#[derive(Clone, Copy)]
-pub(crate) enum Arrival {
-    /// A client.
-    Comes(Client),
-    /// A client that is gone.
-    Aborted,
-    /// The network refuses the accept.
-    Refused,
-}
-
 /// A message of a person who has no seat.
 pub(crate) const MESSAGE: &[u8] = b"GET /matters/000001 HTTP/1.1\r\nx-caller: bob\r\n\r\n";
 

@@ -1,7 +1,7 @@
 // Clients that are refused in the middle of a message.
 
 use crate::cases::{Case, DONE, serves};
-use crate::clients::{Arrival, BAD_MESSAGE, Client, GOOD, QUIET};
+use crate::clients::{BAD_MESSAGE, Client, GOOD, QUIET};
 
 const TOO_LARGE: &str = "HTTP/1.1 413 Payload Too Large\r\ncontent-type: application/json\r\n\
 content-length: 31\r\n\r\n{\"name\":\"TooLarge\",\"refusal\":3}";
@@ -41,7 +41,7 @@ const CASES: &[(&str, Case<'static>)] = &[
     (
         "so many bytes are dropped",
         Case {
-            arrivals: &[Arrival::Comes(MUCH), Arrival::Comes(GOOD)],
+            clients: &[MUCH, GOOD],
             lines: "BadFraming\nEnded\n",
             ..DONE
         },
@@ -49,7 +49,7 @@ const CASES: &[(&str, Case<'static>)] = &[
     (
         "a second is what the close takes",
         Case {
-            arrivals: &[Arrival::Comes(SLOWLY), Arrival::Comes(GOOD)],
+            clients: &[SLOWLY, GOOD],
             lines: "BadFraming\nEnded\n",
             passed: 1_000,
             ..DONE
@@ -58,7 +58,7 @@ const CASES: &[(&str, Case<'static>)] = &[
     (
         "the close ends with the client",
         Case {
-            arrivals: &[Arrival::Comes(ENDS), Arrival::Comes(GOOD)],
+            clients: &[ENDS, GOOD],
             lines: "BadFraming\nEnded\n",
             passed: 900,
             ..DONE

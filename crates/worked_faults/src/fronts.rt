@@ -77,8 +77,8 @@ fn answers_within(alloc: Global, pieces: &[Piece], size: usize) -> Result<Vec<u8
     Ok(answers)
 }
 
-/// Fails unless, after this many good calls, it ended like this and these bytes were written.
-pub(crate) fn expect(found: &Became, good: u64, wanted: &[u8], end: End) -> Result<(), Wrong> {
+// Fails unless, after this many good calls, it ended like this and these bytes were written.
+fn expect(found: &Became, good: u64, wanted: &[u8], end: End) -> Result<(), Wrong> {
     if found.written.as_slice() != wanted {
         return Err(Wrong::Written(good, found.written.len()));
     }

@@ -1,6 +1,7 @@
-//! Tests. Readers, writers and books fail at each call, under streams of messages, day sheets and statements. Files,
-//! books and networks refuse a run of the cashier's program, from its words to its outcome. Clients connect in
-//! virtual time. Figures are asked of rows in memory.
+//! Tests of what no case can show, since it takes readers, writers, books, clients or clocks of the test's own. Readers,
+//! writers and books fail at each call, under streams of messages, day sheets and statements. The store can't put back
+//! the book of a run of the cashier's program. Clients connect in virtual time. Days follow each other over one book in
+//! memory. Figures are asked of rows in memory.
 #![tactic(auto)]
 
 #[cfg(test)]
@@ -18,11 +19,7 @@ mod closes;
 #[cfg(test)]
 mod days;
 #[cfg(test)]
-mod ends;
-#[cfg(test)]
 mod figures;
-#[cfg(test)]
-mod files;
 #[cfg(test)]
 mod fronts;
 #[cfg(test)]
@@ -38,15 +35,11 @@ mod lines;
 #[cfg(test)]
 mod listener;
 #[cfg(test)]
-mod loopback;
-#[cfg(test)]
 mod messages;
 #[cfg(test)]
 mod networks;
 #[cfg(test)]
 mod pieces;
-#[cfg(test)]
-mod ports;
 #[cfg(test)]
 mod refused_books;
 #[cfg(test)]
@@ -63,7 +56,5 @@ mod silences;
 mod stores;
 #[cfg(test)]
 mod streams;
-#[cfg(test)]
-mod texts;
 #[cfg(test)]
 mod trial;

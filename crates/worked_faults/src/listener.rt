@@ -2,7 +2,7 @@
 
 ghost use Rattle.std.specs.Prelude.{⊤};
 
-use crate::clients::Arrival;
+use crate::clients::Client;
 use crate::clock::TrialClock;
 use crate::halves::{TrialPeer, TrialReading, TrialWriting};
 use portal_http::{AcceptFault, ClientListener, Connection};
@@ -13,7 +13,7 @@ pub(crate) struct TrialListener<'p> {
     /// The time that passes while they are waited for.
     pub(crate) clock: &'p TrialClock,
     /// The clients to come.
-    pub(crate) arrivals: &'p [Arrival],
+    pub(crate) clients: &'p [Client],
     /// What happens to each of them.
     pub(crate) peers: &'p [TrialPeer],
 }
@@ -26,18 +26,14 @@ impl<'p> ClientListener for TrialListener<'p> {
     ghost comes = { λ _ _ _. ⊤ };
 
     fn accept(&mut self) -> Result<Connection<TrialReading<'p>, TrialWriting<'p>>, AcceptFault> {
-        let (Some(arrival), Some(peer)) = (self.arrivals.first(), self.peers.first()) else {
+        let (Some(client), Some(peer)) = (self.clients.first(), self.peers.first()) else {
             return Err(AcceptFault::Network);
         };
-        self.arrivals = &self.arrivals[1..];
+        self.clients = &self.clients[1..];
         self.peers = &self.peers[1..];
-        match arrival {
-            Arrival::Comes(client) => Ok(Connection {
-                reader: TrialReading::new(self.clock, peer, client),
-                writer: TrialWriting::new(self.clock, peer, client),
-            }),
-            Arrival::Aborted => Err(AcceptFault::Aborted),
-            Arrival::Refused => Err(AcceptFault::Network),
-        }
+        Ok(Connection {
+            reader: TrialReading::new(self.clock, peer, client),
+            writer: TrialWriting::new(self.clock, peer, client),
+        })
     }
 }

@@ -1,10 +1,8 @@
-// A clock, clients and ports for runs of the program.
+// A clock, and a network without ports, for runs of the program.
 
-use crate::trial::TrialReader;
+use crate::halves::{TrialReading, TrialWriting};
 use cashier::{AcceptFault, ClientListener, Connection, Network};
 use std::io;
-use std::io::{Read, Write};
-use std::net::OpenStream;
 use std::rt::Clock;
 use std::time::Duration;
 
@@ -22,95 +20,32 @@ impl Clock for StillClock {
     }
 }
 
-/// What a client sends.
-#[derive(Drop)]
-pub(crate) struct Sent {
-    bytes: TrialReader<'static>,
-}
-
-impl Read for Sent {
-    ghost use Rattle.std.specs.Prelude.{None};
-
-    ghost remaining = { λ _. None };
-
-    fn read(&mut self, buf: &mut [u8]) -> io::Result<usize> {
-        self.bytes.read(buf)
-    }
-}
-
-impl OpenStream for Sent {
-    fn set_read_timeout(&self, _dur: Option<Duration>) -> io::Result<()> {
-        Ok(())
-    }
-}
-
-/// What is sent to a client, which no test looks at.
+/// Clients that never come: the network refuses each accept.
 #[derive(Clone, Copy)]
-pub(crate) struct Unseen;
+pub(crate) struct NoClients;
 
-impl Write for Unseen {
-    ghost use Rattle.std.specs.Prelude.{None};
+impl ClientListener for NoClients {
+    type Reader = TrialReading<'static>;
 
-    ghost contents = { λ _. None };
-
-    fn write(&mut self, buf: &[u8]) -> io::Result<usize> {
-        Ok(buf.len())
-    }
-
-    fn flush(&mut self) -> io::Result<()> {
-        Ok(())
-    }
-}
-
-impl OpenStream for Unseen {
-    fn set_write_timeout(&self, _dur: Option<Duration>) -> io::Result<()> {
-        Ok(())
-    }
-}
-
-/// Clients that come one after the other, each with what it sends; `None` for one that is gone before it is accepted.
-/// After them, the network refuses.
-#[derive(Clone, Copy)]
-pub(crate) struct TrialClients {
-    pub(crate) rest: &'static [Option<&'static [u8]>],
-}
-
-impl ClientListener for TrialClients {
-    type Reader = Sent;
-
-    type Writer = Unseen;
+    type Writer = TrialWriting<'static>;
 
     ghost use Rattle.std.specs.Prelude.{⊤};
 
     ghost comes = { λ _ _ _. ⊤ };
 
-    fn accept(&mut self) -> Result<Connection<Sent, Unseen>, AcceptFault> {
-        let Some(first) = self.rest.first() else {
-            return Err(AcceptFault::Network);
-        };
-        self.rest = &self.rest[1..];
-        let Some(bytes) = *first else {
-            return Err(AcceptFault::Aborted);
-        };
-        let reader = Sent {
-            bytes: TrialReader::new(bytes, 7, u64::MAX),
-        };
-        Ok(Connection {
-            reader,
-            writer: Unseen,
-        })
+    fn accept(
+        &mut self,
+    ) -> Result<Connection<TrialReading<'static>, TrialWriting<'static>>, AcceptFault> {
+        Err(AcceptFault::Network)
     }
 }
 
-/// A network with one port, or none.
+/// A network without a port.
 #[derive(Clone, Copy)]
-pub(crate) struct TrialNetwork {
-    pub(crate) port: Option<u16>,
-    pub(crate) clients: TrialClients,
-}
+pub(crate) struct NoNetwork;
 
-impl Network for TrialNetwork {
-    type Listener = TrialClients;
+impl Network for NoNetwork {
+    type Listener = NoClients;
 
     ghost use Rattle.std.specs.Prelude.{⊤};
 
@@ -118,17 +53,7 @@ impl Network for TrialNetwork {
 
     ghost refuses = { λ _ _. ⊤ };
 
-    fn listen(&self, port: u16) -> Option<TrialClients> {
-        if self.port == Some(port) {
-            Some(self.clients)
-        } else {
-            None
-        }
+    fn listen(&self, _port: u16) -> Option<NoClients> {
+        None
     }
 }
-
-/// A network without a port.
-pub(crate) const NO_NETWORK: TrialNetwork = TrialNetwork {
-    port: None,
-    clients: TrialClients { rest: &[] },
-};

@@ -1,4 +1,4 @@
-// Books at paths, and stores that have no book there or cannot put it back.
+// Stores that cannot put back the book at a path.
 
 use crate::runs::{NOTHING, Run, check};
 use crate::stores::TrialStores;
@@ -7,11 +7,6 @@ use trust_base::StoreFault;
 
 const OPENED: &str =
     "201 {\"available\":\"0.00\",\"claims\":\"0.00\",\"client\":\"Ada Chen\",\"closed\":null,\
-        \"disputed\":\"0.00\",\"entries\":0,\"fees\":\"0.00\",\"held\":\"0.00\",\"matter\":\"000001\",\
-        \"opened\":\"2024-01-10\",\"seats\":[{\"person\":\"lee\",\"role\":\"lawyer\"}],\"total\":\"0.00\"}\n";
-
-const SHOWN: &str =
-    "200 {\"available\":\"0.00\",\"claims\":\"0.00\",\"client\":\"Ada Chen\",\"closed\":null,\
         \"disputed\":\"0.00\",\"entries\":0,\"fees\":\"0.00\",\"held\":\"0.00\",\"matter\":\"000001\",\
         \"opened\":\"2024-01-10\",\"seats\":[{\"person\":\"lee\",\"role\":\"lawyer\"}],\"total\":\"0.00\"}\n";
 
@@ -53,130 +48,6 @@ const IMPORT: Run = Run {
     outcome: Outcome::FileFault,
     ..NOTHING
 };
-
-const WRONG_LINES: &[Run] = &[
-    Run {
-        words: &["cashier_cli", "--db", "other.db", "sheet"],
-        outcome: Outcome::CommandLine,
-        ..NOTHING
-    },
-    Run {
-        words: &[
-            "cashier_cli",
-            "--db",
-            "other.db",
-            "--today",
-            "2024-02-30",
-            "sheet",
-        ],
-        outcome: Outcome::CommandLine,
-        ..NOTHING
-    },
-];
-
-#[test]
-fn no_book_is_asked_for_where_the_command_line_is_wrong(rt: HostRuntime) {
-    let stores = TrialStores::new(Ok(()));
-    check(&rt, &stores, WRONG_LINES);
-    assert_eq!(rt; stores.asked.get(), 0);
-}
-
-// Each run begins without rows.
-const WITHOUT_A_BOOK: Run = Run {
-    words: &["cashier_cli", "--today", "2024-01-10", "sheet"],
-    ..OPEN
-};
-
-#[test]
-fn no_book_is_asked_for_where_none_is_named(rt: HostRuntime) {
-    let stores = TrialStores::new(Err(StoreFault::Store));
-    check(&rt, &stores, &[WITHOUT_A_BOOK, WITHOUT_A_BOOK]);
-    assert_eq!(rt; stores.asked.get(), 0);
-}
-
-const FAULTS: &[Run] = &[
-    // the store's fault is reported before one of a file
-    Run {
-        words: &[
-            "cashier_cli",
-            "--db",
-            "other.db",
-            "--today",
-            "2024-01-12",
-            "import",
-            "bank.csv",
-        ],
-        ..NOTHING
-    },
-    IMPORT,
-    // the store's fault is reported before one of a port
-    Run {
-        words: &[
-            "cashier_cli",
-            "--db",
-            "other.db",
-            "--today",
-            "2024-01-12",
-            "serve",
-            "8080",
-            "1",
-        ],
-        ..NOTHING
-    },
-    Run {
-        words: &[
-            "cashier_cli",
-            "--db",
-            "book.db",
-            "--today",
-            "2024-01-12",
-            "serve",
-            "8080",
-            "1",
-        ],
-        outcome: Outcome::NetworkFault,
-        ..NOTHING
-    },
-    // the store's fault is reported before standard input is read
-    Run {
-        words: &[
-            "cashier_cli",
-            "--db=other.db",
-            "--today",
-            "2024-01-10",
-            "sheet",
-        ],
-        ..NOTHING
-    },
-    Run {
-        words: &[
-            "cashier_cli",
-            "--db=other.db",
-            "--today",
-            "2024-01-10",
-            "stream",
-        ],
-        ..NOTHING
-    },
-];
-
-#[test]
-fn a_fault_of_the_store_is_told_first(rt: HostRuntime) {
-    let stores = TrialStores::new(Ok(()));
-    check(&rt, &stores, FAULTS);
-    assert_eq!(rt; stores.asked.get(), 6);
-}
-
-const FOUND: Run = Run {
-    outcome: Outcome::Done,
-    lines: SHOWN,
-    ..SHOW
-};
-
-#[test]
-fn a_run_finds_what_the_one_before_left(rt: HostRuntime) {
-    check(&rt, &TrialStores::new(Ok(())), &[SHOW, OPEN, FOUND]);
-}
 
 const NOT_PUT_BACK: &[Run] = &[
     Run {

@@ -1,6 +1,6 @@
 // Runs of the program as data, and what is expected of them.
 
-use crate::networks::{NO_NETWORK, StillClock, TrialNetwork};
+use crate::networks::{NoNetwork, StillClock};
 use crate::stores::TrialStores;
 use crate::trial::{TrialReader, TrialWriter};
 use cashier::{Folder, NoRemarks, Opened, Outcome, Surroundings, run_called};
@@ -8,18 +8,11 @@ use std::alloc::{AllocError, Global};
 use std::io::ErrorKind;
 use std::process::Abort;
 
-/// A folder with one file, which may not be there to open.
+// A folder in which no file can be opened.
 #[derive(Clone, Copy)]
-pub(crate) struct TrialFolder {
-    /// The bytes of the file `bank.csv`, if it can be opened.
-    pub(crate) bytes: Option<&'static [u8]>,
-    /// The length that it reports.
-    pub(crate) length: Option<u64>,
-    /// How many of its reads succeed.
-    pub(crate) good: u64,
-}
+struct NoFile;
 
-impl Folder for TrialFolder {
+impl Folder for NoFile {
     type File = TrialReader<'static>;
 
     ghost use Rattle.std.specs.Prelude.{None, ⊤};
@@ -28,24 +21,10 @@ impl Folder for TrialFolder {
 
     ghost opens = { λ _ _ _. ⊤ };
 
-    fn open(&self, path: &str) -> Option<Opened<TrialReader<'static>>> {
-        if path != "bank.csv" {
-            return None;
-        }
-        let bytes = self.bytes?;
-        Some(Opened {
-            reader: TrialReader::new(bytes, 7, self.good),
-            length: self.length,
-        })
+    fn open(&self, _path: &str) -> Option<Opened<TrialReader<'static>>> {
+        None
     }
 }
-
-/// A folder whose file cannot be opened.
-pub(crate) const NO_FILE: TrialFolder = TrialFolder {
-    bytes: None,
-    length: None,
-    good: 0,
-};
 
 /// A run of the program.
 #[derive(Clone, Copy)]
@@ -54,10 +33,6 @@ pub(crate) struct Run {
     pub(crate) words: &'static [&'static str],
     /// Its standard input.
     pub(crate) input: &'static str,
-    pub(crate) folder: TrialFolder,
-    pub(crate) network: TrialNetwork,
-    /// How many writes to standard output succeed, each of at most three bytes.
-    pub(crate) writes: u64,
     pub(crate) outcome: Outcome,
     /// What it prints.
     pub(crate) lines: &'static str,
@@ -65,16 +40,13 @@ pub(crate) struct Run {
     pub(crate) reads: bool,
 }
 
-/// An opening on standard input.
-pub(crate) const OPENING: &str = "open,000001,,Ada Chen,lee\n";
+// An opening on standard input.
+const OPENING: &str = "open,000001,,Ada Chen,lee\n";
 
-/// A run that ends with a fault before it reads or prints, with no file and no port.
+/// A run that ends with a fault before it reads or prints. No file and no port can be had.
 pub(crate) const NOTHING: Run = Run {
     words: &[],
     input: OPENING,
-    folder: NO_FILE,
-    network: NO_NETWORK,
-    writes: 1_000,
     outcome: Outcome::StoreFault,
     lines: "",
     reads: false,
@@ -91,13 +63,13 @@ fn called_with(alloc: Global, words: &[&str]) -> Result<Vec<String>, AllocError>
 
 fn check_one(rt: &(impl Abort + AllocGlobal), stores: &TrialStores, run: &Run) {
     let around = Surroundings {
-        folder: &run.folder,
+        folder: &NoFile,
         clock: &StillClock,
-        network: &run.network,
+        network: &NoNetwork,
         remarks: &NoRemarks,
     };
     let mut reader = TrialReader::new(run.input.as_bytes(), 7, 100);
-    let mut writer = TrialWriter::new(rt.alloc(), 3, run.writes);
+    let mut writer = TrialWriter::new(rt.alloc(), 3, 1_000);
     let called = called_with(rt.alloc(), run.words).map_err(|_| ErrorKind::OutOfMemory);
     let outcome = run_called(
         rt.alloc(),

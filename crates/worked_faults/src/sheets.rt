@@ -7,8 +7,8 @@ use std::alloc::Global;
 use trust_desk::Desk;
 use trust_store::PlainBook;
 
-/// An opening of the first matter.
-pub(crate) const OPENING: Piece = (
+// An opening of the first matter.
+const OPENING: Piece = (
     "open,000001,,Ada Chen,lee\n",
     concat!(
         r#"201 {"available":"0.00","claims":"0.00","client":"Ada Chen","closed":null,"disputed":"0.00","entries":0,"#,
@@ -32,12 +32,12 @@ const SHEET: Trial = Trial {
     most: 4,
 };
 
-/// Two lines that match nothing, and one that is not a line.
-pub(crate) const STRAY_LINES: &str =
+// Two lines that match nothing, and one that is not a line.
+const STRAY_LINES: &str =
     "date,reference,bank_ref,amount,text\n2024-01-10,M000001-0001,B1,500.00,\ngarbage\n2024-01-10,rent,B2,-5.00,\n";
 
-/// A statement with them.
-pub(crate) const STRAYS: Piece = (
+// A statement with them.
+const STRAYS: Piece = (
     STRAY_LINES,
     "200 {\"applied\":0,\"exceptions\":2,\"repeated\":0,\"statement\":null,\"unreadable\":1}\n",
 );

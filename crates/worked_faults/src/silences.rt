@@ -1,7 +1,7 @@
 // Clients that are silent, slow or gone.
 
 use crate::cases::{Case, DONE, serves};
-use crate::clients::{Arrival, Behind, Client, GOOD, MESSAGE, QUIET};
+use crate::clients::{Behind, Client, GOOD, MESSAGE, QUIET};
 
 // A client that sends nothing.
 const SILENT: Client = Client {
@@ -55,7 +55,7 @@ const CASES: &[(&str, Case<'static>)] = &[
     (
         "who says nothing has ten seconds",
         Case {
-            arrivals: &[Arrival::Comes(SILENT), Arrival::Comes(GOOD)],
+            clients: &[SILENT, GOOD],
             lines: "ReadFault\nEnded\n",
             passed: 10_000,
             ..DONE
@@ -65,7 +65,7 @@ const CASES: &[(&str, Case<'static>)] = &[
     (
         "a byte a second has a minute",
         Case {
-            arrivals: &[Arrival::Comes(BYTES), Arrival::Comes(GOOD)],
+            clients: &[BYTES, GOOD],
             lines: "ReadFault\nEnded\n",
             passed: 61_000,
             ..DONE
@@ -74,7 +74,7 @@ const CASES: &[(&str, Case<'static>)] = &[
     (
         "a message has a minute",
         Case {
-            arrivals: &[Arrival::Comes(LATE), Arrival::Comes(IN_TIME)],
+            clients: &[LATE, IN_TIME],
             lines: "ReadFault\nEnded\n",
             passed: 120_000,
             ..DONE
@@ -83,7 +83,7 @@ const CASES: &[(&str, Case<'static>)] = &[
     (
         "pauses between messages do not add up",
         Case {
-            arrivals: &[Arrival::Comes(OFTEN)],
+            clients: &[OFTEN],
             lines: "Ended\n",
             passed: 180_000,
             ..DONE
@@ -92,7 +92,7 @@ const CASES: &[(&str, Case<'static>)] = &[
     (
         "who resets ends its own connection alone",
         Case {
-            arrivals: &[Arrival::Comes(RESETS), Arrival::Comes(GOOD)],
+            clients: &[RESETS, GOOD],
             lines: "ReadFault\nEnded\n",
             ..DONE
         },

@@ -1,7 +1,7 @@
 // A store of books for runs of the program.
 
 use std::alloc::Global;
-use std::cell::{Cell, RefCell};
+use std::cell::RefCell;
 use trust_base::StoreFault;
 use trust_store::{NoBook, PlainBook, Stores};
 
@@ -9,8 +9,6 @@ use trust_store::{NoBook, PlainBook, Stores};
 #[derive(Drop)]
 pub(crate) struct TrialStores {
     kept: RefCell<Option<PlainBook>>,
-    /// How often a book was asked for.
-    pub(crate) asked: Cell<u64>,
     put: Result<(), StoreFault>,
 }
 
@@ -19,7 +17,6 @@ impl TrialStores {
     pub(crate) fn new(put: Result<(), StoreFault>) -> TrialStores {
         TrialStores {
             kept: RefCell::new(None),
-            asked: Cell::new(0),
             put,
         }
     }
@@ -35,7 +32,6 @@ impl Stores for TrialStores {
     ghost puts = { λ _ _ _. ⊤ };
 
     fn at(&self, alloc: Global, path: &str) -> Result<PlainBook, NoBook> {
-        self.asked.set(self.asked.get().wrapping_add(1));
         if path != "book.db" {
             return Err(NoBook::Unopened);
         }

@@ -1,12 +1,10 @@
 // Streams whose reads or writes fail.
 
-use crate::fronts::{
-    NOTHING, Trial, Wrong, bytes_of, each_read_fails, each_write_fails, expect, today, whole,
-};
-use crate::given::{ALL, End, Given, read};
+use crate::fronts::{NOTHING, Trial, Wrong, bytes_of, each_read_fails, each_write_fails, whole};
+use crate::given::{End, Given};
 use crate::pieces::{
     BAD_HEADER, CUT_BODY, DEPOSIT, OPEN, OTHER_CLEARED, OTHER_DEPOSIT, OTHER_OPEN, OTHER_REOPENED,
-    OTHER_SHOWN, OTHER_SKIPPED, OTHER_STATEMENT, Piece, STRANGER,
+    OTHER_SHOWN, OTHER_SKIPPED, OTHER_STATEMENT, STRANGER,
 };
 use std::alloc::Global;
 
@@ -107,58 +105,4 @@ fn reads_byte_by_byte(alloc: Global) -> Result<u64, Wrong> {
 #[test]
 fn a_message_byte_by_byte(rt: HostRuntime) {
     assert_eq!(rt; reads_byte_by_byte(rt.alloc()), Ok(1));
-}
-
-// A writer that accepts no byte: nothing is answered.
-fn takes_nothing(alloc: Global, trial: &Trial) -> Result<(), Wrong> {
-    let bytes = bytes_of(alloc, trial)?;
-    let found = read(alloc, today()?, trial.given, &bytes, 0, (ALL, ALL));
-    expect(&found, 0, b"", End::WriteFault)
-}
-
-#[test]
-fn a_writer_that_takes_nothing(rt: HostRuntime) {
-    let only_bad = Trial {
-        pieces: &[],
-        ..BEFORE_A_BAD_HEADER
-    };
-    assert_eq!(rt; takes_nothing(rt.alloc(), &ALONE), Ok(()));
-    assert_eq!(rt; takes_nothing(rt.alloc(), &only_bad), Ok(()));
-}
-
-// Repeats a text.
-fn repeated(alloc: Global, text: &str, times: usize) -> Result<Vec<u8>, Wrong> {
-    let mut bytes = Vec::new(alloc);
-    for _ in 0..times {
-        bytes.extend_from_slice(text.as_bytes())?;
-    }
-    Ok(bytes)
-}
-
-// Sends this many messages, one at a read: the first 1,000 are answered. Returns how many are read.
-fn reads_of_many(alloc: Global, messages: usize) -> Result<u64, Wrong> {
-    let (message, answer): Piece = STRANGER;
-    let bytes = repeated(alloc, message, messages)?;
-    let answers = repeated(alloc, answer, 1_000)?;
-    let found = read(
-        alloc,
-        today()?,
-        Given::Stream,
-        &bytes,
-        message.len(),
-        (ALL, ALL),
-    );
-    expect(&found, ALL, &answers, End::Limit)?;
-    Ok(found.reads)
-}
-
-#[test]
-fn nothing_is_read_after_the_last_answer(rt: HostRuntime) {
-    for messages in [1_000, 1_001] {
-        assert_eq!(rt;
-            reads_of_many(rt.alloc(), messages),
-            Ok(1_000),
-            "{messages}"
-        );
-    }
 }
