@@ -1,6 +1,6 @@
 // Matters of whole rows: sound ones are told to be sound, and no others. Each row can be read by itself.
 
-use crate::entries::{CANCELLED, CLAIM, CLEARED, FEE, ON_FEE, PROPOSED};
+use crate::rows::{CANCELLED, CLAIM, CLEARED, FEE, ON_FEE, PROPOSED};
 use crate::table::Became::{Read, Store};
 use crate::table::{Became, Row, Stored, check, of_result};
 use matter_parts::{Figures, Kept, Matter, balances, claim_left, fee_left, is_sound_whole};
