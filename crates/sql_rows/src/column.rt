@@ -23,7 +23,7 @@ pub(crate) fn day_in(column: i64) -> Result<Day, StoreFault>
 }
 
 /// Reads the number of an entry. Returns `Store` for any other number.
-pub(crate) fn entry_in(column: i64) -> Result<EntryNo, StoreFault>
+pub(crate) fn entry_no_in(column: i64) -> Result<EntryNo, StoreFault>
     ensures ok { IfOk result (λ n. pos n ≡ column) }
     ensures back { (n : ℕ) → IsEntryNo n → pos n ≡ column → result ≡ Ok n }
     ensures store { IfErr result (λ e. e ≡ StoreFault.Store) }

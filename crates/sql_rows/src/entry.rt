@@ -24,7 +24,13 @@ ghost use Rattle.sql_rows.specs.Entries.{entry_columns, BeginsEntry};
 ghost use Rattle.sql_rows.specs.Entries.{HasSamePlace, HasSameMoney, HasSameDays, HasSameTexts};
 ghost use Rattle.sql_rows.specs.Entries.{plain_parts, fund_kind, fund_of, as_columns};
 
-use crate::column::{amount_in, bank_text_in, day_in, entry_in, label_in, number_in, part_in};
+use crate::codes::{
+    CLAIM_FUND, CLAIM_KIND, CLAIM_OFFERED, CLAIM_OPEN, CLAIM_SETTLED, DEPOSIT_CANCELLED,
+    DEPOSIT_CLEARED, DEPOSIT_HELD, DEPOSIT_KIND, DEPOSIT_RETURNED, FEE_FUND, FEE_KIND,
+    GENERAL_FUND, PAYMENT_CLEARED, PAYMENT_DECLINED, PAYMENT_ISSUED, PAYMENT_KIND,
+    PAYMENT_PROPOSED, PAYMENT_VOIDED,
+};
+use crate::column::{amount_in, bank_text_in, day_in, entry_no_in, label_in, number_in, part_in};
 use matter_parts::Kept;
 use matter_rows::{
     Against, Claim, ClaimState, ClearedPayment, Clearing, Deposit, DepositState, Entry, Fee, Fund,
@@ -39,17 +45,18 @@ fn blank_columns<'a>(
     matter: MatterNo,
     no: EntryNo,
     left: u64,
-    kind: u8,
+    kind: i64,
     book: Day,
     amount: Cents,
 ) -> EntryColumns<'a>
     requires { left ≤ MAX_TOTAL }
-    ensures { entry_given result ≡ as_columns matter no left (plain_parts kind book amount 0 0 0 [] [] []) }
+    ensures { entry_given result
+        ≡ record (as_columns matter no left (plain_parts 0 book amount 0 0 0 [] [] [])) { kind = kind } }
 {
     EntryColumns {
         matter: matter.get() as i64,
         no: no.get() as i64,
-        kind: kind as i64,
+        kind,
         day: book.get() as i64,
         amount: amount.get() as i64,
         state: 0,
@@ -79,20 +86,20 @@ fn deposit_columns<'a>(matter: MatterNo, no: EntryNo, d: &'a Deposit, left: u64)
     requires { left ≤ MAX_TOTAL }
     ensures { entry_given result ≡ entry_columns matter no left (Entry.Deposit d.now) }
 {
-    let mut columns = blank_columns(matter, no, left, 1, d.book, d.amount);
+    let mut columns = blank_columns(matter, no, left, DEPOSIT_KIND, d.book, d.amount);
     (columns.text_a, columns.text_b) = (d.source.as_slice(), d.description.as_slice());
     match &d.state {
-        DepositState::Held => columns.state = 1,
+        DepositState::Held => columns.state = DEPOSIT_HELD,
         DepositState::Cleared(c) => {
-            columns.state = 2;
+            columns.state = DEPOSIT_CLEARED;
             (columns.day_bank, columns.bank_ref) = clearing_columns(c);
         }
         DepositState::Cancelled(day) => {
-            columns.state = 3;
+            columns.state = DEPOSIT_CANCELLED;
             columns.day_undone = day.get() as i64;
         }
         DepositState::Returned(back) => {
-            columns.state = 4;
+            columns.state = DEPOSIT_RETURNED;
             (columns.day_bank, columns.bank_ref) = clearing_columns(&back.clearing);
             (columns.day_done, columns.text_c) = clearing_columns(&back.returning);
             columns.day_undone = back.undone.get() as i64;
@@ -101,13 +108,14 @@ fn deposit_columns<'a>(matter: MatterNo, no: EntryNo, d: &'a Deposit, left: u64)
     columns
 }
 
-fn fund_code(fund: &Fund) -> (i64, i64)
+// The code of a fund, and the number of its fee or claim, or 0.
+fn fund_columns(fund: &Fund) -> (i64, i64)
     ensures { result ≡ (pos (fund_kind fund.now), pos (fund_of fund.now)) }
 {
     match fund {
-        Fund::General => (0, 0),
-        Fund::Fee(k) => (1, k.get() as i64),
-        Fund::Claim(k) => (2, k.get() as i64),
+        Fund::General => (GENERAL_FUND, 0),
+        Fund::Fee(k) => (FEE_FUND, k.get() as i64),
+        Fund::Claim(k) => (CLAIM_FUND, k.get() as i64),
     }
 }
 
@@ -115,24 +123,24 @@ fn payment_columns<'a>(matter: MatterNo, no: EntryNo, p: &'a Payment, left: u64)
     requires { left ≤ MAX_TOTAL }
     ensures { entry_given result ≡ entry_columns matter no left (Entry.Payment p.now) }
 {
-    let mut columns = blank_columns(matter, no, left, 2, p.book, p.amount);
-    (columns.fund, columns.of_no) = fund_code(&p.fund);
+    let mut columns = blank_columns(matter, no, left, PAYMENT_KIND, p.book, p.amount);
+    (columns.fund, columns.of_no) = fund_columns(&p.fund);
     (columns.text_a, columns.text_b) = (p.payee.as_slice(), p.purpose.as_slice());
     columns.text_c = p.instrument.as_slice();
     match &p.state {
-        PaymentState::Proposed => columns.state = 1,
-        PaymentState::Declined => columns.state = 2,
+        PaymentState::Proposed => columns.state = PAYMENT_PROPOSED,
+        PaymentState::Declined => columns.state = PAYMENT_DECLINED,
         PaymentState::Issued(day) => {
-            columns.state = 3;
+            columns.state = PAYMENT_ISSUED;
             columns.day_done = day.get() as i64;
         }
         PaymentState::Cleared(c) => {
-            columns.state = 4;
+            columns.state = PAYMENT_CLEARED;
             columns.day_done = c.issued.get() as i64;
             (columns.day_bank, columns.bank_ref) = clearing_columns(&c.clearing);
         }
         PaymentState::Voided(v) => {
-            columns.state = 5;
+            columns.state = PAYMENT_VOIDED;
             columns.day_done = v.issued.get() as i64;
             columns.day_undone = v.undone.get() as i64;
         }
@@ -144,23 +152,26 @@ fn claim_columns<'a>(matter: MatterNo, no: EntryNo, c: &'a Claim, left: u64) -> 
     requires { left ≤ MAX_TOTAL }
     ensures { entry_given result ≡ entry_columns matter no left (Entry.Claim c.now) }
 {
-    let mut columns = blank_columns(matter, no, left, 4, c.book, c.amount);
+    let mut columns = blank_columns(matter, no, left, CLAIM_KIND, c.book, c.amount);
     columns.text_b = c.reason.as_slice();
     match &c.against {
-        Against::General(claimant) => columns.text_a = claimant.as_slice(),
+        Against::General(claimant) => {
+            columns.fund = GENERAL_FUND;
+            columns.text_a = claimant.as_slice();
+        }
         Against::Fee(k) => {
-            columns.fund = 1;
+            columns.fund = FEE_FUND;
             columns.of_no = k.get() as i64;
         }
     }
     match &c.state {
-        ClaimState::Open => columns.state = 1,
+        ClaimState::Open => columns.state = CLAIM_OPEN,
         ClaimState::Offered(part) => {
-            columns.state = 2;
+            columns.state = CLAIM_OFFERED;
             columns.part = part.get() as i64;
         }
         ClaimState::Settled(s) => {
-            columns.state = 3;
+            columns.state = CLAIM_SETTLED;
             columns.day_done = s.day.get() as i64;
             columns.part = s.part.get() as i64;
         }
@@ -184,7 +195,7 @@ pub fn entry_columns<'a>(
         Entry::Payment(p) => payment_columns(matter, no, p, left),
         Entry::Fee(f) => EntryColumns {
             text_a: f.description.as_slice(),
-            ..blank_columns(matter, no, left, 3, f.book, f.amount)
+            ..blank_columns(matter, no, left, FEE_KIND, f.book, f.amount)
         },
         Entry::Claim(c) => claim_columns(matter, no, c, left),
     }
@@ -228,17 +239,17 @@ fn deposit_in(
         amount,
     };
     match columns.state {
-        1 => Ok(Entry::Deposit(held)),
-        2 => {
+        DEPOSIT_HELD => Ok(Entry::Deposit(held)),
+        DEPOSIT_CLEARED => {
             let clearing = clearing_in(alloc, columns.day_bank, columns.bank_ref)?;
             let state = DepositState::Cleared(clearing);
             Ok(Entry::Deposit(Deposit { state, ..held }))
         }
-        3 => {
+        DEPOSIT_CANCELLED => {
             let state = DepositState::Cancelled(day_in(columns.day_undone)?);
             Ok(Entry::Deposit(Deposit { state, ..held }))
         }
-        4 => {
+        DEPOSIT_RETURNED => {
             let state = DepositState::Returned(returned_in(alloc, columns)?);
             Ok(Entry::Deposit(Deposit { state, ..held }))
         }
@@ -252,9 +263,9 @@ fn fund_in(fund: i64, of_no: i64) -> Result<Fund, StoreFault>
     ensures store { IfErr result (λ e. e ≡ StoreFault.Store) }
 {
     match fund {
-        0 => Ok(Fund::General),
-        1 => Ok(Fund::Fee(entry_in(of_no)?)),
-        2 => Ok(Fund::Claim(entry_in(of_no)?)),
+        GENERAL_FUND => Ok(Fund::General),
+        FEE_FUND => Ok(Fund::Fee(entry_no_in(of_no)?)),
+        CLAIM_FUND => Ok(Fund::Claim(entry_no_in(of_no)?)),
         _ => Err(StoreFault::Store),
     }
 }
@@ -301,20 +312,20 @@ fn payment_in(
         amount,
     };
     match columns.state {
-        1 => Ok(Entry::Payment(proposed)),
-        2 => {
+        PAYMENT_PROPOSED => Ok(Entry::Payment(proposed)),
+        PAYMENT_DECLINED => {
             let state = PaymentState::Declined;
             Ok(Entry::Payment(Payment { state, ..proposed }))
         }
-        3 => {
+        PAYMENT_ISSUED => {
             let state = PaymentState::Issued(day_in(columns.day_done)?);
             Ok(Entry::Payment(Payment { state, ..proposed }))
         }
-        4 => {
+        PAYMENT_CLEARED => {
             let state = PaymentState::Cleared(cleared_in(alloc, columns)?);
             Ok(Entry::Payment(Payment { state, ..proposed }))
         }
-        5 => {
+        PAYMENT_VOIDED => {
             let state = PaymentState::Voided(voided_in(columns)?);
             Ok(Entry::Payment(Payment { state, ..proposed }))
         }
@@ -327,8 +338,8 @@ fn against_in(alloc: Global, columns: EntryColumns<'_>) -> Result<Against, Store
     ensures { (a : On) → IsAgainst a → HasAgainst a (entry_given columns.entry) → GivesBack a result }
 {
     match columns.fund {
-        0 => Ok(Against::General(label_in(alloc, columns.text_a)?)),
-        1 => Ok(Against::Fee(entry_in(columns.of_no)?)),
+        GENERAL_FUND => Ok(Against::General(label_in(alloc, columns.text_a)?)),
+        FEE_FUND => Ok(Against::Fee(entry_no_in(columns.of_no)?)),
         _ => Err(StoreFault::Store),
     }
 }
@@ -339,9 +350,9 @@ fn claim_state_in(columns: EntryColumns<'_>) -> Result<ClaimState, StoreFault>
     ensures store { IfErr result (λ e. e ≡ StoreFault.Store) }
 {
     match columns.state {
-        1 => Ok(ClaimState::Open),
-        2 => Ok(ClaimState::Offered(part_in(columns.part)?)),
-        3 => {
+        CLAIM_OPEN => Ok(ClaimState::Open),
+        CLAIM_OFFERED => Ok(ClaimState::Offered(part_in(columns.part)?)),
+        CLAIM_SETTLED => {
             let day = day_in(columns.day_done)?;
             let part = part_in(columns.part)?;
             Ok(ClaimState::Settled(Settlement { day, part }))
@@ -444,16 +455,16 @@ pub fn entry_of(
     if columns.matter != matter.get() as i64 {
         return Err(StoreFault::Store);
     }
-    let number = entry_in(columns.no)?;
+    let number = entry_no_in(columns.no)?;
     let left = number_in(columns.left_now, MAX_TOTAL)?;
     let book = day_in(columns.day)?;
     let amount = amount_in(columns.amount)?;
     // Reads the columns that its kind and state use; the others are compared below.
     let read = match columns.kind {
-        1 => deposit_in(alloc, book, amount, columns),
-        2 => payment_in(alloc, book, amount, columns),
-        3 => fee_in(alloc, book, amount, columns),
-        4 => claim_in(alloc, book, amount, columns),
+        DEPOSIT_KIND => deposit_in(alloc, book, amount, columns),
+        PAYMENT_KIND => payment_in(alloc, book, amount, columns),
+        FEE_KIND => fee_in(alloc, book, amount, columns),
+        CLAIM_KIND => claim_in(alloc, book, amount, columns),
         _ => Err(StoreFault::Store),
     };
     let entry = read?;

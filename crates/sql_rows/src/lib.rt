@@ -33,6 +33,7 @@
 //! crash may leave of them, and what a change writes into them.
 #![tactic(auto)]
 
+mod codes;
 mod column;
 mod entry;
 pub mod laws;

@@ -13,7 +13,8 @@ ghost use Rattle.sql_rows.specs.Columns.{kind_column, balance_columns, exception
 ghost use Rattle.sql_rows.specs.Columns.{matter_column, entry_column, movement_columns, IsOwner};
 ghost use Rattle.sql_rows.specs.Columns.{IsBankLine, IsFirmLine, BeginsLine, GivesBack};
 
-use crate::column::{bank_text_in, day_in, entry_in, number_in};
+use crate::codes::{CLOSING_BALANCE, OPENING_BALANCE};
+use crate::column::{bank_text_in, day_in, entry_no_in, number_in};
 use firm_rows::{BalanceKind, BalanceRow, FirmLine, Movement, Owner};
 use sql_tables::{BalanceColumns, ExceptionColumns, FirmLineColumns, MovementColumns};
 use std::alloc::Global;
@@ -36,8 +37,8 @@ pub fn kind_column(kind: BalanceKind) -> i64
     ensures { result ≡ kind_column kind }
 {
     match kind {
-        BalanceKind::Opening => 1,
-        BalanceKind::Closing => 2,
+        BalanceKind::Opening => OPENING_BALANCE,
+        BalanceKind::Closing => CLOSING_BALANCE,
     }
 }
 
@@ -60,8 +61,8 @@ pub fn balance_of(columns: BalanceColumns) -> Result<BalanceRow, StoreFault>
     ensures store { IfErr result (λ e. e ≡ StoreFault.Store) }
 {
     let kind = match columns.kind {
-        1 => BalanceKind::Opening,
-        2 => BalanceKind::Closing,
+        OPENING_BALANCE => BalanceKind::Opening,
+        CLOSING_BALANCE => BalanceKind::Closing,
         _ => return Err(StoreFault::Store),
     };
     let (day, amount) = dated_amount(columns.day, columns.amount)?;
@@ -165,7 +166,7 @@ fn owner_in(matter: i64, entry: i64) -> Result<Owner, StoreFault>
     }
     let number = number_in(matter, 99_999_999)?;
     let matter = MatterNo::from_number(number as u32).ok_or(StoreFault::Store)?;
-    let entry = entry_in(entry)?;
+    let entry = entry_no_in(entry)?;
     Ok(Owner::Matter { matter, entry })
 }
 

@@ -13,6 +13,7 @@ ghost use Rattle.sql_rows.specs.Heads.{HasHead, HasTotals, IsHolder, IsHead, Has
 ghost use Rattle.matter_parts.specs.declared.figures.Figures.{Figures as Totals};
 ghost use Rattle.matter_parts.specs.Parts.{AreSmall};
 
+use crate::codes::{CLIENT_ROLE, LAWYER_ROLE};
 use crate::column::{day_in, label_in, number_in};
 use matter_parts::Figures;
 use matter_rows::{Head, Holder, MAX_TOTAL, Role, Seat};
@@ -178,8 +179,8 @@ pub fn seat_columns(matter: MatterNo, seat: &Seat) -> SeatColumns<'_>
     ensures { seat_given result ≡ seat_columns matter seat.now }
 {
     let role = match seat.role {
-        Role::Client => 1,
-        Role::Lawyer => 2,
+        Role::Client => CLIENT_ROLE,
+        Role::Lawyer => LAWYER_ROLE,
     };
     SeatColumns {
         matter: matter.get() as i64,
@@ -204,8 +205,8 @@ pub fn seat_of(
         return Err(StoreFault::Store);
     }
     let role = match columns.role {
-        1 => Role::Client,
-        2 => Role::Lawyer,
+        CLIENT_ROLE => Role::Client,
+        LAWYER_ROLE => Role::Lawyer,
         _ => return Err(StoreFault::Store),
     };
     let person = PersonId::read(alloc, columns.person)?.ok_or(StoreFault::Store)?;
