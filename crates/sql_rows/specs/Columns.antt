@@ -17,11 +17,12 @@ use Rattle.firm_rows.specs.declared.movement.Owner.{Owner}
 use Rattle.firm_rows.specs.declared.movement.Owner.TheVariants as owner
 use Rattle.firm_rows.specs.declared.movement.Movement.{Movement}
 use Rattle.sql_tables.specs.Rows as table
+use Rattle.sql_rows.specs.Codes.{client_role, lawyer_role, opening_balance, closing_balance}
 
--- an opening balance is 1, a closing one 2
+-- the code of a kind of balance
 abbrev pub kind_column : BalanceKind → ℤ
-kind_column Opening = pos 1
-kind_column Closing = pos 2
+kind_column Opening = pos opening_balance
+kind_column Closing = pos closing_balance
 
 abbrev pub balance_columns : BalanceRow → table.Balance
 balance_columns b = record { id = pos 0; kind = kind_column b.kind; day = pos b.day; amount = b.amount }
@@ -57,10 +58,10 @@ exception_columns l = record {
   text = l.text;
 }
 
--- a client is 1, a lawyer 2
+-- the code of a role
 abbrev pub role_column : Role → ℤ
-role_column Client = pos 1
-role_column Lawyer = pos 2
+role_column Client = pos client_role
+role_column Lawyer = pos lawyer_role
 
 abbrev pub seat_columns : ℕ → Seat → table.Seat
 seat_columns matter s = record { id = pos 0; matter = pos matter; person = s.person; role = role_column s.role }

@@ -24,6 +24,10 @@ use Rattle.matter_rows.specs.declared.entry.Entry.{Entry}
 use Rattle.matter_rows.specs.declared.entry.Entry.TheVariants as entry
 use Rattle.matter_parts.specs.declared.kept.Kept.{Kept}
 use Rattle.sql_tables.specs.Rows as table
+use Rattle.sql_rows.specs.Codes.{deposit_kind, payment_kind, fee_kind, claim_kind}
+use Rattle.sql_rows.specs.Codes.{deposit_held, deposit_cleared, deposit_cancelled, deposit_returned}
+use Rattle.sql_rows.specs.Codes.{payment_proposed, payment_declined, payment_issued, payment_cleared, payment_voided}
+use Rattle.sql_rows.specs.Codes.{claim_open, claim_offered, claim_settled, general_fund, fee_fund, claim_fund}
 
 -- the columns that depend on the kind and state
 pub record Parts : Type 0 where
@@ -61,25 +65,29 @@ plain_parts kind day amount state fund of_no a b c = record {
   part = 0;
 }
 
--- held 1, cleared 2, cancelled 3, returned 4: `day_done` has the bank's day of the return, `text_c` its reference
+-- of a returned one `day_done` has the bank's day of the return, `text_c` its reference
 abbrev pub deposit_parts : DepositState → ℕ → ℕ → List ℕ → List ℕ → Parts
-deposit_parts deposit.Held day amount a b = plain_parts 1 day amount 1 0 0 a b []
+deposit_parts deposit.Held day amount a b = plain_parts deposit_kind day amount deposit_held 0 0 a b []
 deposit_parts (deposit.Cleared c) day amount a b =
-    record (plain_parts 1 day amount 2 0 0 a b []) { day_bank = c.bank_day; bank_ref = c.bank_ref }
-deposit_parts (deposit.Cancelled on) day amount a b = record (plain_parts 1 day amount 3 0 0 a b []) { day_undone = on }
+    record (plain_parts deposit_kind day amount deposit_cleared 0 0 a b []) {
+      day_bank = c.bank_day;
+      bank_ref = c.bank_ref;
+    }
+deposit_parts (deposit.Cancelled on) day amount a b =
+    record (plain_parts deposit_kind day amount deposit_cancelled 0 0 a b []) { day_undone = on }
 deposit_parts (deposit.Returned r) day amount a b =
-    record (plain_parts 1 day amount 4 0 0 a b r.returning.bank_ref) {
+    record (plain_parts deposit_kind day amount deposit_returned 0 0 a b r.returning.bank_ref) {
       day_bank = r.clearing.bank_day;
       bank_ref = r.clearing.bank_ref;
       day_done = r.returning.bank_day;
       day_undone = r.undone;
     }
 
--- available money 0, a fee 1, a claim 2
+-- the code of a fund: available money, a fee or a claim
 abbrev pub fund_kind : Fund → ℕ
-fund_kind fund.General = 0
-fund_kind (fund.Fee k) = 1
-fund_kind (fund.Claim k) = 2
+fund_kind fund.General = general_fund
+fund_kind (fund.Fee k) = fee_fund
+fund_kind (fund.Claim k) = claim_fund
 
 -- the number of the fee or claim, or 0
 abbrev pub fund_of : Fund → ℕ
@@ -87,40 +95,45 @@ fund_of fund.General = 0
 fund_of (fund.Fee k) = k
 fund_of (fund.Claim k) = k
 
--- proposed 1, declined 2, issued 3, cleared 4, voided 5
+-- a payment, by its state
 abbrev pub payment_parts : PaymentState → ℕ → ℕ → ℕ → ℕ → List ℕ → List ℕ → List ℕ → Parts
-payment_parts payment.Proposed day amount fund of_no a b c = plain_parts 2 day amount 1 fund of_no a b c
-payment_parts payment.Declined day amount fund of_no a b c = plain_parts 2 day amount 2 fund of_no a b c
+payment_parts payment.Proposed day amount fund of_no a b c =
+    plain_parts payment_kind day amount payment_proposed fund of_no a b c
+payment_parts payment.Declined day amount fund of_no a b c =
+    plain_parts payment_kind day amount payment_declined fund of_no a b c
 payment_parts (payment.Issued on) day amount fund of_no a b c =
-    record (plain_parts 2 day amount 3 fund of_no a b c) { day_done = on }
+    record (plain_parts payment_kind day amount payment_issued fund of_no a b c) { day_done = on }
 payment_parts (payment.Cleared s) day amount fund of_no a b c =
-    record (plain_parts 2 day amount 4 fund of_no a b c) {
+    record (plain_parts payment_kind day amount payment_cleared fund of_no a b c) {
       day_done = s.issued;
       day_bank = s.clearing.bank_day;
       bank_ref = s.clearing.bank_ref;
     }
 payment_parts (payment.Voided s) day amount fund of_no a b c =
-    record (plain_parts 2 day amount 5 fund of_no a b c) { day_done = s.issued; day_undone = s.undone }
+    record (plain_parts payment_kind day amount payment_voided fund of_no a b c) {
+      day_done = s.issued;
+      day_undone = s.undone;
+    }
 
--- open 1, offered 2, settled 3
+-- a claim, by its state
 abbrev pub claim_parts : ClaimState → ℕ → ℕ → ℕ → ℕ → List ℕ → List ℕ → Parts
-claim_parts claim.Open day amount fund of_no a b = plain_parts 4 day amount 1 fund of_no a b []
+claim_parts claim.Open day amount fund of_no a b = plain_parts claim_kind day amount claim_open fund of_no a b []
 claim_parts (claim.Offered part) day amount fund of_no a b =
-    record (plain_parts 4 day amount 2 fund of_no a b []) { part = part }
+    record (plain_parts claim_kind day amount claim_offered fund of_no a b []) { part = part }
 claim_parts (claim.Settled s) day amount fund of_no a b =
-    record (plain_parts 4 day amount 3 fund of_no a b []) { day_done = s.day; part = s.part }
+    record (plain_parts claim_kind day amount claim_settled fund of_no a b []) { day_done = s.day; part = s.part }
 
 -- on available money, by its claimant, or on a fee
 abbrev pub claim_on_parts : Against → ClaimState → ℕ → ℕ → List ℕ → Parts
-claim_on_parts (against.General claimant) s day amount reason = claim_parts s day amount 0 0 claimant reason
-claim_on_parts (against.Fee k) s day amount reason = claim_parts s day amount 1 k [] reason
+claim_on_parts (against.General claimant) s day amount reason = claim_parts s day amount general_fund 0 claimant reason
+claim_on_parts (against.Fee k) s day amount reason = claim_parts s day amount fee_fund k [] reason
 
--- deposits are 1, payments 2, fees 3, claims 4
+-- an entry, by its kind
 abbrev pub parts_of : Entry → Parts
 parts_of (entry.Deposit d) = deposit_parts d.state d.book d.amount d.source d.description
 parts_of (entry.Payment p) =
     payment_parts p.state p.book p.amount (fund_kind p.fund) (fund_of p.fund) p.payee p.purpose p.instrument
-parts_of (entry.Fee f) = plain_parts 3 f.book f.amount 0 0 0 f.description [] []
+parts_of (entry.Fee f) = plain_parts fee_kind f.book f.amount 0 0 0 f.description [] []
 parts_of (entry.Claim c) = claim_on_parts c.against c.state c.book c.amount c.reason
 
 -- the columns of an entry with this matter, number and amount left, and these parts
@@ -238,10 +251,10 @@ HasReturn r t =
 
 -- the state of a deposit, with its columns
 abbrev pub HasDepositState : DepositState → table.Entry → Type 0
-HasDepositState deposit.Held t = pos 1 ≡ t.state
-HasDepositState (deposit.Cleared c) t = (pos 2 ≡ t.state) × HasClearing c t.day_bank t.bank_ref
-HasDepositState (deposit.Cancelled on) t = (pos 3 ≡ t.state) × (pos on ≡ t.day_undone)
-HasDepositState (deposit.Returned r) t = (pos 4 ≡ t.state) × HasReturn r t
+HasDepositState deposit.Held t = pos deposit_held ≡ t.state
+HasDepositState (deposit.Cleared c) t = (pos deposit_cleared ≡ t.state) × HasClearing c t.day_bank t.bank_ref
+HasDepositState (deposit.Cancelled on) t = (pos deposit_cancelled ≡ t.state) × (pos on ≡ t.day_undone)
+HasDepositState (deposit.Returned r) t = (pos deposit_returned ≡ t.state) × HasReturn r t
 
 -- a deposit of this day and amount
 abbrev pub HasDeposit : Deposit → ℕ → ℕ → table.Entry → Type 0
@@ -255,13 +268,13 @@ HasFund f kind of_no = (pos (fund_kind f) ≡ kind) × (pos (fund_of f) ≡ of_n
 
 -- the state of a payment, with its columns
 abbrev pub HasPaymentState : PaymentState → table.Entry → Type 0
-HasPaymentState payment.Proposed t = pos 1 ≡ t.state
-HasPaymentState payment.Declined t = pos 2 ≡ t.state
-HasPaymentState (payment.Issued on) t = (pos 3 ≡ t.state) × (pos on ≡ t.day_done)
+HasPaymentState payment.Proposed t = pos payment_proposed ≡ t.state
+HasPaymentState payment.Declined t = pos payment_declined ≡ t.state
+HasPaymentState (payment.Issued on) t = (pos payment_issued ≡ t.state) × (pos on ≡ t.day_done)
 HasPaymentState (payment.Cleared s) t =
-    (pos 4 ≡ t.state) × (pos s.issued ≡ t.day_done) × HasClearing s.clearing t.day_bank t.bank_ref
+    (pos payment_cleared ≡ t.state) × (pos s.issued ≡ t.day_done) × HasClearing s.clearing t.day_bank t.bank_ref
 HasPaymentState (payment.Voided s) t =
-    (pos 5 ≡ t.state) × (pos s.issued ≡ t.day_done) × (pos s.undone ≡ t.day_undone)
+    (pos payment_voided ≡ t.state) × (pos s.issued ≡ t.day_done) × (pos s.undone ≡ t.day_undone)
 
 -- a payment of this day and amount
 abbrev pub HasPayment : Payment → ℕ → ℕ → table.Entry → Type 0
@@ -275,14 +288,15 @@ HasFee f day amount t = (f.book ≡ day) × (f.amount ≡ amount) × (f.descript
 
 -- what a claim is made on
 abbrev pub HasAgainst : Against → table.Entry → Type 0
-HasAgainst (against.General claimant) t = (pos 0 ≡ t.fund) × (claimant ≡ t.text_a)
-HasAgainst (against.Fee k) t = (pos 1 ≡ t.fund) × (pos k ≡ t.of_no)
+HasAgainst (against.General claimant) t = (pos general_fund ≡ t.fund) × (claimant ≡ t.text_a)
+HasAgainst (against.Fee k) t = (pos fee_fund ≡ t.fund) × (pos k ≡ t.of_no)
 
 -- the state of a claim, with its columns
 abbrev pub HasClaimState : ClaimState → table.Entry → Type 0
-HasClaimState claim.Open t = pos 1 ≡ t.state
-HasClaimState (claim.Offered part) t = (pos 2 ≡ t.state) × (pos part ≡ t.part)
-HasClaimState (claim.Settled s) t = (pos 3 ≡ t.state) × (pos s.day ≡ t.day_done) × (pos s.part ≡ t.part)
+HasClaimState claim.Open t = pos claim_open ≡ t.state
+HasClaimState (claim.Offered part) t = (pos claim_offered ≡ t.state) × (pos part ≡ t.part)
+HasClaimState (claim.Settled s) t =
+    (pos claim_settled ≡ t.state) × (pos s.day ≡ t.day_done) × (pos s.part ≡ t.part)
 
 -- a claim of this day and amount
 abbrev pub HasClaim : Claim → ℕ → ℕ → table.Entry → Type 0
@@ -291,10 +305,10 @@ HasClaim c day amount t =
 
 -- an entry of this day and amount
 abbrev pub HasEntry : Entry → ℕ → ℕ → table.Entry → Type 0
-HasEntry (entry.Deposit d) day amount t = (pos 1 ≡ t.kind) × HasDeposit d day amount t
-HasEntry (entry.Payment p) day amount t = (pos 2 ≡ t.kind) × HasPayment p day amount t
-HasEntry (entry.Fee f) day amount t = (pos 3 ≡ t.kind) × HasFee f day amount t
-HasEntry (entry.Claim c) day amount t = (pos 4 ≡ t.kind) × HasClaim c day amount t
+HasEntry (entry.Deposit d) day amount t = (pos deposit_kind ≡ t.kind) × HasDeposit d day amount t
+HasEntry (entry.Payment p) day amount t = (pos payment_kind ≡ t.kind) × HasPayment p day amount t
+HasEntry (entry.Fee f) day amount t = (pos fee_kind ≡ t.kind) × HasFee f day amount t
+HasEntry (entry.Claim c) day amount t = (pos claim_kind ≡ t.kind) × HasClaim c day amount t
 
 -- the columns are of this matter, and the numbers that every entry has are in range
 pub record BeginsEntry (matter : ℕ) (row : table.Entry) : Type 0 where

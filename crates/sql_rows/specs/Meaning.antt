@@ -39,6 +39,9 @@ use Rattle.trust_store.specs.declared.plain.KeptMatter.{KeptMatter}
 use Rattle.trust_store.specs.Kept.{AreKeptWhole, firm_of}
 use Rattle.sql_tables.specs.Rows as table
 use Rattle.sql_tables.specs.Lists.{Lists}
+use Rattle.sql_rows.specs.Codes.{payment_kind, fee_kind, claim_kind, deposit_cleared, deposit_cancelled}
+use Rattle.sql_rows.specs.Codes.{deposit_returned, payment_declined, payment_issued, payment_cleared, payment_voided}
+use Rattle.sql_rows.specs.Codes.{claim_offered, claim_settled, fee_fund, claim_fund, lawyer_role, closing_balance}
 use Rattle.sql_rows.specs.Columns.{balance_columns, movement_columns, firm_line_columns, exception_columns, seat_columns}
 use Rattle.sql_rows.specs.Entries.{Parts, entry_columns}
 use Rattle.sql_rows.specs.Heads.{HasHead}
@@ -79,7 +82,7 @@ figures_from h = record {
 -- A seat.
 
 abbrev pub role_from : ℤ → Role
-role_from code = cond (nat_abs code == 2) role.Lawyer role.Client
+role_from code = cond (nat_abs code == lawyer_role) role.Lawyer role.Client
 
 abbrev pub seat_from : table.Seat → Seat
 seat_from s = record { person = s.person; role = role_from s.role }
@@ -114,34 +117,36 @@ returning_from p = record { bank_day = p.day_done; bank_ref = p.text_c }
 
 abbrev pub deposit_state_from : Parts → DepositState
 deposit_state_from p =
-    cond (p.state == 2) (deposit.Cleared (clearing_from p))
-    (cond (p.state == 3) (deposit.Cancelled p.day_undone)
-    (cond (p.state == 4)
+    cond (p.state == deposit_cleared) (deposit.Cleared (clearing_from p))
+    (cond (p.state == deposit_cancelled) (deposit.Cancelled p.day_undone)
+    (cond (p.state == deposit_returned)
     (deposit.Returned (record { clearing = clearing_from p; returning = returning_from p; undone = p.day_undone }))
     deposit.Held))
 
 abbrev pub payment_state_from : Parts → PaymentState
 payment_state_from p =
-    cond (p.state == 2) payment.Declined
-    (cond (p.state == 3) (payment.Issued p.day_done)
-    (cond (p.state == 4) (payment.Cleared (record { issued = p.day_done; clearing = clearing_from p }))
-    (cond (p.state == 5) (payment.Voided (record { issued = p.day_done; undone = p.day_undone }))
+    cond (p.state == payment_declined) payment.Declined
+    (cond (p.state == payment_issued) (payment.Issued p.day_done)
+    (cond (p.state == payment_cleared)
+    (payment.Cleared (record { issued = p.day_done; clearing = clearing_from p }))
+    (cond (p.state == payment_voided) (payment.Voided (record { issued = p.day_done; undone = p.day_undone }))
     payment.Proposed)))
 
 abbrev pub claim_state_from : Parts → ClaimState
 claim_state_from p =
-    cond (p.state == 2) (claim.Offered p.part)
-    (cond (p.state == 3) (claim.Settled (record { day = p.day_done; part = p.part })) claim.Open)
+    cond (p.state == claim_offered) (claim.Offered p.part)
+    (cond (p.state == claim_settled) (claim.Settled (record { day = p.day_done; part = p.part })) claim.Open)
 
 abbrev pub fund_from : Parts → Fund
-fund_from p = cond (p.fund == 1) (fund.Fee p.of_no) (cond (p.fund == 2) (fund.Claim p.of_no) fund.General)
+fund_from p =
+    cond (p.fund == fee_fund) (fund.Fee p.of_no) (cond (p.fund == claim_fund) (fund.Claim p.of_no) fund.General)
 
 abbrev pub against_from : Parts → Against
-against_from p = cond (p.fund == 1) (against.Fee p.of_no) (against.General p.text_a)
+against_from p = cond (p.fund == fee_fund) (against.Fee p.of_no) (against.General p.text_a)
 
 abbrev pub entry_from : Parts → Entry
 entry_from p =
-    cond (p.kind == 2)
+    cond (p.kind == payment_kind)
     (entry.Payment (record {
       book = p.day;
       amount = p.amount;
@@ -151,8 +156,8 @@ entry_from p =
       instrument = p.text_c;
       state = payment_state_from p;
     }))
-    (cond (p.kind == 3) (entry.Fee (record { book = p.day; amount = p.amount; description = p.text_a }))
-    (cond (p.kind == 4)
+    (cond (p.kind == fee_kind) (entry.Fee (record { book = p.day; amount = p.amount; description = p.text_a }))
+    (cond (p.kind == claim_kind)
     (entry.Claim (record {
       book = p.day;
       amount = p.amount;
@@ -193,7 +198,7 @@ exception_from e = record {
 }
 
 abbrev pub balance_kind_from : ℤ → BalanceKind
-balance_kind_from code = cond (nat_abs code == 2) Closing Opening
+balance_kind_from code = cond (nat_abs code == closing_balance) Closing Opening
 
 abbrev pub balance_from : table.Balance → BalanceRow
 balance_from b = record { kind = balance_kind_from b.kind; day = nat_abs b.day; amount = b.amount }

@@ -1,5 +1,5 @@
 // The codes of the columns, by name: what writes a column and what reads it back name the same code. The definitions
-// have their own numbers (`specs/Entries`, `specs/Columns`), so that the contracts compare both.
+// have their own numbers (`specs/Codes`), which contracts compare with these.
 
 // `kind` of an entry.
 pub(crate) const DEPOSIT_KIND: i64 = 1;
