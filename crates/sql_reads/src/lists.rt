@@ -229,12 +229,12 @@ pub fn firm_ledger<S: Alter>(
     ledger_of(alloc, &rows)
 }
 
-// Reads the amount of a row. Returns `Store` for an amount that no bank line can have.
-fn amount_in(row: &Row) -> Result<i64, StoreFault>
-    ensures ok { IfOk result (λ n. (column row.now 0 ≡ Int n) × IsBankAmount n) }
-    ensures none { IfErr result (λ e. (n : ℤ) → IsBankAmount n → column row.now 0 ≢ Int n) }
+// Reads the amount of a bank line from a column. Returns `Store` if no bank line can have it.
+fn amount_at(row: &Row, at: usize) -> Result<i64, StoreFault>
+    ensures ok { IfOk result (λ n. (column row.now at ≡ Int n) × IsBankAmount n) }
+    ensures none { IfErr result (λ e. (n : ℤ) → IsBankAmount n → column row.now at ≢ Int n) }
 {
-    let cents = number_at(row, 0)?;
+    let cents = number_at(row, at)?;
     match BankAmount::from_number(cents) {
         Some(amount) => Ok(amount.get()),
         None => Err(StoreFault::Store),
@@ -264,6 +264,6 @@ pub fn balance_at<S: Alter>(
     )?;
     match rows.first() {
         None => Ok(None),
-        Some(row) => Ok(Some(amount_in(row)?)),
+        Some(row) => Ok(Some(amount_at(row, 0)?)),
     }
 }

@@ -33,29 +33,41 @@ use sqlite_value::value::ValueRef;
 use std::alloc::Global;
 use trust_base::{EntryNo, MatterNo, StoreFault};
 
+// Selects the columns of a head, in the order in which `head_in` reads them; the query goes on with the text.
+macro_rules! select_head {
+    ($text:literal) => {
+        concat!(
+            "SELECT client, opened, closed, last, entries, held, available, disputed, fees, claims, pending, purged",
+            $text
+        )
+    };
+}
+
+// Selects the columns of an entry, in the order in which `entry_in` reads them; the query goes on with the text.
+macro_rules! select_entry {
+    ($text:literal) => {
+        concat!(
+            "SELECT no, kind, day, amount, state, fund, of_no, text_a, text_b, text_c, ",
+            "day_done, day_undone, day_bank, bank_ref, part, left_now",
+            $text
+        )
+    };
+}
+
 // The head of a matter, with its totals.
-const HEAD: &str =
-    "SELECT client, opened, closed, last, entries, held, available, disputed, fees, claims, \
-    pending, purged FROM matter_v2 WHERE no = ?1 ORDER BY rowid";
+const HEAD: &str = select_head!(" FROM matter_v2 WHERE no = ?1 ORDER BY rowid");
+
+// The head of the first matter after a number, and its number.
+const NEXT_HEAD: &str = select_head!(", no FROM matter_v2 WHERE no > ?1 ORDER BY no LIMIT 1");
 
 // The seats of a matter, by person.
 const SEATS: &str = "SELECT person, role FROM seat_v2 WHERE matter = ?1 ORDER BY person, rowid";
 
 // The entries of a matter, by number.
-const ENTRIES: &str =
-    "SELECT no, kind, day, amount, state, fund, of_no, text_a, text_b, text_c, day_done, \
-    day_undone, day_bank, bank_ref, part, left_now FROM entry_v2 WHERE matter = ?1 ORDER BY no, rowid";
+const ENTRIES: &str = select_entry!(" FROM entry_v2 WHERE matter = ?1 ORDER BY no, rowid");
 
 // An entry of a matter.
-const ENTRY: &str =
-    "SELECT no, kind, day, amount, state, fund, of_no, text_a, text_b, text_c, day_done, \
-    day_undone, day_bank, bank_ref, part, left_now FROM entry_v2 WHERE matter = ?1 AND no = ?2 \
-    ORDER BY rowid";
-
-// The head of the first matter after a number, and its number.
-const NEXT_HEAD: &str =
-    "SELECT client, opened, closed, last, entries, held, available, disputed, fees, claims, \
-    pending, purged, no FROM matter_v2 WHERE no > ?1 ORDER BY no LIMIT 1";
+const ENTRY: &str = select_entry!(" FROM entry_v2 WHERE matter = ?1 AND no = ?2 ORDER BY rowid");
 
 // The head of a matter, and its stored totals.
 #[derive(Drop)]

@@ -38,7 +38,7 @@ pub(crate) fn rows_of<S: Alter>(
         rows.items) }
     ensures left { LeavesAll result (state S.Store conn.old) (state S.Store conn.new) }
 {
-    // Outside a transaction, what is seen is what was committed, so going back to the commit changes nothing.
+    // For the proof.
     let _settled = conn.is_autocommit();
     match conn.query_all(sql, params) {
         Ok(rows) => Ok(rows),
@@ -80,6 +80,7 @@ pub(crate) fn hand_rows<S: Alter, K, T: RowTaking<K>>(
         (state S.Store conn.old) (state S.Store conn.new) result sink.old sink.new }
     ensures left { LeavesAll result (state S.Store conn.old) (state S.Store conn.new) }
 {
+    // For the proof.
     let _settled = conn.is_autocommit();
     let mut rows = match conn.query(sql, params) {
         Ok(rows) => rows,

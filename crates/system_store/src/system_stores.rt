@@ -124,7 +124,7 @@ pub fn copied<D: Disk + Drop>(conn: Connection<FileStore<D>>) -> Result<Files<D>
     ensures settled { IsTrue (file_state conn).is_open → (file_state conn).now ≡ (file_state conn).committed }
     ensures listed { IsTrue (file_state conn).is_open → IsDatabase (file_state conn).now }
 {
-    // Outside a transaction, what is seen is what was committed, and the schema is the one that the trees list.
+    // For the proof.
     let _settled = conn.is_autocommit();
     let _listed = conn.schema();
     match conn.close_files() {

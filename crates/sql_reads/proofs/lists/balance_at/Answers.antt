@@ -30,6 +30,6 @@ returns-clause-found g c l clean stands =
     let is = balance_read_answer l s0.now k d stands.tables _ (answers (balance_read_asks l) (Int k ∷ Int d ∷ []) s0 (state g.S.Store c.rows_of.new.conn) stands.tables.schema _ (c.in_ok-rows.ensures.shown clean)) in
     let one = some_first balance_shown (is_balance_at k d) bs c.in_ok-rows.rows.items is c.in-Some.row.now (sym (ap (λ l. slice_get l 0) c.deref.ensures.value) ∙ sym c.first.ensures.value ∙ ap option_copied c.in-Some.is) in
     let same = ap₂ (λ a b. find (is_balance_at a b) bs) (sym of_kind) (sym on_day) in
-    let same_amount : to_z w64 (of_z w64 c.in_ok-amount_in-in-Some.field-0) ≡ c.in_ok-amount_in-in-Some.field-0 = search rules in
-    ap Some (same_amount ∙ amount_shown one.one c.in-Some.row.now _ one.shows c.in_ok-amount_in-in-Some.ensures.ok.0)
+    let same_amount : to_z w64 (of_z w64 c.in_ok-amount_at-in-Some.field-0) ≡ c.in_ok-amount_at-in-Some.field-0 = search rules in
+    ap Some (same_amount ∙ amount_shown one.one c.in-Some.row.now _ one.shows c.in_ok-amount_at-in-Some.ensures.ok.0)
     ∙ sym (kept_is_found c.args.kind c.args.day bs stands.rows.meant.written.balances stands.rows.sound.in_order.balances ∙ ap (option_map (λ (b : Balance). b.amount)) (same ∙ one.found_one))
