@@ -68,24 +68,39 @@
 //! - `exit_of`: the exit status of each outcome.
 #![tactic(auto)]
 
+mod applied_lines;
+mod beginning;
 mod check;
+mod exception_telling;
+mod file_line;
+mod file_telling;
+mod folder;
+mod item_remark;
+mod kept;
 pub mod laws;
+mod match_telling;
 mod matching;
 mod notice;
 mod outcome;
 mod program;
+mod read_bytes;
+mod records;
 mod report;
+mod report_telling;
 mod sheet;
+mod sheet_telling;
+mod sighting;
 mod statement;
+mod statement_telling;
 mod system;
 
 pub use cashier_remarks::{
-    AskedRemarks, Caution, EarlierLine, EntryFault, EntryLine, ExceptionRemark, Excerpt,
-    FileRemark, Folder, HeaderRemark, LineFault, LineRemark, NoRemarks, Opened, OwnLine, Place,
-    Plain, Presence, RecordFault, RecordRemark, RefusedRecord, Remark, Remarks, UnmatchedLine,
-    VerbFault,
+    AskedRemarks, BookRemark, Caution, ExceptionRemark, Excerpt, FileRemark, HeaderRemark,
+    LineFault, LineRemark, NoRemarks, Plain, Reference, RefusedRecord, Remark, Remarks,
+    ReportRemark, UnmatchedLine,
 };
 pub use check::{CheckFound, run_check};
+pub use folder::{Folder, Opened, Presence};
 pub use matching::run_match;
 pub use notice::{Notice, Source, bare_notice_of, notice_of};
 pub use outcome::{Outcome, exit_of};

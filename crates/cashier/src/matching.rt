@@ -8,9 +8,11 @@ ghost use Rattle.trust_desk.specs.Calls.{KeepsBook};
 ghost use Rattle.cashier.specs.Matching.{IsFound, MatchEnds, PrintsFound};
 ghost use Rattle.cashier.specs.Outcome.{MatchFileEnds};
 
+use crate::folder::{Folder, Opened};
+use crate::match_telling::{tell_matched, tell_not_matched};
 use crate::outcome::{Outcome, outcome_of_refusal, write_refusal};
 use crate::statement::is_told_longer;
-use cashier_remarks::{Folder, Opened, Remarks, tell_matched, tell_not_matched};
+use cashier_remarks::Remarks;
 use std::alloc::Global;
 use std::io::{Read, Write};
 use trust_base::{Day, InputFault, MAX_FILE_BYTES, Refusal, read_whole, send};
@@ -56,7 +58,7 @@ fn found_in<R: Read + Drop, B: Book>(
 // refusal, and reports why.
 fn print_found<W: Write, M: Remarks>(
     alloc: Global,
-    bytes: Vec<u8>,
+    bytes: &[u8],
     remarks: &M,
     writer: &mut W,
     found: &Result<Matched, Refusal>,
@@ -106,7 +108,7 @@ fn match_in<R: Read + Drop, M: Remarks, W: Write, B: Book>(
 {
     let mut bytes = Vec::new(alloc);
     match found_in(alloc, file, &mut bytes, desk, today) {
-        Some(found) => print_found(alloc, bytes, remarks, writer, &found),
+        Some(found) => print_found(alloc, bytes.as_slice(), remarks, writer, &found),
         None => Outcome::FileFault,
     }
 }

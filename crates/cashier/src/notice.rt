@@ -72,7 +72,8 @@ impl fmt::Display for Notice<'_> {
     }
 }
 
-// Returns what these words say to read. A path with control characters is not shown, because a terminal would obey them.
+// Returns what these words say to read. A path with control characters is not shown, because a terminal would obey
+// them.
 fn source_of<'a>(alloc: Global, words: &'a [&'a str]) -> Option<Source<'a>>
     ensures { IfSome result (IsSource (words_of words.entry.now)) }
 {

@@ -15,19 +15,22 @@ ghost use Rattle.command_line.specs.declared.command.Task.{Task};
 ghost use Rattle.portal_http.specs.Clients.{ports_of};
 ghost use Rattle.trust_desk.specs.Checking.{AreReads};
 
+use crate::applied_lines::{AppliedLines, tell_of_earlier};
+use crate::beginning::{is_past, tell_of_day, tell_of_new_book, tell_of_no_book};
 use crate::check::run_check;
+use crate::folder::Folder;
+use crate::kept::tell_of_loss;
 use crate::matching::run_match;
 use crate::outcome::{
     Outcome, outcome_of_serving, outcome_of_sheet, outcome_of_store, outcome_of_stream,
     outcome_of_words, outcome_put_back,
 };
+use crate::read_bytes::{ReadBytes, TeeReader};
 use crate::report::run_report;
 use crate::sheet::run_sheet;
 use crate::statement::run_import;
-use cashier_remarks::{
-    AppliedLines, AskedRemarks, Folder, Remark, Remarks, StatementTelling, is_past, tell_of_day,
-    tell_of_earlier, tell_of_loss, tell_of_new_book, tell_of_no_book,
-};
+use crate::statement_telling::StatementTelling;
+use cashier_remarks::{AskedRemarks, BookRemark, Remark, Remarks};
 use command_line::{CliFault, Plan, Task, command_of};
 use portal_http::{Network, serve_connections, serve_stream};
 use std::alloc::{AllocError, Global};
@@ -61,8 +64,8 @@ pub fn texts_of<'a>(alloc: Global, words: &'a [String]) -> Result<Vec<&'a str>, 
     Ok(texts)
 }
 
-// Imports the statement at a path, if it can be opened. The lines that it applies are kept in `applied`, if that is
-// given.
+// Imports the statement at a path, if it can be opened. Its bytes are copied as they are read, if somebody is told of
+// its lines. The lines that it applies are kept in `applied`, if that is given.
 fn import_file<F: Folder, M: Remarks, W: Write, B: Book>(
     alloc: Global,
     folder: &F,
@@ -85,9 +88,13 @@ fn import_file<F: Folder, M: Remarks, W: Write, B: Book>(
     let Some(file) = folder.open(path) else {
         return Outcome::FileFault;
     };
-    let is_file = file.length.is_some();
-    let told = StatementTelling::new(alloc, folder, path, is_file, today, remarks, applied);
-    run_import(alloc, file.reader, file.length, writer, desk, today, &told)
+    let read = ReadBytes::new(alloc);
+    let told = StatementTelling::new(alloc, &read, today, remarks, applied);
+    let reader = TeeReader {
+        reader: file.reader,
+        copy: Some(&read).filter(|_| remarks.are_told()),
+    };
+    run_import(alloc, reader, file.length, writer, desk, today, &told)
 }
 
 /// Serves `count` clients of a port over a desk on a business day, one after the other, and writes a line for each, the
@@ -134,8 +141,8 @@ pub fn run_serve<F: Folder, C: Clock + Drop, N: Network, M: Remarks, W: Write, B
     ))
 }
 
-// Runs a plan over a desk, whatever book the plan names. The lines that an import applies are kept in `applied`, if that
-// is given and somebody is told. The contract holds for any words that mean the plan.
+// Runs a plan over a desk, whatever book the plan names. The lines that an import applies are kept in `applied`, if
+// that is given and somebody is told. The contract holds for any words that mean the plan.
 fn run_plan<R: Read, F: Folder, C: Clock + Drop, N: Network, M: Remarks, W: Write, B: Book>(
     alloc: Global,
     plan: &Plan<'_>,
@@ -236,11 +243,14 @@ fn tell_of_failure<M: Remarks, B: Book>(
     ensures { AreReads (B.seen desk.old) (B.seen desk.new) }
 {
     match desk.find_unread(alloc, today) {
-        Ok(Unread::Elsewhere) => remarks.tell(&Remark::AllRead(path)),
+        Ok(Unread::Elsewhere) => {
+            let told = BookRemark::AllRead;
+            remarks.tell(&Remark::Book { path, told })
+        }
         Ok(unread) => remarks.tell(&Remark::Unread(unread)),
         Err(StoreFault::Store) => {
-            let why = NoBook::Failed;
-            remarks.tell(&Remark::NoBook { path, why })
+            let told = BookRemark::NoBook(NoBook::Failed);
+            remarks.tell(&Remark::Book { path, told })
         }
         Err(StoreFault::Memory) => (),
     }
@@ -248,9 +258,8 @@ fn tell_of_failure<M: Remarks, B: Book>(
 
 // Reports what the rows of a book show of a run that is over, if somebody is told: after an import, which of the lines
 // that it applied stand on something else too; after a failure of the store, why it failed. The book is only read.
-fn tell_of_rows<F: Folder, M: Remarks, B: Book>(
+fn tell_of_rows<M: Remarks, B: Book>(
     alloc: Global,
-    folder: &F,
     remarks: &M,
     plan: &Plan<'_>,
     path: &str,
@@ -266,8 +275,8 @@ fn tell_of_rows<F: Folder, M: Remarks, B: Book>(
     if ended == Outcome::StoreFault {
         return tell_of_failure(alloc, remarks, path, plan.today, desk);
     }
-    if let Task::Import(statement) = plan.task {
-        tell_of_earlier(folder, statement, plan.today, remarks, applied, desk);
+    if let Task::Import(_) = plan.task {
+        tell_of_earlier(remarks, applied, desk);
     }
 }
 
@@ -281,7 +290,8 @@ fn tell_of_putting<M: Remarks>(
 ) {
     let is_fault = outcome_put_back(ended, put) == Outcome::StoreFault;
     if is_fault && ended != Outcome::StoreFault && !plan.is_quiet {
-        remarks.tell(&Remark::NotPutBack(path));
+        let told = BookRemark::NotPutBack;
+        remarks.tell(&Remark::Book { path, told });
     }
 }
 
@@ -326,9 +336,7 @@ fn run_at_path<R: Read, F: Folder, C: Clock + Drop, N: Network, M: Remarks, S: S
         writer,
         &mut desk,
     );
-    tell_of_rows(
-        alloc, folder, remarks, plan, path, &applied, ended, &mut desk,
-    );
+    tell_of_rows(alloc, remarks, plan, path, &applied, ended, &mut desk);
     let put = stores.put_back(desk.into_book());
     tell_of_putting(remarks, plan, path, ended, put);
     outcome_put_back(ended, put)
@@ -337,8 +345,8 @@ fn run_at_path<R: Read, F: Folder, C: Clock + Drop, N: Network, M: Remarks, S: S
 /// Runs what the words that the program was called with ask for, its name first among them, over the book at the path
 /// of `--db`. If there is no `--db`, it uses a new, empty book in memory, which is dropped at the end.
 ///
-/// The book at the path is opened once. What a person is told of its rows when the run is over comes of that opening: it
-/// is only read for it, before it is put back.
+/// The book at the path is opened once. What a person is told of its rows when the run is over comes of that opening:
+/// it is only read for it, before it is put back.
 ///
 /// If the words can't be read or are invalid, or memory runs out before they are parsed, nothing is read, run or
 /// written, and no book is opened: the outcome is `MemoryFault` if memory ran out, and otherwise `CommandLine`. If the

@@ -8,10 +8,10 @@ ghost use Rattle.cashier.specs.Report.{PrintsReport, asked_for};
 ghost use Rattle.trust_store.specs.Calls.{IsRead};
 ghost use Rattle.trust_store.specs.Crashes.{LeavesOr};
 
+use crate::exception_telling::ExceptionTelling;
 use crate::outcome::{Outcome, outcome_of_reply, write_reply};
-use cashier_remarks::{
-    ExceptionTelling, NowReport, NowTelling, PaymentTelling, Remark, Remarks, TwiceTelling,
-};
+use crate::report_telling::{NowReport, NowTelling, PaymentTelling, TwiceTelling};
+use cashier_remarks::{Remark, Remarks, ReportRemark};
 use command_line::ReportCommand;
 use std::alloc::Global;
 use std::io::Write;
@@ -44,8 +44,8 @@ fn request_for(command: ReportCommand) -> Request
     }
 }
 
-// Prints a report of a desk's book on a business day, or the line of its refusal. What its rows show beside it is kept in
-// `lines`.
+// Prints a report of a desk's book on a business day, or the line of its refusal. What its rows show beside it is kept
+// in `lines`.
 fn print_report<W: Write, B: Book>(
     alloc: Global,
     command: ReportCommand,
@@ -75,7 +75,8 @@ fn print_report<W: Write, B: Book>(
 // Reports what the rows of a report showed, and whether memory ran out for it.
 fn tell_lines<M: Remarks, V: RowWatch>(remarks: &M, watch: &V, lines: ClearedLines) {
     if lines.tell(watch).is_err() {
-        remarks.tell(&Remark::RowsEnd(StoreFault::Memory));
+        let fault = StoreFault::Memory;
+        remarks.tell(&Remark::Report(ReportRemark::RowsEnd(fault)));
     }
 }
 
@@ -90,7 +91,7 @@ fn tell_rows<M: Remarks, V: RowWatch, B: Book>(
     ensures { (told : Result Unit StoreFault) × IsRead told (B.seen desk.old) (B.seen desk.new) }
 {
     if let Err(fault) = desk.tell_rows(alloc, day, watch) {
-        remarks.tell(&Remark::RowsEnd(fault));
+        remarks.tell(&Remark::Report(ReportRemark::RowsEnd(fault)));
     }
 }
 
@@ -102,7 +103,7 @@ fn tell_reasons<M: Remarks, B: Book>(alloc: Global, remarks: &M, desk: &mut Desk
     let telling = ExceptionTelling { today, remarks };
     match desk.tell_exceptions(alloc, today, &telling) {
         Ok(()) => tell_rows(alloc, remarks, &TwiceTelling { remarks }, desk, today),
-        Err(fault) => remarks.tell(&Remark::ExceptionsEnd(fault)),
+        Err(fault) => remarks.tell(&Remark::Report(ReportRemark::ExceptionsEnd(fault))),
     }
 }
 
@@ -115,7 +116,9 @@ fn tell_payments<M: Remarks, B: Book>(
     ensures { (told : Result Unit StoreFault) × IsRead told (B.seen desk.old) (B.seen desk.new) }
 {
     if let Err(fault) = desk.tell_outstanding(alloc, telling.matter, telling) {
-        telling.remarks.tell(&Remark::RowsEnd(fault));
+        telling
+            .remarks
+            .tell(&Remark::Report(ReportRemark::RowsEnd(fault)));
     }
 }
 
@@ -127,7 +130,7 @@ fn tell_of_day_to_come<M: Remarks>(remarks: &M, command: ReportCommand, today: D
         ReportCommand::Ledger(_) | ReportCommand::Firm(_) => return,
     };
     if today.get() < last.get() {
-        remarks.tell(&Remark::ToCome { today, last });
+        remarks.tell(&Remark::Report(ReportRemark::ToCome { today, last }));
     }
 }
 
@@ -181,14 +184,21 @@ pub fn run_report<M: Remarks, W: Write, B: Book>(
         ReportCommand::Firm(Report::Exceptions) => tell_reasons(alloc, remarks, desk, today),
         ReportCommand::Reconcile(_) => tell_lines(remarks, &TwiceTelling { remarks }, lines),
         ReportCommand::Firm(Report::Trial) if is_past => {
-            tell_lines(
+            let report = NowReport::Trial;
+            let telling = NowTelling {
+                report,
+                today,
                 remarks,
-                &NowTelling::new(NowReport::Trial, today, remarks),
-                lines,
-            )
+            };
+            tell_lines(remarks, &telling, lines)
         }
         ReportCommand::Firm(Report::Journal) if is_past => {
-            let telling = NowTelling::new(NowReport::Journal, today, remarks);
+            let report = NowReport::Journal;
+            let telling = NowTelling {
+                report,
+                today,
+                remarks,
+            };
             tell_rows(alloc, remarks, &telling, desk, today)
         }
         ReportCommand::Account(no, period) => {

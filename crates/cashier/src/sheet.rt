@@ -12,7 +12,8 @@ ghost use Rattle.day_sheet.specs.Records.{heard_of};
 ghost use Rattle.trust_desk.specs.Crashes.{IsMade, MayLeave};
 
 use crate::outcome::{write_refusal, write_reply};
-use cashier_remarks::{Remark, Remarks, Telling};
+use crate::sheet_telling::SheetTelling;
+use cashier_remarks::{Remark, Remarks};
 use csv::{ByteRecord, ReaderBuilder};
 use day_sheet::answer_record;
 use std::alloc::Global;
@@ -57,7 +58,7 @@ fn ran_of(reply: &Reply) -> Result<bool, SheetEnd>
 fn run_record<W: Write, B: Book, M: Remarks>(
     alloc: Global,
     row: &ByteRecord,
-    telling: &Telling<'_, M>,
+    telling: &SheetTelling<'_, M>,
     writer: &mut W,
     desk: &mut Desk<B>,
     day: Day,
@@ -111,7 +112,7 @@ fn run_records<W: Write, B: Book, M: Remarks>(
         → LinesAreKept day (B.seen desk.old).firm (sheet_records bytes.now) (B.seen desk.old)
         (W.contents writer.old) (W.contents writer.new) result (B.seen desk.new) }
 {
-    let telling = Telling::new(bytes, remarks);
+    let telling = SheetTelling::new(bytes, remarks);
     let mut refused = false;
     let rdr = ReaderBuilder::new()
         .has_headers(false)

@@ -2,10 +2,11 @@
 
 ghost use Rattle.std.specs.Prelude.{None, ⊤};
 
+use crate::folder::{Folder, Opened, Presence};
 use crate::notice::{Notice, bare_notice_of, notice_of};
 use crate::outcome::{Outcome, exit_of};
 use crate::program::{Surroundings, run_called, texts_of};
-use cashier_remarks::{Folder, Opened, Presence, Remark, Remarks};
+use cashier_remarks::{Remark, Remarks};
 use portal_http::SystemNetwork;
 use std::cell::RefCell;
 use std::fmt::Write;

@@ -2,7 +2,6 @@
 
 use crate::excerpt::Excerpt;
 use crate::fields::text_at;
-use crate::sighting::{EMPTY_MARK, Sighting, marked};
 use csv::ByteRecord;
 use day_sheet::{Verb, field_bytes, form_of};
 use std::fmt;
@@ -46,13 +45,13 @@ fn place_of_lone_quote(bytes: &[u8]) -> Option<usize> {
             (Reading::Start, b'"') | (Reading::Closing, b'"') => Reading::Quoted,
             (Reading::Quoted, b'"') => Reading::Closing,
             (Reading::Quoted, _) => Reading::Quoted,
-            (_, b',') => {
+            (Reading::Start | Reading::Bare | Reading::Closing, b',') => {
                 place = place.saturating_add(1);
                 Reading::Start
             }
-            (_, b'\n') | (_, b'\r') => return None,
+            (Reading::Start | Reading::Bare | Reading::Closing, b'\n' | b'\r') => return None,
             (Reading::Closing, _) => return Some(place),
-            (Reading::Start, _) | (Reading::Bare, _) => Reading::Bare,
+            (Reading::Start | Reading::Bare, _) => Reading::Bare,
         };
     }
     None
@@ -103,19 +102,15 @@ fn is_to_cash(row: &ByteRecord) -> bool {
     false
 }
 
-/// Makes the marks of a payment that a record proposes by a check or another instrument with a number. None if it does
-/// not.
-pub fn payment_in(line: u64, row: &ByteRecord) -> Option<Sighting> {
+/// Returns the number of the check or other instrument by which a record proposes a payment. None if it does not, or if
+/// the instrument has no number.
+pub fn payment_number(row: &ByteRecord) -> Option<&[u8]> {
     let number = field_bytes(row, 8);
-    if !is_proposing(row) || !number.iter().any(|byte| byte.is_ascii_digit()) {
-        return None;
+    if is_proposing(row) && number.iter().any(|byte| byte.is_ascii_digit()) {
+        Some(number)
+    } else {
+        None
     }
-    let matter = marked(EMPTY_MARK, field_bytes(row, 1));
-    Some(Sighting {
-        line,
-        name: marked(matter, field_bytes(row, 2)),
-        mark: marked(EMPTY_MARK, number),
-    })
 }
 
 /// Returns the warning about a payment whose number the one that begins on the line `before` has too.

@@ -1,9 +1,9 @@
 // Remarks about a statement with another header.
 
+use crate::fields::is_no_text;
 use crate::line_fault::HEADER;
 use crate::plain::Plain;
-use crate::rereading::Found;
-use crate::verb_fault::is_no_text;
+use csv::ByteRecord;
 use day_sheet::{form_of, is_dismissal};
 use std::fmt;
 
@@ -18,28 +18,16 @@ pub enum HeaderRemark<'a> {
     NotText { line: u64 },
     /// The file has no records.
     Empty,
-    /// The file can't be read again.
-    Unseen,
 }
 
-// The bytes up to the end of the line.
-fn first_line(rest: &[u8]) -> &[u8] {
-    let mut length = 0usize;
-    for byte in rest {
-        if *byte == b'\n' || *byte == b'\r' {
-            break;
-        }
-        length = length.saturating_add(1);
-    }
-    rest.get(..length).unwrap_or(rest)
-}
-
-/// Makes the remark about the first record of a statement, which is not a header.
-pub fn remark_on_header(found: Found<'_>) -> HeaderRemark<'_> {
-    let (line, here) = (found.line, first_line(found.rest));
+/// Makes the remark about the first record of a statement, which is not a header. It begins on this line of the file,
+/// and `rest` is the file from there.
+pub fn remark_on_header<'a>(line: u64, rest: &'a [u8], row: &ByteRecord) -> HeaderRemark<'a> {
+    let mut lines = rest.split(|byte| *byte == b'\n' || *byte == b'\r');
+    let here = lines.next().unwrap_or(rest);
     if is_no_text(here) {
         HeaderRemark::NotText { line }
-    } else if is_dismissal(found.row) || form_of(found.row).is_some() {
+    } else if is_dismissal(row) || form_of(row).is_some() {
         HeaderRemark::Sheet { line }
     } else {
         HeaderRemark::Other {
@@ -51,7 +39,7 @@ pub fn remark_on_header(found: Found<'_>) -> HeaderRemark<'_> {
 
 impl fmt::Display for HeaderRemark<'_> {
     fn fmt<W: fmt::Write>(&self, f: &mut fmt::Formatter<W>) -> fmt::Result {
-        match *self {
+        match self {
             HeaderRemark::Other { line, here } => write!(
                 f,
                 "line {line}: the first line must be {HEADER}; here it is {here}; \
@@ -69,7 +57,6 @@ impl fmt::Display for HeaderRemark<'_> {
                 f,
                 "the first line must be {HEADER}; here is none, the file is empty"
             ),
-            HeaderRemark::Unseen => write!(f, "the first line must be {HEADER}"),
         }
     }
 }

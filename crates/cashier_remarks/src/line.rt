@@ -1,134 +1,202 @@
 // Remarks about lines of a statement as it is imported, and about exceptions.
 
-use crate::beside::OwnerReference;
-use crate::earlier_line::EarlierLine;
-use crate::entry_line::EntryLine;
-use crate::line_fault::{LineFault, fault_of_line};
-use crate::own_line::OwnLine;
+use crate::line_fault::LineFault;
 use crate::plain::Plain;
-use csv::ByteRecord;
+use crate::reference::Reference;
+use firm_rows::BalanceKind;
 use std::fmt;
-use trust_base::{Day, StoreFault};
-use trust_desk::NotApplied;
+use trust_base::{BankAmount, Day, Dollars, EntryNo, MatterNo, StoreFault};
 
 /// What is reported about a line of a statement as it is imported, or about an exception.
 #[derive(Clone, Copy)]
 pub enum LineRemark<'a> {
-    /// It names an entry.
-    OfMatter(EntryLine<'a>),
-    /// It is the firm's own, or a balance.
-    Own(OwnLine),
-    /// Its reference, which may be empty, names nothing.
-    Stray(Plain<'a>),
+    /// It is dated after this business day.
+    AfterToday(Day),
+    /// Its matter was never opened.
+    NeverOpened(MatterNo),
+    /// Its matter was purged.
+    Purged(MatterNo),
+    /// Its matter has no such entry.
+    NoEntry {
+        matter: MatterNo,
+        entry: EntryNo,
+    },
+    /// Its entry is a fee.
+    Fee,
+    /// Its entry is a claim.
+    Claim,
+    /// Its payment waits for a lawyer.
+    NotApproved,
+    /// Its payment was declined.
+    Declined,
+    /// Its payment was voided on this day.
+    Voided(Day),
+    /// Its deposit was cancelled on this day.
+    Cancelled(Day),
+    /// Its deposit was cleared by a line of this day and bank reference.
+    DepositCleared(Day, Plain<'a>),
+    /// Its payment was cleared by a line of this day and bank reference.
+    PaymentCleared(Day, Plain<'a>),
+    /// The bank took its deposit back by a line of this day and bank reference.
+    TakenBack(Day, Plain<'a>),
+    /// Its entry needs a line of one amount, and it has another.
+    OtherAmount {
+        there: Dollars,
+        here: BankAmount,
+    },
+    /// Its matter has too little for what the bank took back.
+    Uncovered(MatterNo),
+    /// Its matter was changed on this day, which is after the business day.
+    WorkOf {
+        matter: MatterNo,
+        last: Day,
+    },
+    /// It is the firm's own, and moves nothing.
+    MovesNothing,
+    /// It is the firm's own, and with it the firm's money would be this much.
+    Beyond(Dollars),
+    /// It is a balance for a day for which another is on file.
+    OtherBalance {
+        kind: BalanceKind,
+        day: Day,
+        there: Dollars,
+        here: BankAmount,
+    },
+    /// It has no reference.
+    NoReference,
+    /// Its reference names nothing.
+    Stray,
     /// It is not a valid line.
     Unreadable(LineFault<'a>),
     /// It and the lines after it were not applied, because of this fault.
     NotRun(StoreFault),
-    /// It is an exception that an import would apply. `is_out` if it clears a payment or takes a deposit back.
-    WouldApply { is_out: bool },
+    /// It is an exception by which an import would clear a payment or take a deposit back.
+    WouldTakeOut,
+    /// It is another exception that an import would apply.
+    WouldApply,
     /// It is an exception that an import would count as a repeat.
     WouldRepeat,
-    /// It was applied, but is like one that an earlier import applied.
-    Earlier(EarlierLine<'a>),
+    /// It was applied, but an earlier import put a line of its bank reference, day and amount on this.
+    Earlier {
+        before: Reference<'a>,
+        bank_ref: Plain<'a>,
+        day: Day,
+        amount: Dollars,
+    },
 }
 
-// The fault for a record that is not a valid line, if it could be read again.
-fn fault_of<'a>(row: Option<&'a ByteRecord>) -> LineFault<'a> {
-    match row {
-        Some(row) => fault_of_line(row),
-        None => LineFault::Unseen,
-    }
-}
-
-/// Makes the remark about an item that was not applied on a business day, or about an exception. `row` is the item's
-/// record, if it could be read again.
-pub fn remark_on_item<'a>(
-    told: &NotApplied<'a>,
-    row: Option<&'a ByteRecord>,
-    today: Day,
-) -> LineRemark<'a> {
-    match *told {
-        NotApplied::OfMatter {
-            line,
-            matter,
-            reason,
-        } => LineRemark::OfMatter(EntryLine::new(line, matter, reason, today)),
-        NotApplied::OfFirm { line, ledger } => {
-            LineRemark::Own(OwnLine::of_firm(line, ledger, today))
-        }
-        NotApplied::OfBalance { kind, line, kept } => {
-            LineRemark::Own(OwnLine::of_balance(kind, line, kept, today))
-        }
-        NotApplied::Stray { line } => LineRemark::Stray(Plain::new(line.reference.as_slice())),
-        NotApplied::Unreadable => LineRemark::Unreadable(fault_of(row)),
-        NotApplied::WouldApply { line } => LineRemark::WouldApply {
-            is_out: line.reference.as_slice().starts_with(b"M") && line.amount.get() < 0,
-        },
-        NotApplied::WouldRepeat { line: _ } => LineRemark::WouldRepeat,
-    }
-}
-
-impl LineRemark<'_> {
-    // Writes a comma and the reference, if it is known and not empty.
-    fn write_reference<W: fmt::Write>(&self, f: &mut fmt::Formatter<W>) -> fmt::Result {
+impl fmt::Display for LineRemark<'_> {
+    fn fmt<W: fmt::Write>(&self, f: &mut fmt::Formatter<W>) -> fmt::Result {
         match self {
-            LineRemark::OfMatter(line) => {
-                let (matter, entry) = (line.matter, line.entry);
-                write!(f, ", M{matter}-{entry}")
+            LineRemark::AfterToday(today) => write!(f, "dated after today, {today}"),
+            LineRemark::NeverOpened(matter) => {
+                write!(f, "matter {matter} was never opened: look at the number")
             }
-            LineRemark::Own(line) => {
-                let reference = line.reference();
-                write!(f, ", {reference}")
+            LineRemark::Purged(matter) => write!(
+                f,
+                "matter {matter} was purged: look at the number"
+            ),
+            LineRemark::NoEntry { matter, entry } => write!(
+                f,
+                "matter {matter} has no entry {entry}"
+            ),
+            LineRemark::Fee => f.write_str("a fee: no line of the bank clears it"),
+            LineRemark::Claim => f.write_str("a claim: no line of the bank clears it"),
+            LineRemark::NotApproved => {
+                f.write_str("the payment is not approved yet: a lawyer approves it first")
             }
-            LineRemark::Stray(reference) if reference.is_empty() => Ok(()),
-            LineRemark::Stray(reference) => write!(f, ", {reference}"),
-            LineRemark::Earlier(line) => {
-                let owner = OwnerReference(line.owner);
-                write!(f, ", {owner}")
+            LineRemark::Declined => f.write_str(
+                "the payment was declined: look at the number, or ask the bank why it was paid",
+            ),
+            LineRemark::Voided(day) => write!(
+                f,
+                "the payment was voided on {day}: look at the number, or ask the bank why it was paid"
+            ),
+            LineRemark::Cancelled(day) => write!(
+                f,
+                "the deposit was cancelled on {day}: look at the number, or book it as a new entry"
+            ),
+            LineRemark::DepositCleared(day, bank_ref) => write!(
+                f,
+                "the deposit was cleared by another line, of {day} with {bank_ref}: \
+                look at the number, or, if that line is this one mistyped, dismiss this one"
+            ),
+            LineRemark::PaymentCleared(day, bank_ref) => write!(
+                f,
+                "the payment was cleared by another line, of {day} with {bank_ref}: \
+                look at the number, or, if that line is this one mistyped, dismiss this one"
+            ),
+            LineRemark::TakenBack(day, bank_ref) => write!(
+                f,
+                "the bank took the deposit back by its line of {day} with {bank_ref}: look at the number"
+            ),
+            LineRemark::OtherAmount { there, here } => {
+                write!(f, "the amount is {there} there, and {here} here")
             }
-            LineRemark::Unreadable(_)
-            | LineRemark::NotRun(_)
-            | LineRemark::WouldApply { is_out: _ }
-            | LineRemark::WouldRepeat => Ok(()),
-        }
-    }
-
-    /// Writes only the reason, without the reference.
-    pub(crate) fn write_reason<W: fmt::Write>(&self, f: &mut fmt::Formatter<W>) -> fmt::Result {
-        match self {
-            LineRemark::OfMatter(line) => write!(f, "{line}"),
-            LineRemark::Own(line) => write!(f, "{line}"),
-            LineRemark::Stray(reference) if reference.is_empty() => f.write_str(
+            LineRemark::Uncovered(matter) => write!(
+                f,
+                "the bank took the deposit back, and matter {matter} has less than that: \
+                put the money back in, and import the file again"
+            ),
+            LineRemark::WorkOf { matter, last } => write!(
+                f,
+                "matter {matter} has work of {last}: --today is that day or a later one"
+            ),
+            LineRemark::MovesNothing => f.write_str("an amount of 0.00 moves nothing"),
+            LineRemark::Beyond(sum) => write!(
+                f,
+                "the firm's own money would be {sum} with it, and stays from 0.00 to 500.00"
+            ),
+            LineRemark::OtherBalance {
+                kind: BalanceKind::Opening,
+                day,
+                there,
+                here,
+            } => write!(
+                f,
+                "another opening balance is kept for {day}: {there} there, and {here} here"
+            ),
+            LineRemark::OtherBalance {
+                kind: BalanceKind::Closing,
+                day,
+                there,
+                here,
+            } => write!(
+                f,
+                "another closing balance is kept for {day}: {there} there, and {here} here"
+            ),
+            LineRemark::NoReference => f.write_str(
                 "it has no reference: let match fill it in, or write M and six digits, - and four, or FIRM; \
                 import that, and dismiss this one",
             ),
-            LineRemark::Stray(_) => f.write_str(
+            LineRemark::Stray => f.write_str(
                 "no reference of an entry: write M and six digits, - and four, or FIRM, OPEN, CLOSE",
             ),
-            LineRemark::Unreadable(fault) => write!(f, "{fault}"),
+            LineRemark::Unreadable(fault) => fault.fmt(f),
             LineRemark::NotRun(fault) => write!(
                 f,
                 "{fault}: this line and those after it were not applied; import the whole file again"
             ),
-            LineRemark::WouldApply { is_out: true } => f.write_str(
+            LineRemark::WouldTakeOut => f.write_str(
                 "an import would clear the payment, or take the deposit back, by it: \
                 import it again only if the bank has it so; if it was mistyped, dismiss it",
             ),
-            LineRemark::WouldApply { is_out: false } => f.write_str(
+            LineRemark::WouldApply => f.write_str(
                 "an import would apply it now: import the statement again; if it was mistyped, dismiss it",
             ),
             LineRemark::WouldRepeat => f.write_str(
                 "it is in the book already: import the statement again, and it is no exception any more",
             ),
-            LineRemark::Earlier(line) => write!(f, "{line}"),
+            LineRemark::Earlier {
+                before,
+                bank_ref,
+                day,
+                amount,
+            } => write!(
+                f,
+                "{bank_ref} of {day}, {amount}, stands on {before} already, by an earlier import: \
+                look whether the bank has two"
+            ),
         }
-    }
-}
-
-impl fmt::Display for LineRemark<'_> {
-    fn fmt<W: fmt::Write>(&self, f: &mut fmt::Formatter<W>) -> fmt::Result {
-        self.write_reference(f)?;
-        f.write_str(": ")?;
-        self.write_reason(f)
     }
 }

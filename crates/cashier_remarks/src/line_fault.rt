@@ -2,8 +2,7 @@
 
 use crate::day_meant::day_meant;
 use crate::excerpt::Excerpt;
-use crate::fault::{first_not_text, has_line_end};
-use crate::fields::text_at;
+use crate::fields::{first_not_text, has_line_end, text_at};
 use crate::sum_meant::sum_meant;
 use csv::ByteRecord;
 use day_sheet::field_bytes;
@@ -20,24 +19,34 @@ pub const OPEN_QUOTE: &str =
 /// What is wrong with a record of a statement that is not a valid line.
 #[derive(Clone, Copy)]
 pub enum LineFault<'a> {
-    /// The record can't be read again.
-    Unseen,
     /// A field before the text contains the end of a line, so the next line belongs to it.
     OpenQuote,
+    /// It has one field instead of five.
+    OneField,
     /// It has this many fields instead of five.
     Count(usize),
     /// The field with this number, from 1, is not UTF-8.
-    NotText(usize),
-    /// The first field is not a valid day; with the day that is meant, if that is clear.
-    NoDay(Excerpt<'a>, Option<Day>),
-    /// The fourth field is not a valid amount; with the amount that is meant, if that is clear.
-    NoAmount(Excerpt<'a>, Option<BankAmount>),
-    /// A reference is invalid: which one, and what it is.
-    NoReference(&'static str, Excerpt<'a>),
-    /// The bank's reference is missing.
-    NoBankReference,
-    /// The bank's reference is missing, and a balance with this name is meant.
-    NoBalance(Excerpt<'a>, &'static str),
+    NotUtf8(usize),
+    /// The day is empty.
+    EmptyDay,
+    /// The first is no day; the second is meant.
+    DayMeant(Excerpt<'a>, Day),
+    /// This is no day.
+    NoDay(Excerpt<'a>),
+    /// The amount is empty.
+    EmptyAmount,
+    /// The first is no amount; the second is meant.
+    AmountMeant(Excerpt<'a>, BankAmount),
+    /// This is no amount.
+    NoAmount(Excerpt<'a>),
+    /// This is no reference.
+    NoReference(Excerpt<'a>),
+    /// This is no reference of the bank.
+    NoBankReference(Excerpt<'a>),
+    /// The bank's reference is empty.
+    EmptyBankReference,
+    /// The bank's reference is empty, and the first is no balance; the second is meant.
+    BalanceMeant(Excerpt<'a>, &'static str),
     /// The text is too long.
     LongText,
 }
@@ -56,16 +65,6 @@ fn is_reference(field: &[u8]) -> bool {
     field.len() <= MAX_BANK_TEXT && field.iter().all(|byte| 0x20 <= *byte && *byte <= 0x7E)
 }
 
-// The five fields of a line as text.
-#[derive(Clone, Copy)]
-struct Texts<'a> {
-    date: &'a str,
-    reference: &'a str,
-    bank_ref: &'a str,
-    amount: &'a str,
-    text: &'a str,
-}
-
 // The balance that is meant by a reference without a bank reference.
 fn balance_meant(reference: &str) -> Option<&'static str> {
     let front = reference.as_bytes().get(..4)?;
@@ -78,61 +77,63 @@ fn balance_meant(reference: &str) -> Option<&'static str> {
     }
 }
 
-// The fault for a line without a bank reference.
-fn fault_of_missing(reference: &str) -> LineFault<'_> {
-    match balance_meant(reference) {
-        Some(name) => LineFault::NoBalance(Excerpt::new(reference), name),
-        None => LineFault::NoBankReference,
+// The fault for a text that is no day.
+fn fault_of_day(text: &str) -> LineFault<'_> {
+    match day_meant(text) {
+        Some(meant) => LineFault::DayMeant(Excerpt::new(text), meant),
+        None if text.is_empty() => LineFault::EmptyDay,
+        None => LineFault::NoDay(Excerpt::new(text)),
+    }
+}
+
+// The fault for a text that is no amount.
+fn fault_of_amount(text: &str) -> LineFault<'_> {
+    match sum_meant(text) {
+        Some(meant) => LineFault::AmountMeant(Excerpt::new(text), meant),
+        None if text.is_empty() => LineFault::EmptyAmount,
+        None => LineFault::NoAmount(Excerpt::new(text)),
     }
 }
 
 // The fault for a line whose day and amount are valid.
-fn fault_of_words<'a>(line: &Texts<'a>) -> LineFault<'a> {
-    if !is_reference(line.reference.as_bytes()) {
-        LineFault::NoReference("reference", Excerpt::new(line.reference))
-    } else if !is_reference(line.bank_ref.as_bytes()) {
-        LineFault::NoReference("reference of the bank", Excerpt::new(line.bank_ref))
-    } else if line.text.len() > MAX_LINE_TEXT {
-        LineFault::LongText
-    } else {
-        fault_of_missing(line.reference)
+fn fault_of_words<'a>(reference: &'a str, bank_ref: &'a str, text: &str) -> LineFault<'a> {
+    if !is_reference(reference.as_bytes()) {
+        return LineFault::NoReference(Excerpt::new(reference));
+    }
+    if !is_reference(bank_ref.as_bytes()) {
+        return LineFault::NoBankReference(Excerpt::new(bank_ref));
+    }
+    if text.len() > MAX_LINE_TEXT {
+        return LineFault::LongText;
+    }
+    match balance_meant(reference) {
+        Some(name) => LineFault::BalanceMeant(Excerpt::new(reference), name),
+        None => LineFault::EmptyBankReference,
     }
 }
 
-// The fault for a line.
-fn fault_of_texts<'a>(line: &Texts<'a>) -> LineFault<'a> {
-    if Day::read(line.date.as_bytes()).is_none() {
-        LineFault::NoDay(Excerpt::new(line.date), day_meant(line.date))
-    } else if BankAmount::read(line.amount.as_bytes()).is_none() {
-        LineFault::NoAmount(Excerpt::new(line.amount), sum_meant(line.amount))
+// The fault for a line that is five fields of a record, after so many first ones.
+fn fault_after(row: &ByteRecord, first: usize) -> LineFault<'_> {
+    let date = text_at(row, first);
+    let reference = text_at(row, first.saturating_add(1));
+    let bank_ref = text_at(row, first.saturating_add(2));
+    let amount = text_at(row, first.saturating_add(3));
+    let text = text_at(row, first.saturating_add(4));
+    if Day::read(date.as_bytes()).is_none() {
+        fault_of_day(date)
+    } else if BankAmount::read(amount.as_bytes()).is_none() {
+        fault_of_amount(amount)
     } else {
-        fault_of_words(line)
+        fault_of_words(reference, bank_ref, text)
     }
-}
-
-// The fault for a record with five text fields.
-fn fault_of_fields(row: &ByteRecord) -> LineFault<'_> {
-    fault_of_texts(&Texts {
-        date: text_at(row, 0),
-        reference: text_at(row, 1),
-        bank_ref: text_at(row, 2),
-        amount: text_at(row, 3),
-        text: text_at(row, 4),
-    })
 }
 
 /// Returns the first thing that is wrong with the line that a record should dismiss, which comes after the record's
 /// first three fields.
 pub fn fault_of_dismissed(row: &ByteRecord) -> LineFault<'_> {
     match first_not_text(row) {
-        0 => fault_of_texts(&Texts {
-            date: text_at(row, 3),
-            reference: text_at(row, 4),
-            bank_ref: text_at(row, 5),
-            amount: text_at(row, 6),
-            text: text_at(row, 7),
-        }),
-        number => LineFault::NotText(number),
+        0 => fault_after(row, 3),
+        number => LineFault::NotUtf8(number),
     }
 }
 
@@ -149,60 +150,66 @@ pub fn fault_of_line(row: &ByteRecord) -> LineFault<'_> {
     if has_open_quote(row) {
         return LineFault::OpenQuote;
     }
-    if row.len() != 5 {
-        return LineFault::Count(row.len());
+    match row.len() {
+        5 => (),
+        1 => return LineFault::OneField,
+        count => return LineFault::Count(count),
     }
     match first_not_text(row) {
-        0 => fault_of_fields(row),
-        number => LineFault::NotText(number),
+        0 => fault_after(row, 0),
+        number => LineFault::NotUtf8(number),
     }
 }
 
 impl fmt::Display for LineFault<'_> {
     fn fmt<W: fmt::Write>(&self, f: &mut fmt::Formatter<W>) -> fmt::Result {
-        match *self {
-            LineFault::Unseen => write!(f, "it is no line of a statement: {HEADER}"),
+        match self {
             LineFault::OpenQuote => f.write_str(OPEN_QUOTE),
-            LineFault::Count(1) => {
+            LineFault::OneField => {
                 write!(f, "it has 1 field, a line of a statement has 5: {HEADER}")
             }
             LineFault::Count(count) => write!(
                 f,
                 "it has {count} fields, a line of a statement has 5: {HEADER}"
             ),
-            LineFault::NotText(number) => {
+            LineFault::NotUtf8(number) => {
                 write!(f, "field {number} is not UTF-8: save the file as UTF-8")
             }
-            LineFault::NoDay(text, _) if text.is_empty() => {
-                f.write_str("the day is empty: write it as 2026-03-16")
-            }
-            LineFault::NoDay(text, Some(meant)) => write!(f, "{text} is no day: write {meant}"),
-            LineFault::NoDay(text, None) => write!(
+            LineFault::EmptyDay => f.write_str("the day is empty: write it as 2026-03-16"),
+            LineFault::DayMeant(text, meant) => write!(f, "{text} is no day: write {meant}"),
+            LineFault::NoDay(text) => write!(
                 f,
                 "{text} is no day: write year, month and day as 2026-03-16"
             ),
-            LineFault::NoAmount(text, _) if text.is_empty() => {
+            LineFault::EmptyAmount => {
                 f.write_str("the amount is empty: write dollars and cents as 1234.50")
             }
-            LineFault::NoAmount(text, Some(meant)) => {
+            LineFault::AmountMeant(text, meant) => {
                 write!(f, "{text} is no amount: write {meant}, no $ and no comma")
             }
-            LineFault::NoAmount(text, None) => write!(
+            LineFault::NoAmount(text) => write!(
                 f,
                 "{text} is no amount: write dollars and cents as 1234.50, no $ and no comma"
             ),
-            LineFault::NoReference(noun, text) => write!(
+            LineFault::NoReference(text) => write!(
                 f,
-                "{text} is no {noun}: write at most 64 printed characters of ASCII"
+                "{text} is no reference: write at most 64 printed characters of ASCII"
             ),
-            LineFault::NoBankReference => f.write_str(
+            LineFault::NoBankReference(text) => write!(
+                f,
+                "{text} is no reference of the bank: write at most 64 printed characters of ASCII"
+            ),
+            LineFault::EmptyBankReference => f.write_str(
                 "the bank_ref is empty: write the bank's own reference of the line, as each but OPEN and CLOSE has one",
             ),
-            LineFault::NoBalance(text, name) => write!(
-                f,
-                "{text} is no balance: write {name}; a line that is none has a bank_ref"
-            ),
-            LineFault::LongText => { f.write_str("the text has more than 1000 bytes: shorten it") }
+            LineFault::BalanceMeant(text, name) => {
+                let name = *name;
+                write!(
+                    f,
+                    "{text} is no balance: write {name}; a line that is none has a bank_ref"
+                )
+            }
+            LineFault::LongText => f.write_str("the text has more than 1000 bytes: shorten it"),
         }
     }
 }

@@ -1,7 +1,7 @@
 // Remarks about refused records, and what to do.
 
-use crate::fault::fault_of;
 use crate::fields::text_at;
+use crate::record_fault::fault_of;
 use csv::ByteRecord;
 use day_sheet::{Verb, form_of};
 use std::fmt;
@@ -51,12 +51,10 @@ impl fmt::Display for RefusedRecord<'_> {
                 f,
                 "matter {matter} was never opened: look at the number, or open it"
             ),
-            Refusal::Purged => {
-                write!(
-                    f,
-                    "matter {matter} was purged: its number is not used again"
-                )
-            }
+            Refusal::Purged => write!(
+                f,
+                "matter {matter} was purged: its number is not used again"
+            ),
             Refusal::AlreadyOpen => write!(
                 f,
                 "matter {matter} was opened before: show,{matter}, tells for whom; if that is this one, go on, \
@@ -75,12 +73,10 @@ impl fmt::Display for RefusedRecord<'_> {
                 "matter {matter} has entry 9999, the last: open another matter"
             ),
             Refusal::WrongNumber(Some(next)) => match EntryNo::read(number.as_bytes()) {
-                Some(asked) if asked > next => {
-                    write!(
-                        f,
-                        "entry {number} leaves a gap: the next free one is {next}"
-                    )
-                }
+                Some(asked) if asked > next => write!(
+                    f,
+                    "entry {number} leaves a gap: the next free one is {next}"
+                ),
                 Some(_) | None => write!(
                     f,
                     "entry {number} is taken by something else: look at it by entry,{matter},{number}, \
@@ -183,12 +179,10 @@ impl fmt::Display for RefusedRecord<'_> {
                 "{person} has a seat in matter {matter} already: show,{matter}, tells in which role; \
                 to change it, drop the seat first"
             ),
-            Refusal::NoSeat => {
-                write!(
-                    f,
-                    "{person} has no seat in matter {matter}: look at the name"
-                )
-            }
+            Refusal::NoSeat => write!(
+                f,
+                "{person} has no seat in matter {matter}: look at the name"
+            ),
             Refusal::LastLawyer => write!(
                 f,
                 "{person} is the only lawyer of matter {matter}: seat the other lawyer first"

@@ -29,16 +29,16 @@ fn one_more(count: Option<u8>) -> Option<u8> {
 
 impl Sum {
     fn with_digit(self, digit: u8) -> Sum {
+        let grouped = match self.decimals {
+            None => one_more(self.grouped),
+            Some(_) => self.grouped,
+        };
         Sum {
             value: self.value.saturating_mul(10).saturating_add(digit as i64),
             has_digits: true,
-            is_negative: self.is_negative,
-            grouped: if self.decimals.is_none() {
-                one_more(self.grouped)
-            } else {
-                self.grouped
-            },
+            grouped,
             decimals: one_more(self.decimals),
+            ..self
         }
     }
 

@@ -21,27 +21,16 @@ pub fn verb_meant(name: &[u8]) -> Option<&'static str> {
     }
 }
 
-/// Writes all verbs of a sheet.
-pub fn write_verbs<W: fmt::Write>(f: &mut fmt::Formatter<W>) -> fmt::Result {
-    for form in FORMS {
-        f.write_str(form.name)?;
-        f.write_str(", ")?;
-    }
-    f.write_str(DISMISS)
-}
-
-/// Who makes, by a message, a request that no sheet makes.
+/// The names of all verbs of a sheet, with commas between them.
 #[derive(Clone, Copy)]
-pub enum Asker {
-    Client,
-    Lawyer,
-}
+pub struct VerbNames;
 
-/// Returns who makes the request of this name by messages, if it is not a verb of a sheet.
-pub fn asker_of(name: &str) -> Option<Asker> {
-    match name {
-        "approve" | "decline" | "void" | "fee" | "offer" => Some(Asker::Lawyer),
-        "accept" | "dispute" => Some(Asker::Client),
-        _ => None,
+impl fmt::Display for VerbNames {
+    fn fmt<W: fmt::Write>(&self, f: &mut fmt::Formatter<W>) -> fmt::Result {
+        for form in FORMS {
+            f.write_str(form.name)?;
+            f.write_str(", ")?;
+        }
+        f.write_str(DISMISS)
     }
 }

@@ -1,7 +1,7 @@
 // Remarks at the beginning of a run.
 
 use crate::folder::Presence;
-use crate::remarks::{Remark, Remarks};
+use cashier_remarks::{BookRemark, Remark, Remarks};
 use command_line::Plan;
 use std::rt::Clock;
 use trust_base::Day;
@@ -13,7 +13,7 @@ const DAYS_AHEAD: u64 = 31;
 const SECONDS_OF_A_DAY: u64 = 86_400;
 
 /// The number of days from 1970-01-01 to a day, counting in years that begin in March.
-pub(crate) fn days_since_1970(day: Day) -> u64 {
+pub fn days_since_1970(day: Day) -> u64 {
     let number = day.get() as u64;
     let (year, month) = (number / 10_000, number / 100 % 100);
     let (year, month) = if month < 3 {
@@ -53,11 +53,12 @@ pub fn tell_of_new_book<M: Remarks>(remarks: &M, plan: &Plan<'_>, path: &str, fo
     if plan.is_quiet {
         return;
     }
-    match found {
-        Presence::Missing => remarks.tell(&Remark::NewBook(path)),
-        Presence::Empty => remarks.tell(&Remark::EmptyBook(path)),
-        Presence::There => (),
-    }
+    let told = match found {
+        Presence::Missing => BookRemark::New,
+        Presence::Empty => BookRemark::Emptied,
+        Presence::There => return,
+    };
+    remarks.tell(&Remark::Book { path, told });
 }
 
 /// Reports why no book is available at a path, unless memory ran out.
@@ -65,5 +66,6 @@ pub fn tell_of_no_book<M: Remarks>(remarks: &M, plan: &Plan<'_>, path: &str, why
     if plan.is_quiet || why == NoBook::Memory {
         return;
     }
-    remarks.tell(&Remark::NoBook { path, why });
+    let told = BookRemark::NoBook(why);
+    remarks.tell(&Remark::Book { path, told });
 }

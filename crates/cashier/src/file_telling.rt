@@ -1,51 +1,21 @@
-// What only the file of a statement shows about its records.
+// Remarks about what only the bytes of a statement show.
 
-use crate::line_fault::has_open_quote;
-use crate::remarks::{Remark, Remarks};
-use crate::rereading::{Found, Rereading};
+use crate::records::{Found, Records};
 use crate::sighting::{EMPTY_MARK, Seen, Sighting, marked};
+use cashier_remarks::{
+    FileRemark, HeaderRemark, Remark, Remarks, has_open_quote, remark_on_header,
+};
 use csv::ByteRecord;
 use day_sheet::field_bytes;
-use std::fmt;
+use std::alloc::{AllocError, Global};
 use trust_base::{BankAmount, Day};
 
-/// What only the file of a statement shows about a record.
-#[derive(Clone, Copy)]
-pub enum FileRemark {
-    /// It continues up to this line.
-    GoesOn { last: u64 },
-    /// It has the same day, reference, bank reference and amount as the record that begins on this line.
-    Again { before: u64 },
-    /// It has the same day, bank reference and amount as the record that begins on this line, but another reference.
-    Twice { before: u64 },
-    /// It closes the statement with this balance, which is below zero.
-    Overdrawn { amount: BankAmount },
-}
-
-impl fmt::Display for FileRemark {
-    fn fmt<W: fmt::Write>(&self, f: &mut fmt::Formatter<W>) -> fmt::Result {
-        match *self {
-            FileRemark::GoesOn { last } => write!(
-                f,
-                "this record goes on to line {last}, since a double quote is opened here and not closed in its line: \
-                if that is not meant, close it, or take it away"
-            ),
-            FileRemark::Again { before } => write!(
-                f,
-                "the same day, reference, bank reference and amount as line {before}: \
-                applied once; if the bank has both, give this one a bank_ref of its own"
-            ),
-            FileRemark::Twice { before } => write!(
-                f,
-                "the same day, bank reference and amount as line {before}, under another reference: \
-                look whether the bank has both, or the sum of them"
-            ),
-            FileRemark::Overdrawn { amount } => write!(
-                f,
-                "a closing balance of {amount}, below zero: no trust account is overdrawn; \
-                look whether the sign is meant, and call the bank"
-            ),
-        }
+/// Makes the remark about the first record of a statement, which is no header, if it is there.
+pub fn remark_on_first(found: Found<'_>, is_there: bool) -> HeaderRemark<'_> {
+    if is_there {
+        remark_on_header(found.line, found.rest, found.row)
+    } else {
+        HeaderRemark::Empty
     }
 }
 
@@ -143,17 +113,25 @@ fn tell_of_closing<M: Remarks>(found: &Found<'_>, remarks: &M) {
     }
 }
 
-/// Reports what only the file of a statement shows about its records: which continue after their lines, which have the
-/// same day, bank reference and amount as one of the 64 before them, and which close it below zero.
-pub fn tell_of_records<M: Remarks>(records: &mut Rereading, remarks: &M, is_match: bool) {
+/// Reports what only the bytes of a statement show about its records: which continue after their lines, which have the
+/// same day, bank reference and amount as one of the 64 before them, and which close it below zero. In a match no other
+/// remark names a record that continues. Fails if memory runs out.
+pub fn tell_of_records<M: Remarks>(
+    alloc: Global,
+    bytes: &[u8],
+    remarks: &M,
+    is_match: bool,
+) -> Result<(), AllocError> {
+    let mut records = Records::new(alloc, bytes);
     let mut seen = Seen::new();
     for number in 1..u64::MAX {
-        if !records.has_read(number) {
-            return;
+        if !records.has_read(number)? {
+            return Ok(());
         }
-        let found = records.found();
+        let found = records.found(bytes);
         tell_of_ends(&found, remarks, is_match);
         tell_of_same(&found, remarks, &mut seen);
         tell_of_closing(&found, remarks);
     }
+    Ok(())
 }

@@ -2,7 +2,7 @@
 
 ghost use Rattle.std.specs.Prelude.{◌≡◌, true};
 
-use crate::remarks::{Remark, Remarks};
+use cashier_remarks::{Remark, Remarks};
 use command_line::{Plan, Task};
 use firm_rows::{BalanceRow, BalanceSink, ExceptionSink, FirmLine, FirmLineSink, RowSink};
 use std::alloc::AllocError;

@@ -1,0 +1,51 @@
+// Remarks about a statement that is matched.
+
+use crate::file_telling::{remark_on_first, tell_of_records};
+use crate::records::Records;
+use cashier_remarks::{Remark, Remarks, UnmatchedLine};
+use std::alloc::{AllocError, Global};
+use trust_base::{Field, MAX_FILE_BYTES, Refusal};
+use trust_desk::Matched;
+
+// Reports each line of what a match leaves, as one remark.
+fn tell_unmatched<M: Remarks>(remarks: &M, text: &[u8]) {
+    for line in text.split(|byte| *byte == b'\n') {
+        if !line.is_empty() {
+            remarks.tell(&Remark::Unmatched(UnmatchedLine(line)));
+        }
+    }
+}
+
+/// Reports what in a matched statement has to be looked at, whether what was written is longer than an import takes,
+/// and what only the bytes of its file show.
+pub fn tell_matched<M: Remarks>(alloc: Global, remarks: &M, file: &[u8], matched: &Matched) {
+    if !remarks.are_told() {
+        return;
+    }
+    tell_unmatched(remarks, matched.unmatched.as_slice());
+    if MAX_FILE_BYTES < matched.statement.len() {
+        remarks.tell(&Remark::MatchedTooLong);
+    }
+    if tell_of_records(alloc, file, remarks, true).is_err() {
+        remarks.tell(&Remark::LinesEnd);
+    }
+}
+
+// Reports another header than that of a statement. Fails if memory runs out.
+fn tell_header<M: Remarks>(alloc: Global, remarks: &M, file: &[u8]) -> Result<(), AllocError> {
+    let mut records = Records::new(alloc, file);
+    let is_there = records.has_read(0)?;
+    let found = records.found(file);
+    remarks.tell(&Remark::Header(remark_on_first(found, is_there)));
+    Ok(())
+}
+
+/// Reports why the statement of a file is not matched.
+pub fn tell_not_matched<M: Remarks>(alloc: Global, remarks: &M, file: &[u8], refusal: &Refusal) {
+    if *refusal == Refusal::TooLarge {
+        remarks.tell(&Remark::MatchTooLarge);
+    }
+    if *refusal == Refusal::BadField(Field::Header) && tell_header(alloc, remarks, file).is_err() {
+        remarks.tell(&Remark::LinesEnd);
+    }
+}
