@@ -1,6 +1,6 @@
-// The rows that belong to no matter: the movements of the journal, the lines of the firm's own ledger, the bank lines that
-// matched nothing, and the balances that the bank reported. Each is passed to a sink one row at a time; the ledger is
-// also read at once, and a single balance by its kind and day.
+// The rows that belong to no matter: the movements of the journal, the lines of the firm's own ledger, the bank lines
+// that matched nothing, and the balances that the bank reported. Each is passed to a sink one row at a time; the ledger
+// is also read at once, and a single balance by its kind and day.
 
 ghost use Rattle.std.specs.Prelude.{◌≡◌, ◌≢◌, ℤ, false, List, [], ◌∷◌, ◌++◌, map, IfOk, IfErr, OnOk};
 ghost use Rattle.sqlite_value.specs.declared.value.Value.TheVariants.{Int};

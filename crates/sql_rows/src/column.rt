@@ -8,7 +8,8 @@ ghost use Rattle.trust_base.specs.Names.{IsLabel};
 use std::alloc::Global;
 use trust_base::{BankText, Cents, CentsOrZero, Day, EntryNo, Label, StoreFault};
 
-/// Reads a day, written year * 10000 + month * 100 + day of the month. Returns `Store` if the calendar does not have it.
+/// Reads a day, written year * 10000 + month * 100 + day of the month. Returns `Store` if the calendar does not have
+/// it.
 #[tactic(auto, unfolding(trust_values::specs::Limits::IsDay))]
 pub(crate) fn day_in(column: i64) -> Result<Day, StoreFault>
     ensures ok { IfOk result (λ d. pos d ≡ column) }

@@ -9,9 +9,9 @@
 //!   written (`serves`). A connection whose log was copied has its database in the database file alone, both with its
 //!   log and without it, as the file reads now and after a crash (`copied`); what it saw was committed (`settled`), and
 //!   the database lists what it holds (`listed`).
-//! - `system_store::SystemStores` as `Stores`: of files of which nothing is known, `finds` says what `book_at` does, and
-//!   `puts` only that there are files to which a book was put back: that they are its connection's is said of `copied`.
-//!   That these two are what it calls, and that nothing else is done to a book's files, no clause says.
+//! - `system_store::SystemStores` as `Stores`: of files of which nothing is known, `finds` says what `book_at` does,
+//!   and `puts` only that there are files to which a book was put back: that they are its connection's is said of
+//!   `copied`. That these two are what it calls, and that nothing else is done to a book's files, no clause says.
 //! - `system_store::laws` `put_books_are_found`, `stopped_books_are_found`, `stopped_moves_are_found`: for two runs
 //!   over one path. If the first put its book back, the second finds the same rows, in a book that stands, lasts and is
 //!   settled. If the first was broken off, at whatever moment, the second finds a book that stands for rows which a

@@ -116,8 +116,8 @@ pub fn book_at<T: Start>(
     }
 }
 
-/// Copies the log of a connection into its database file and gives the files back. No transaction may be open. So a book
-/// whose connection it is was put back: it is in the database file alone.
+/// Copies the log of a connection into its database file and gives the files back. No transaction may be open. So a
+/// book whose connection it is was put back: it is in the database file alone.
 pub fn copied<D: Disk + Drop>(conn: Connection<FileStore<D>>) -> Result<Files<D>, Error>
     requires { conn.in_transaction ≡ false }
     ensures copied { IfOk result (λ files. AreClean D.Disk files.log files.db → IsCopied conn files) }
