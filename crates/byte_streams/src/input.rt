@@ -9,7 +9,7 @@ use std::io::Read;
 use thiserror::Error;
 
 /// Why an input was not read.
-#[derive(Clone, Copy, PartialEq, Eq, Debug, Error)]
+#[derive(Clone, Copy, Debug, Error)]
 pub enum InputFault {
     /// A read failed. An interrupted read counts as failed.
     #[error("a read failed")]

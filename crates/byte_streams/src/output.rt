@@ -7,7 +7,7 @@ use std::io::Write;
 use thiserror::Error;
 
 /// A write failed, or took no byte.
-#[derive(Clone, Copy, PartialEq, Eq, Debug, Error)]
+#[derive(Clone, Copy, Debug, Error)]
 #[error("a write failed, or took no byte")]
 pub struct WriteFault;
 

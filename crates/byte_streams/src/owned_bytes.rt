@@ -5,7 +5,7 @@ ghost use Rattle.std.specs.Prelude.{◌≡◌, List, ℕ};
 use std::marker::Model;
 
 /// Owned bytes of any content: a body, a text, a statement. Contracts see them as the list of these bytes.
-#[derive(Debug, Drop)]
+#[derive(Drop)]
 pub struct OwnedBytes {
     bytes: Vec<u8>,
 }

@@ -15,7 +15,7 @@ pub struct Opened<R: Drop> {
 }
 
 /// What is at a path.
-#[derive(Clone, Copy, PartialEq, Eq, Debug)]
+#[derive(Clone, Copy)]
 pub enum Presence {
     /// Nothing is there.
     Missing,

@@ -42,10 +42,12 @@ fn tell_header<M: Remarks>(alloc: Global, remarks: &M, file: &[u8]) -> Result<()
 
 /// Reports why the statement of a file is not matched.
 pub fn tell_not_matched<M: Remarks>(alloc: Global, remarks: &M, file: &[u8], refusal: &Refusal) {
-    if *refusal == Refusal::TooLarge {
+    if matches!(*refusal, Refusal::TooLarge) {
         remarks.tell(&Remark::MatchTooLarge);
     }
-    if *refusal == Refusal::BadField(Field::Header) && tell_header(alloc, remarks, file).is_err() {
+    if matches!(*refusal, Refusal::BadField(Field::Header))
+        && tell_header(alloc, remarks, file).is_err()
+    {
         remarks.tell(&Remark::LinesEnd);
     }
 }

@@ -23,7 +23,7 @@ pub enum Caution<'a> {
 }
 
 // The state of reading a record's bytes.
-#[derive(Clone, Copy, PartialEq, Eq)]
+#[derive(Clone, Copy)]
 enum Reading {
     // At the start of a field.
     Start,

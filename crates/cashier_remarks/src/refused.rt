@@ -73,7 +73,7 @@ impl fmt::Display for RefusedRecord<'_> {
                 "matter {matter} has entry 9999, the last: open another matter"
             ),
             Refusal::WrongNumber(Some(next)) => match EntryNo::read(number.as_bytes()) {
-                Some(asked) if asked > next => write!(
+                Some(asked) if asked.get() > next.get() => write!(
                     f,
                     "entry {number} leaves a gap: the next free one is {next}"
                 ),

@@ -17,7 +17,7 @@ pub trait Remarks {
 }
 
 /// Ignores all remarks.
-#[derive(Clone, Copy, Debug)]
+#[derive(Clone, Copy)]
 pub struct NoRemarks;
 
 impl Remarks for NoRemarks {

@@ -6,7 +6,7 @@ ghost use Rattle.command_line.specs.Advice.{advice_text, command_example, comman
 use std::fmt;
 
 /// The commands.
-#[derive(Clone, Copy, PartialEq, Eq, Debug)]
+#[derive(Clone, Copy)]
 pub enum CommandName {
     /// Run a day sheet.
     Sheet,
@@ -47,7 +47,7 @@ pub enum CommandName {
 }
 
 /// The options.
-#[derive(Clone, Copy, PartialEq, Eq, Debug)]
+#[derive(Clone, Copy)]
 pub enum Setting {
     /// `--today`, the business day.
     Today,
@@ -58,7 +58,7 @@ pub enum Setting {
 }
 
 /// What is wrong with words that mean nothing.
-#[derive(Clone, Copy, PartialEq, Eq, Debug)]
+#[derive(Clone, Copy)]
 pub enum Wrong<'a> {
     /// The command line does not accept this word where it stands: it is no option and no command, or is one too
     /// many.
@@ -88,7 +88,7 @@ pub enum Wrong<'a> {
 }
 
 /// The advice for words that mean nothing.
-#[derive(Clone, Copy, PartialEq, Eq, Debug)]
+#[derive(Clone, Copy)]
 pub struct Advice<'a> {
     /// The command whose usage is printed; `None` for the usage of the whole program.
     pub command: Option<CommandName>,

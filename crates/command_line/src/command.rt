@@ -19,7 +19,7 @@ use trust_base::{Day, MatterNo, Period};
 use trust_desk::{DayReport, PeriodReport, Report};
 
 /// What a run is to print.
-#[derive(Clone, Copy, PartialEq, Eq, Debug)]
+#[derive(Clone, Copy)]
 pub enum ReportCommand {
     /// The three-way reconciliation of this day.
     Reconcile(Day),
@@ -36,7 +36,7 @@ pub enum ReportCommand {
 }
 
 /// What a run is to do.
-#[derive(Clone, Copy, PartialEq, Eq, Debug)]
+#[derive(Clone, Copy)]
 pub enum Task<'a> {
     /// Run the day sheet on standard input.
     Sheet,
@@ -60,7 +60,7 @@ pub enum Task<'a> {
 }
 
 /// The plan of a run: the business day, where the book is kept, whether its progress is reported, and the task.
-#[derive(Clone, Copy, Debug)]
+#[derive(Clone, Copy)]
 pub struct Plan<'a> {
     /// The business day of the run.
     pub today: Day,
@@ -73,7 +73,7 @@ pub struct Plan<'a> {
 }
 
 /// Why words give no plan.
-#[derive(Clone, Copy, PartialEq, Eq, Debug, thiserror::Error)]
+#[derive(Clone, Copy, Debug, thiserror::Error)]
 pub enum CliFault {
     /// The words do not fit the command line, or ask for help, or a day, a period, a matter's number, a port or a count
     /// in them is invalid.

@@ -28,7 +28,7 @@ use trust_matter::{Ask, Caller};
 use trust_store::Book;
 
 /// The verbs of records.
-#[derive(Clone, Copy, PartialEq, Eq, Debug)]
+#[derive(Clone, Copy)]
 pub enum Verb {
     /// Open a matter.
     Open,

@@ -3,7 +3,7 @@
 use trust_base::{EntryNo, MatterNo};
 
 /// The first thing found that is not sound in a firm's rows. `specs/Flaws` says what each is of the rows.
-#[derive(Clone, Copy, Debug, PartialEq, Eq)]
+#[derive(Clone, Copy)]
 pub enum Flaw {
     /// The matter is not complete and sound, or its number is not higher than those before it.
     Matter(MatterNo),

@@ -14,7 +14,7 @@ use trust_base::{Day, Label, MatterNo};
 use trust_matter::{Entry, Holder};
 
 /// A matter that was open as of a day, its client, and its ledger as of that day, in cents.
-#[derive(Drop, Debug)]
+#[derive(Drop)]
 pub struct ClientLine {
     pub matter: MatterNo,
     pub client: Label,

@@ -18,7 +18,7 @@ use trust_base::{BankAmount, Day, EntryNo, Label, Line, MatterNo};
 use trust_matter::{DepositState, Entry, PaymentState};
 
 /// An entry with one of its days, and its signed amount in cents.
-#[derive(Clone, Copy, Debug)]
+#[derive(Clone, Copy)]
 pub struct EntryLine {
     pub matter: MatterNo,
     pub entry: EntryNo,
@@ -47,7 +47,7 @@ impl Drop for ReconciliationLists {
 }
 
 /// An issued payment: the day of issue, the negative amount in cents, and the instrument.
-#[derive(Drop, Debug)]
+#[derive(Drop)]
 pub struct Issued {
     pub matter: MatterNo,
     pub entry: EntryNo,
@@ -57,7 +57,7 @@ pub struct Issued {
 }
 
 /// An opening, and the latest closing before it, whose amount differs.
-#[derive(Clone, Copy, Debug)]
+#[derive(Clone, Copy)]
 pub struct OpeningLine {
     pub day: Day,
     pub amount: BankAmount,

@@ -4,7 +4,7 @@ ghost use Rattle.std.specs.Prelude.{◌≡◌};
 ghost use Rattle.firm_figures.specs.Reconciling.{added, less};
 
 /// The firm's ten figures as of a day, in cents.
-#[derive(Clone, Copy, Debug)]
+#[derive(Clone, Copy)]
 pub struct Figures {
     pub closing: i64,
     pub transit: i128,

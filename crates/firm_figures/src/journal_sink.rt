@@ -10,7 +10,7 @@ use std::alloc::{AllocError, Global};
 use std::marker::Model;
 
 /// A movement with the running sum, in cents.
-#[derive(Clone, Copy, Debug)]
+#[derive(Clone, Copy)]
 pub struct JournalLine {
     pub movement: Movement,
     pub sum: i128,

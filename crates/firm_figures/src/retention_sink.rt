@@ -11,7 +11,7 @@ use trust_matter::Holder;
 
 /// A closed matter: the day it was closed, the last day on which its records are kept, which may lie after 2199, and
 /// whether it may be purged on the business day.
-#[derive(Clone, Copy, Debug)]
+#[derive(Clone, Copy)]
 pub struct RetentionLine {
     pub matter: MatterNo,
     pub closed: Day,

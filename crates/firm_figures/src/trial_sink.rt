@@ -14,7 +14,7 @@ use trust_base::MatterNo;
 use trust_matter::{DepositState, Entry, PaymentState};
 
 /// An open matter and its ledger, in cents.
-#[derive(Clone, Copy, Debug)]
+#[derive(Clone, Copy)]
 pub struct TrialLine {
     pub matter: MatterNo,
     pub ledger: i128,

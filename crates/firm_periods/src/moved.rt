@@ -14,7 +14,7 @@ use trust_base::{BankText, Day, EntryNo, Label, LineText, MatterNo, Period};
 use trust_matter::{DepositState, Entry, PaymentState};
 
 /// Why money moved.
-#[derive(Clone, Copy, PartialEq, Eq, Debug)]
+#[derive(Clone, Copy)]
 pub enum Cause {
     /// A deposit was booked.
     Deposit,
@@ -31,7 +31,7 @@ pub enum Cause {
 }
 
 /// A movement of an entry: its book day, its signed amount in cents, and why.
-#[derive(Clone, Copy, Debug)]
+#[derive(Clone, Copy)]
 pub struct Moved {
     pub day: Day,
     pub amount: i64,
@@ -39,7 +39,7 @@ pub struct Moved {
 }
 
 /// Who and what for. The client is missing if the matter was purged.
-#[derive(Drop, Debug)]
+#[derive(Drop)]
 pub enum MoveNames {
     Deposit {
         source: Label,
@@ -59,7 +59,7 @@ pub enum MoveNames {
 }
 
 /// A movement with its names.
-#[derive(Drop, Debug)]
+#[derive(Drop)]
 pub struct NamedMove {
     pub owner: Owner,
     pub moved: Moved,

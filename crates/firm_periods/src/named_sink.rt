@@ -18,7 +18,7 @@ use trust_base::{Day, EntryNo, Label, MatterNo, Period};
 use trust_matter::{Entry, Holder};
 
 /// Which movements a list takes.
-#[derive(Clone, Copy, Debug)]
+#[derive(Clone, Copy)]
 pub enum Pick {
     /// The receipts of a period.
     Receipts(Period),

@@ -13,7 +13,7 @@ use std::marker::Model;
 use trust_base::{BankAmount, BankText, Day, Line, LineText};
 
 /// A line of the firm's own ledger: the bank line without its reference. It is booked on its date.
-#[derive(Drop, Debug)]
+#[derive(Drop)]
 pub struct FirmLine {
     pub date: Day,
     pub bank_ref: BankText,
@@ -22,7 +22,7 @@ pub struct FirmLine {
 }
 
 /// The verdict on a line of the firm's own, or on a balance.
-#[derive(Clone, Copy, Debug, PartialEq, Eq)]
+#[derive(Clone, Copy)]
 pub enum Verdict {
     Applied,
     Repeat,
@@ -30,14 +30,14 @@ pub enum Verdict {
 }
 
 /// An opening or a closing balance.
-#[derive(Clone, Copy, Debug, PartialEq, Eq)]
+#[derive(Clone, Copy)]
 pub enum BalanceKind {
     Opening,
     Closing,
 }
 
 /// A balance that the bank reported.
-#[derive(Clone, Copy, Debug)]
+#[derive(Clone, Copy)]
 pub struct BalanceRow {
     pub kind: BalanceKind,
     pub day: Day,

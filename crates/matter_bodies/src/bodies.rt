@@ -682,7 +682,7 @@ pub fn entry_body(
 /// The outcome of importing a bank statement: how many lines were applied, were repeats or are now exceptions, how many
 /// records could not be read, and the day of the last closing balance that was applied or repeated. That day is None as
 /// long as no balances are stored.
-#[derive(Clone, Copy, PartialEq, Eq, Debug)]
+#[derive(Clone, Copy)]
 pub struct ImportReply {
     pub applied: u64,
     pub repeated: u64,

@@ -32,7 +32,7 @@ pub struct Connection<R: Drop, W: Drop> {
 }
 
 /// Why an accept returned no connection.
-#[derive(Clone, Copy, PartialEq, Eq, Debug, thiserror::Error)]
+#[derive(Clone, Copy, Debug, thiserror::Error)]
 pub enum AcceptFault {
     /// The connection of one client could not be made: the client had closed it, or its halves could not be made.
     /// Other clients can still be accepted.

@@ -144,7 +144,7 @@ pub fn bytes_of(alloc: Global, reply: &Reply) -> Result<Vec<u8>, AllocError>
 const MAX_MESSAGES: usize = 1_000;
 
 /// How a stream ended.
-#[derive(Clone, Copy, PartialEq, Eq, Debug)]
+#[derive(Clone, Copy)]
 pub enum StreamEnd {
     /// All messages were answered, and the stream ended after them.
     Ended,

@@ -55,7 +55,7 @@ pub(crate) fn first_bytes(bytes: &[u8]) -> &[u8]
 }
 
 /// The position of a field's value, and the index of the next field.
-#[derive(Clone, Copy, PartialEq, Eq, Debug)]
+#[derive(Clone, Copy)]
 pub(crate) struct FieldAt {
     pub(crate) value: Span,
     pub(crate) next: usize,
@@ -144,7 +144,7 @@ fn find_limit(method: &[u8], target: &[u8]) -> u64
 const MAX_PART_BYTES: usize = 1_024;
 
 /// What comes next in a stream.
-#[derive(Debug, Drop)]
+#[derive(Drop)]
 pub enum Next {
     /// A message.
     Message(Message),
@@ -174,7 +174,7 @@ impl From<AllocError> for Stop {
 }
 
 // Why no message comes next, which is answered from then on.
-#[derive(Clone, Copy, PartialEq, Eq, Debug)]
+#[derive(Clone, Copy)]
 pub(crate) enum Last {
     Ended,
     Framing(Refusal),

@@ -7,7 +7,7 @@ use std::marker::Model;
 use trust_base::OwnedBytes;
 
 /// Texts of a message, in order. Contracts see the list of them.
-#[derive(Debug, Drop)]
+#[derive(Drop)]
 pub struct Texts {
     texts: Vec<OwnedBytes>,
 }
@@ -48,7 +48,7 @@ impl Texts {
 }
 
 /// The parts of an HTTP/1.1 request that matter here (RFC 9112). All other fields of its head are ignored.
-#[derive(Debug, Drop)]
+#[derive(Drop)]
 pub struct Message {
     /// The method, in the case in which it was sent.
     pub method: OwnedBytes,

@@ -11,7 +11,7 @@ use std::marker::Model;
 use trust_desk::{CallerList, DayReport, MatchText, PeriodReport, Report};
 
 /// What a route asks of a matter as a whole.
-#[derive(Clone, Copy, PartialEq, Eq, Debug)]
+#[derive(Clone, Copy)]
 pub(crate) enum MatterPlace {
     Show,
     Open,
@@ -25,7 +25,7 @@ pub(crate) enum MatterPlace {
 }
 
 /// What a route asks of an entry.
-#[derive(Clone, Copy, PartialEq, Eq, Debug)]
+#[derive(Clone, Copy)]
 pub(crate) enum EntryPlace {
     Show,
     Deposit,
@@ -43,7 +43,7 @@ pub(crate) enum EntryPlace {
 }
 
 /// Where a route leads.
-#[derive(Clone, Copy, PartialEq, Eq, Debug)]
+#[derive(Clone, Copy)]
 pub(crate) enum Place {
     /// To a matter.
     Matter(MatterPlace),

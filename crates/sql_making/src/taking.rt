@@ -21,7 +21,7 @@ use sqlite::{Alter, Connection, Error, ErrorCode, Row};
 use sqlite_value::value::ValueRef;
 
 /// Why a book cannot be made in a database, or taken from one.
-#[derive(Clone, Copy, Debug, PartialEq, Eq, thiserror::Error)]
+#[derive(Clone, Copy, Debug, thiserror::Error)]
 pub enum OpenFault {
     /// The database failed.
     #[error("the database failed")]

@@ -21,7 +21,7 @@ fn is_of(schema: &Schema, tables: &[TableShape<'_>], indexes: &[IndexShape<'_>])
 }
 
 /// The tables of a book.
-#[derive(Clone, Copy, Debug, PartialEq, Eq)]
+#[derive(Clone, Copy)]
 pub enum BookTables {
     /// Those of this version, in this layout.
     Now(Layout),

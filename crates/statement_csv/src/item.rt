@@ -21,7 +21,7 @@ use trust_base::{BankAmount, BankText, Day, EntryNo, Line, LineText, MAX_FILE_BY
 use trust_matter::BankLine;
 
 /// What one record after the header of a statement means.
-#[derive(Debug)]
+
 pub enum Item {
     /// The balance at the start of a day: the reference is `OPEN`.
     Opening(Line),
@@ -170,7 +170,7 @@ pub fn read_item(alloc: Global, row: &ByteRecord, number: u64) -> Result<Item, A
 }
 
 /// Why no item was returned.
-#[derive(Clone, Copy, PartialEq, Eq, Debug, thiserror::Error)]
+#[derive(Clone, Copy, Debug, thiserror::Error)]
 pub enum ReadFault {
     /// The first record is not the header of a statement, or there is no record.
     #[error("the first record is not the header of a statement")]
@@ -200,7 +200,7 @@ impl Whole for Brand {
 }
 
 // How the reading stands.
-#[derive(Clone, Copy, PartialEq, Eq, Debug)]
+#[derive(Clone, Copy)]
 enum Course {
     // More bytes may come.
     Open,
@@ -340,7 +340,7 @@ impl<R: Read, K: Whole> Read for Limited<R, K> {
 }
 
 // How far the reading has come.
-#[derive(Clone, Copy, PartialEq, Eq, Debug)]
+#[derive(Clone, Copy)]
 enum Stage {
     // The header comes next.
     Header,

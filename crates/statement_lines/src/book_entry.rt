@@ -11,7 +11,7 @@ use std::marker::Model;
 use trust_base::{BankText, Cents, Day, Label};
 
 /// The state of a deposit or of a payment.
-#[derive(Clone, Copy, PartialEq, Eq, Debug)]
+#[derive(Clone, Copy)]
 pub enum EntryState {
     /// A deposit that waits for the bank.
     Held,

@@ -10,7 +10,7 @@ use std::marker::Model;
 use trust_base::{BankText, Day, Line};
 
 /// A bank line that is in the book: it cleared an entry, took a deposit back, or is a line of the firm's own.
-#[derive(Drop, Debug)]
+#[derive(Drop)]
 pub struct Booking {
     /// The day on which the bank booked it.
     pub date: Day,

@@ -20,7 +20,7 @@ use trust_base::Line;
 /// A number in a text: its digits without leading zeros.
 ///
 /// Contracts see it as the list of its digits.
-#[derive(Drop, Debug)]
+#[derive(Drop)]
 pub(crate) struct Number {
     digits: Vec<u8>,
 }

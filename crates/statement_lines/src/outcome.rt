@@ -3,7 +3,7 @@
 use trust_base::BankText;
 
 /// The outcome for a line of a statement.
-#[derive(Drop, Debug)]
+#[derive(Drop)]
 pub enum Outcome {
     /// It has a reference, and is written unchanged.
     AsItIs,

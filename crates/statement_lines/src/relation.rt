@@ -11,7 +11,7 @@ use crate::statement_line::StatementLine;
 use trust_base::{Day, Line};
 
 /// A relation of a deposit or a payment to a line.
-#[derive(Clone, Copy, PartialEq, Eq, Debug)]
+#[derive(Clone, Copy)]
 pub enum Relation {
     /// It waits, and the line fits it.
     Fitted,

@@ -8,7 +8,7 @@ use statement_lines::BookEntry;
 use trust_base::{Day, Line};
 
 /// Why an exception matches nothing, as an import would find now. Reasons are tried in the order of `misfit_with`.
-#[derive(Clone, Copy, PartialEq, Eq, Debug)]
+#[derive(Clone, Copy)]
 pub(crate) enum Misfit {
     /// No deposit or payment has its reference.
     NoEntry,

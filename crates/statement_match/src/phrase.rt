@@ -6,7 +6,7 @@ ghost use Rattle.statement_match.specs.Phrases.{phrase_text};
 use std::alloc::AllocError;
 
 /// Phrases that are the same for all records, named after how they begin.
-#[derive(Clone, Copy, PartialEq, Eq, Debug)]
+#[derive(Clone, Copy)]
 pub(crate) enum Phrase {
     DatedAfter,
     Doubled,

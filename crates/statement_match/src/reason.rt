@@ -22,7 +22,7 @@ use statement_lines::{BookEntry, Index, Outcome, Relation, StatementLine, Waitin
 use trust_base::{Day, EntryNo, Line, MatterNo};
 
 /// Why a record has to be looked at.
-#[derive(Clone, Copy, PartialEq, Eq, Debug)]
+#[derive(Clone, Copy)]
 pub(crate) enum Reason {
     /// It was imported under references, and is an exception under them.
     IsException,

@@ -13,7 +13,7 @@ use crate::text::{Form, Text};
 pub type BankText = Text<BankForm>;
 
 /// The rule for references: which bytes are valid.
-#[derive(Drop, Debug)]
+#[derive(Drop)]
 pub struct BankForm;
 
 // Whether each byte is a printable ASCII character or a space.

@@ -18,7 +18,7 @@ use crate::text::{Form, Text};
 pub type Label = Text<LabelForm>;
 
 /// The rule for labels: which bytes are valid.
-#[derive(Drop, Debug)]
+#[derive(Drop)]
 pub struct LabelForm;
 
 // Whether a text contains a control character.

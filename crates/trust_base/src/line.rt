@@ -8,7 +8,7 @@ use std::alloc::AllocError;
 use std::cmp::Ordering;
 
 /// A line of a bank statement.
-#[derive(Drop, Debug)]
+#[derive(Drop)]
 pub struct Line {
     /// The day on which the bank booked it.
     pub date: Day,

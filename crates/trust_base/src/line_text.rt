@@ -13,7 +13,7 @@ use crate::text::{Form, Text};
 pub type LineText = Text<LineForm>;
 
 /// The rule for line texts: which bytes are valid.
-#[derive(Drop, Debug)]
+#[derive(Drop)]
 pub struct LineForm;
 
 // Whether bytes are UTF-8.

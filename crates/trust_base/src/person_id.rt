@@ -16,7 +16,7 @@ use crate::text::{Form, Text};
 pub type PersonId = Text<PersonForm>;
 
 /// The rule for persons' names: which bytes are valid.
-#[derive(Drop, Debug)]
+#[derive(Drop)]
 pub struct PersonForm;
 
 // Whether a byte may occur in a person's name.

@@ -8,7 +8,7 @@ use std::alloc::{AllocError, AllocFailed};
 use thiserror::Error;
 
 /// A field of a request. A refusal names the one that is invalid.
-#[derive(Clone, Copy, Debug, PartialEq, Eq)]
+#[derive(Clone, Copy)]
 pub enum Field {
     /// The number of the matter.
     Matter,
@@ -57,7 +57,7 @@ pub enum Field {
 }
 
 /// A rule of the policy: who may ask what.
-#[derive(Clone, Copy, Debug, PartialEq, Eq)]
+#[derive(Clone, Copy)]
 pub enum Rule {
     /// Reading a matter.
     Read,
@@ -77,7 +77,7 @@ pub enum Rule {
 
 /// Why something was refused. 4 to 28 are tried in the order of their numbers, 1 to 3 while the message is read. 29 and
 /// 30 may come at any point.
-#[derive(Clone, Copy, Debug, PartialEq, Eq)]
+#[derive(Clone, Copy)]
 pub enum Refusal {
     /// 1: the message is malformed.
     BadMessage,
@@ -142,7 +142,7 @@ pub enum Refusal {
 }
 
 /// Why a call of the store failed.
-#[derive(Clone, Copy, Debug, PartialEq, Eq, Error)]
+#[derive(Clone, Copy, Debug, Error)]
 pub enum StoreFault {
     /// The store refused an SQL statement or a transaction, or a stored row is invalid.
     #[error("the store failed")]

@@ -22,7 +22,7 @@ pub trait Form {
 /// Bytes that are valid by the rule `F`.
 ///
 /// Contracts see it as the list of its bytes.
-#[derive(Drop, Debug)]
+#[derive(Drop)]
 pub struct Text<F: Form> {
     bytes: Vec<u8>,
     form: PhantomData<F>,

@@ -14,7 +14,7 @@ use trust_base::StoreFault;
 use trust_store::{AllRows, Book, KeptMatter};
 
 /// How many rows of each kind a book has.
-#[derive(Clone, Copy, Debug, PartialEq, Eq)]
+#[derive(Clone, Copy)]
 pub struct RowCounts {
     /// The number of matters that were opened, purged ones too.
     pub matters: u64,
@@ -31,7 +31,7 @@ pub struct RowCounts {
 }
 
 /// The result of checking a book.
-#[derive(Clone, Copy, Debug, PartialEq, Eq)]
+#[derive(Clone, Copy)]
 pub struct Checked {
     /// What is not sound in its rows. `None` if they are those of a sound firm.
     pub flaw: Option<Flaw>,

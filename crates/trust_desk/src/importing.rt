@@ -32,7 +32,7 @@ use trust_matter::{BankLine, LineVerdict, Matter, decide_line};
 use trust_store::Book;
 
 /// How an item of a statement is counted.
-#[derive(Clone, Copy, Debug, PartialEq, Eq)]
+#[derive(Clone, Copy, PartialEq, Eq, Debug)]
 pub enum Counted {
     /// A line that cleared its entry or was added to the firm's ledger, or a balance that is now on file.
     Applied,
@@ -45,7 +45,7 @@ pub enum Counted {
 }
 
 /// How an import of a statement ended.
-#[derive(Debug, Drop)]
+#[derive(Drop)]
 pub enum ImportStop {
     /// Every item was handled.
     Done,
@@ -58,7 +58,7 @@ pub enum ImportStop {
 }
 
 /// The counts of the first items of a statement, and how the import ended. The items after them were not begun.
-#[derive(Debug, Drop)]
+#[derive(Drop)]
 pub struct ImportEnd {
     pub reply: ImportReply,
     pub end: ImportStop,

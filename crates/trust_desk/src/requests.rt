@@ -9,7 +9,7 @@ use trust_base::{Day, Field, Line, MAX_FILE_BYTES, MatterNo, OwnedBytes, Period,
 use trust_matter::{Ask, Caller};
 
 /// A report on the whole firm on a business day. The cashier is refused none of these.
-#[derive(Clone, Copy, PartialEq, Eq, Debug)]
+#[derive(Clone, Copy)]
 pub enum Report {
     /// The exceptions: the unmatched bank lines.
     Exceptions,
@@ -24,7 +24,7 @@ pub enum Report {
 }
 
 /// A report on the whole firm as of a day, which only the cashier may ask for.
-#[derive(Clone, Copy, PartialEq, Eq, Debug)]
+#[derive(Clone, Copy)]
 pub enum DayReport {
     /// The list of clients: the ledger of each matter that was open, its client, the firm's own, and their sum.
     Clients,
@@ -35,7 +35,7 @@ pub enum DayReport {
 }
 
 /// A report on the whole firm of a period, which only the cashier may ask for.
-#[derive(Clone, Copy, PartialEq, Eq, Debug)]
+#[derive(Clone, Copy)]
 pub enum PeriodReport {
     /// The journal of receipts, with names.
     Receipts,
@@ -45,7 +45,7 @@ pub enum PeriodReport {
 
 /// A list of what a caller may see of the matters: each that is not purged for the cashier, and for a person each in
 /// which the person has a seat.
-#[derive(Clone, Copy, PartialEq, Eq, Debug)]
+#[derive(Clone, Copy)]
 pub enum CallerList {
     /// The matters: each with its client, its days, what the caller is in it, its sums and its counts.
     Matters,
@@ -54,7 +54,7 @@ pub enum CallerList {
 }
 
 /// One of the two texts that matching a statement gives.
-#[derive(Clone, Copy, PartialEq, Eq, Debug)]
+#[derive(Clone, Copy)]
 pub enum MatchText {
     /// The statement for the import.
     Statement,
@@ -162,7 +162,7 @@ pub(crate) fn check_import(alloc: Global, caller: &Caller, bytes: &[u8]) -> Resu
 }
 
 /// The body of a reply.
-#[derive(Debug, Drop)]
+#[derive(Drop)]
 pub enum Body {
     /// For an accepted request: the compact text of a JSON object.
     Json(OwnedBytes),
@@ -173,7 +173,7 @@ pub enum Body {
 }
 
 /// The reply to a request: its HTTP status (RFC 9110, section 15) and its body.
-#[derive(Debug, Drop)]
+#[derive(Drop)]
 pub struct Reply {
     pub status: u16,
     pub body: Body,
@@ -194,7 +194,7 @@ impl Reply {
 }
 
 /// How a run of requests ended.
-#[derive(Clone, Copy, Debug, PartialEq, Eq)]
+#[derive(Clone, Copy)]
 pub enum End {
     /// Each request was answered.
     Done,
@@ -203,7 +203,7 @@ pub enum End {
 }
 
 /// The replies of a run, in the order of their requests, and how it ended.
-#[derive(Debug, Drop)]
+#[derive(Drop)]
 pub struct RunEnd {
     pub replies: Vec<Reply>,
     pub end: End,

@@ -15,7 +15,7 @@ use trust_base::{Day, EntryNo, Line, MatterNo, StoreFault};
 use trust_store::Book;
 
 /// The part of a book that can't be read, though its store works.
-#[derive(Clone, Copy, Debug, PartialEq, Eq)]
+#[derive(Clone, Copy)]
 pub enum Unread {
     /// This matter is not the whole of sound rows, though each of its rows can be read.
     Matter(MatterNo),

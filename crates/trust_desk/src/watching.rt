@@ -57,7 +57,7 @@ pub trait ItemWatch {
 }
 
 /// A bank line that is in the book: one that cleared something or took it back, or one of the firm's own.
-#[derive(Drop, Debug)]
+#[derive(Drop)]
 pub struct ClearedLine {
     pub owner: Owner,
     /// The day on which the bank booked it.
@@ -69,7 +69,7 @@ pub struct ClearedLine {
 }
 
 /// A line that an import applied.
-#[derive(Drop, Debug)]
+#[derive(Drop)]
 pub struct AppliedLine {
     /// The number of its item; the first record after the header has number 1.
     pub number: u64,
@@ -101,7 +101,7 @@ pub trait PaymentWatch {
 }
 
 /// Ignores all remarks.
-#[derive(Clone, Copy, Debug)]
+#[derive(Clone, Copy)]
 pub struct NoWatch;
 
 impl ItemWatch for NoWatch {

@@ -3,7 +3,7 @@
 use trust_base::{EntryNo, Line, MatterNo};
 
 /// A bank line whose reference names an entry of a matter.
-#[derive(Drop, Debug)]
+#[derive(Drop)]
 pub struct BankLine {
     /// The matter.
     pub matter: MatterNo,

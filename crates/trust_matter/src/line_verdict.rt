@@ -15,7 +15,7 @@ use std::alloc::AllocError;
 use trust_base::{Day, StoreFault};
 
 /// Why a bank line matches no entry. Reasons are tried in this order.
-#[derive(Clone, Copy, Debug, PartialEq, Eq)]
+#[derive(Clone, Copy)]
 pub enum Reason {
     /// The line is dated after the business day.
     Future,

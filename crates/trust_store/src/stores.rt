@@ -7,7 +7,7 @@ use std::alloc::Global;
 use trust_base::StoreFault;
 
 /// Why there is no usable book at a path.
-#[derive(Clone, Copy, PartialEq, Eq, Debug)]
+#[derive(Clone, Copy)]
 pub enum NoBook {
     /// Another run has it open, or another program reads or writes it.
     InUse,

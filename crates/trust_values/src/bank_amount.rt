@@ -13,7 +13,7 @@ use std::marker::Model;
 /// A bank's amount in whole cents, negative if the money went out. At most sixteen digits before the point.
 ///
 /// Contracts see it as the signed number of cents.
-#[derive(Clone, Copy, PartialEq, Eq, PartialOrd, Ord, Debug)]
+#[derive(Clone, Copy, PartialEq, Eq)]
 pub struct BankAmount {
     value: i64,
 }

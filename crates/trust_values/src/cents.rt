@@ -15,7 +15,7 @@ use std::marker::Model;
 ///
 ///     Cents::read(b"500.00")    // Some, of 50,000 cents
 ///     Cents::read(b"$500")      // None, and so are "500", "0500.00" and "0.00"
-#[derive(Clone, Copy, PartialEq, Eq, PartialOrd, Ord, Debug)]
+#[derive(Clone, Copy)]
 pub struct Cents {
     value: u64,
 }

@@ -13,7 +13,7 @@ use std::marker::Model;
 /// An amount of whole cents that may be zero, from 0.00 to 999999999.99 dollars.
 ///
 /// Contracts see it as the number of cents.
-#[derive(Clone, Copy, PartialEq, Eq, PartialOrd, Ord, Debug)]
+#[derive(Clone, Copy)]
 pub struct CentsOrZero {
     value: u64,
 }

@@ -13,7 +13,7 @@ use std::marker::Model;
 /// A civil day from 2000-01-01 to 9999-12-31, such as one counted forward from a business day.
 ///
 /// Contracts see it as the number year * 10000 + month * 100 + day of the month.
-#[derive(Clone, Copy, PartialEq, Eq, PartialOrd, Ord, Debug)]
+#[derive(Clone, Copy)]
 pub struct CivilDay {
     number: u32,
 }

@@ -15,7 +15,7 @@ use std::marker::Model;
 /// A civil day of the Gregorian calendar, from 2000-01-01 to 2199-12-31.
 ///
 /// Contracts see it as the number year * 10000 + month * 100 + day of the month.
-#[derive(Clone, Copy, PartialEq, Eq, PartialOrd, Ord, Debug)]
+#[derive(Clone, Copy, PartialEq, Eq, PartialOrd)]
 pub struct Day {
     number: u32,
 }

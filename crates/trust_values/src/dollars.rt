@@ -7,7 +7,7 @@ use std::alloc::AllocError;
 use std::fmt;
 
 /// A sum in cents, which may be zero or negative. It prints as dollars: `-12.05`.
-#[derive(Clone, Copy, PartialEq, Eq, Debug)]
+#[derive(Clone, Copy)]
 pub struct Dollars(pub i128);
 
 impl fmt::Display for Dollars {

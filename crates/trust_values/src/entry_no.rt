@@ -13,7 +13,7 @@ use std::marker::Model;
 /// The number of an entry within its matter, from 1 to 9999, written with four digits.
 ///
 /// Contracts see it as that number.
-#[derive(Clone, Copy, PartialEq, Eq, PartialOrd, Ord, Debug)]
+#[derive(Clone, Copy, PartialEq, Eq)]
 pub struct EntryNo {
     number: u16,
 }

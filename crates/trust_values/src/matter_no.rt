@@ -13,7 +13,7 @@ use std::marker::Model;
 /// The number of a matter, from 1 to 999999, chosen by the cashier.
 ///
 /// Contracts see it as that number.
-#[derive(Clone, Copy, PartialEq, Eq, PartialOrd, Ord, Debug)]
+#[derive(Clone, Copy, PartialEq, Eq)]
 pub struct MatterNo {
     number: u32,
 }

@@ -10,7 +10,7 @@ use std::marker::Model;
 /// A period: from one day to a day that is not before it, both included.
 ///
 /// Contracts see it as its two days.
-#[derive(Clone, Copy, PartialEq, Eq, Debug)]
+#[derive(Clone, Copy)]
 pub struct Period {
     from: Day,
     to: Day,

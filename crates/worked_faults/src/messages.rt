@@ -10,7 +10,7 @@ use trust_base::Refusal;
 enum Ending {
     Message,
     Ended,
-    Framing(Refusal),
+    Framing(&'static str),
     Stopped(Stop),
 }
 
@@ -18,7 +18,7 @@ fn ending_of(answer: &Result<Next, Stop>) -> Ending {
     match answer {
         Ok(Next::Message(_)) => Ending::Message,
         Ok(Next::Ended) => Ending::Ended,
-        Ok(Next::Framing(why)) => Ending::Framing(*why),
+        Ok(Next::Framing(why)) => Ending::Framing(why.name()),
         Err(stop) => Ending::Stopped(*stop),
     }
 }
@@ -59,7 +59,7 @@ fn ending_within(size: usize) -> Ending {
     if size == 0 || size == ONE || size >= TWO.len() - 2 {
         Ending::Ended
     } else {
-        Ending::Framing(Refusal::BadMessage)
+        Ending::Framing(Refusal::BadMessage.name())
     }
 }
 

@@ -23,7 +23,7 @@ fn empty<S: Alter + Drop>(alloc: Global, conn: Connection<S>) -> Option<Connecti
 // Makes a book in the database, and returns the connection if it has version 2 and no second book can be made there.
 fn full<S: Alter + Drop>(alloc: Global, conn: Connection<S>) -> Option<Connection<S>> {
     let mut book = made(alloc, conn).ok()?;
-    if book.version() != Ok(2) {
+    if !matches!(book.version(), Ok(2)) {
         return None;
     }
     refused(made(alloc, book.release()))
