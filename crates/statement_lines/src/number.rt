@@ -189,18 +189,30 @@ pub(crate) fn numbers_of(alloc: Global, text: &[u8]) -> Result<Vec<Number>, Allo
     numbers_among(alloc, &tokens)
 }
 
+// Returns the numbers with these values, in order.
+fn numbers_with(alloc: Global, values: &[u64]) -> Result<Vec<Number>, AllocError>
+    ensures { IfOk result (λ found. found.items ≡ map decimal values.now) }
+{
+    let mut found = Vec::new(alloc);
+    for value in values {
+        found.push(Number::of_value(alloc, *value)?)?;
+    }
+    Ok(found)
+}
+
 // Numbers in a line's words that may only repeat its other fields.
 fn own_of(alloc: Global, line: &Line) -> Result<Vec<Number>, AllocError>
     ensures { IfOk result (λ own. own.items ≡ own_numbers line.now) }
 {
     let day = line.date.get() as u64;
-    let mut own = Vec::new(alloc);
-    own.push(Number::of_value(alloc, line.amount.get().unsigned_abs() / 100)?)?;
-    own.push(Number::of_value(alloc, day)?)?;
-    own.push(Number::of_value(alloc, day % 1_000_000)?)?;
-    own.push(Number::of_value(alloc, day % 10_000 * 10_000 + day / 10_000)?)?;
-    own.push(Number::of_value(alloc, day % 10_000 * 100 + day / 10_000 % 100)?)?;
-    Ok(own)
+    let values = [
+        line.amount.get().unsigned_abs() / 100,
+        day,
+        day % 1_000_000,
+        day % 10_000 * 10_000 + day / 10_000,
+        day % 10_000 * 100 + day / 10_000 % 100,
+    ];
+    numbers_with(alloc, &values)
 }
 
 /// Returns the telling numbers of a line's text that repeat neither its dollars nor its date. The only error is out of

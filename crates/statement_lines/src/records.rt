@@ -1,12 +1,13 @@
 // The records of a statement after its header.
 
-ghost use Rattle.std.specs.Prelude.{◌≡◌, ◌<◌, IfOk, OnOk, length, slice_index, slice_index_or};
+ghost use Rattle.std.specs.Prelude.{◌≡◌, ◌<◌, IfOk, OnOk, fold, length, slice_index, slice_index_or};
 ghost use Rattle.csv.specs.Records.{fields_of};
-ghost use Rattle.statement_lines.specs.Records.{no_records, records_of, with_record};
+ghost use Rattle.statement_lines.specs.Records.{Rows, no_records, records_of, with_record};
+ghost use Rattle.statement_lines.specs.RowsLeft.{HasLeft};
 
-use crate::rows::rows_after_header;
+use crate::rows::{row_read, rows_after_header};
 use crate::statement_line::StatementLine;
-use csv::ByteRecord;
+use csv::{ByteRecord, Reader};
 use statement_csv::read_item;
 use std::alloc::{AllocError, Global};
 use std::marker::Model;
@@ -91,6 +92,17 @@ impl Records {
         self.count = number;
         Ok(())
     }
+
+    // Adds the records that a reader has left.
+    fn add_rows(&mut self, alloc: Global, rows: &mut Reader<&[u8]>) -> Result<(), AllocError>
+        ensures { (left : Rows) → HasLeft rows.old left → OnOk result (self.new ≡ fold with_record self.old left) }
+    {
+        for row in rows.byte_records() {
+            let row = row_read(row)?;
+            self.add(alloc, &row)?;
+        }
+        Ok(())
+    }
 }
 
 /// Reads the records of a statement's bytes. The first is taken as the header and skipped. The only error is out of
@@ -99,14 +111,9 @@ pub fn records_in(alloc: Global, statement: &[u8]) -> Result<Records, AllocError
     ensures { IfOk result (λ found. found ≡ records_of statement.now) }
 {
     let mut records = Records::new(alloc);
-    let Some(rows) = rows_after_header(alloc, statement)? else {
+    let Some(mut rows) = rows_after_header(alloc, statement)? else {
         return Ok(records);
     };
-    for row in rows.into_byte_records() {
-        let Ok(row) = row else {
-            return Err(AllocError);
-        };
-        records.add(alloc, &row)?;
-    }
+    records.add_rows(alloc, &mut rows)?;
     Ok(records)
 }

@@ -123,8 +123,8 @@ impl StatementLine {
     pub fn of(alloc: Global, line: Line) -> Result<StatementLine, AllocError>
         ensures { IfOk result (λ same. same ≡ line) }
     {
-        let numbers = line_numbers_of(alloc, &line)?;
         let is_other_business = is_other_business(alloc, &line)?;
+        let numbers = line_numbers_of(alloc, &line)?;
         Ok(StatementLine {
             line,
             numbers,

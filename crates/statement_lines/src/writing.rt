@@ -5,15 +5,15 @@ ghost use Rattle.std.specs.Prelude.{map, option_copied, slice_get};
 ghost use Rattle.csv.specs.Records.{fields_of};
 ghost use Rattle.trust_base.specs.declared.line.Line.{Line};
 ghost use Rattle.statement_csv.specs.Headers.{header};
-ghost use Rattle.statement_lines.specs.Records.{lines_from, numbers_from, records_of, rows_of};
-ghost use Rattle.statement_lines.specs.RowsLeft.{Adds, Holds, outcome_if};
+ghost use Rattle.statement_lines.specs.Records.{Rows, lines_from, numbers_from, records_of, rows_of};
+ghost use Rattle.statement_lines.specs.RowsLeft.{Adds, HasLeft, Holds, outcome_if};
 ghost use Rattle.statement_lines.specs.declared.outcome.Outcome.{Outcome};
 ghost use Rattle.statement_lines.specs.Written.{named_row, row_as, rows_by, text_of};
 
 use crate::outcome::Outcome;
 use crate::records::Records;
-use crate::rows::rows_after_header;
-use csv::{ByteRecord, Writer, WriterBuilder};
+use crate::rows::{row_read, rows_after_header};
+use csv::{ByteRecord, Reader, Writer, WriterBuilder};
 use statement_csv::field;
 use std::alloc::{AllocError, Global};
 use std::io::Write;
@@ -104,27 +104,21 @@ fn outcome_at<'a>(
     }
 }
 
-// Writes a statement's records after the header, according to the numbers of its lines and their outcomes.
-fn write_rows<W: Write + Drop>(
-    alloc: Global,
+// Writes the records that a reader has left, according to the numbers of their lines and the outcomes of these.
+fn write_left<W: Write + Drop>(
     writer: &mut Writer<W>,
-    statement: &[u8],
+    rows: &mut Reader<&[u8]>,
     numbers: &[u64],
     outcomes: &[Outcome],
 ) -> Result<(), AllocError>
-    ensures { (outcome_of : Line → Outcome) → numbers.now ≡ numbers_from 1 (rows_of statement.now)
-        → outcomes.now ≡ map outcome_of (lines_from 1 (rows_of statement.now))
-        → OnOk result (Adds W.contents writer.old writer.new (rows_by outcome_of 1 (rows_of statement.now))) }
+    ensures { (outcome_of : Line → Outcome) (left : Rows) → HasLeft rows.old left
+        → numbers.now ≡ numbers_from 1 left → outcomes.now ≡ map outcome_of (lines_from 1 left)
+        → OnOk result (Adds W.contents writer.old writer.new (rows_by outcome_of 1 left)) }
 {
-    let Some(rows) = rows_after_header(alloc, statement)? else {
-        return Ok(());
-    };
     let mut number = 0u64;
     let mut place = 0;
-    for row in rows.into_byte_records() {
-        let Ok(row) = row else {
-            return Err(AllocError);
-        };
+    for row in rows.byte_records() {
+        let row = row_read(row)?;
         // Never overflows: a statement has fewer records than bytes.
         let Some(next) = number.checked_add(1) else {
             return Err(AllocError);
@@ -137,6 +131,24 @@ fn write_rows<W: Write + Drop>(
         }
     }
     Ok(())
+}
+
+// Writes a statement's records after the header, according to the numbers of its lines and their outcomes.
+fn write_rows<W: Write + Drop>(
+    alloc: Global,
+    writer: &mut Writer<W>,
+    statement: &[u8],
+    numbers: &[u64],
+    outcomes: &[Outcome],
+) -> Result<(), AllocError>
+    ensures { (outcome_of : Line → Outcome) → numbers.now ≡ numbers_from 1 (rows_of statement.now)
+        → outcomes.now ≡ map outcome_of (lines_from 1 (rows_of statement.now))
+        → OnOk result (Adds W.contents writer.old writer.new (rows_by outcome_of 1 (rows_of statement.now))) }
+{
+    let Some(mut rows) = rows_after_header(alloc, statement)? else {
+        return Ok(());
+    };
+    write_left(writer, &mut rows, numbers, outcomes)
 }
 
 // Writes the header of a statement.

@@ -121,13 +121,13 @@ impl<'a, 'b> Grounds<'a, 'b> {
         requires marks { marks.now ≡ marks_from 0 known.now.entries }
         ensures { IfOk result (λ grounds. grounds ≡ record { known = known.now; records = records.now }) }
     {
-        let entries = EntryIndex::of(alloc, &known.entries, marks)?;
         let exceptions = Exceptions::of(alloc, &known.exceptions)?;
         let amounts = Lookup::of(
             alloc,
             numbered,
             |pair| pair.1.line().amount.get().unsigned_abs(),
         )?;
+        let entries = EntryIndex::of(alloc, &known.entries, marks)?;
         let sums = entries.sums_by_day(alloc)?;
         Ok(Grounds {
             known,

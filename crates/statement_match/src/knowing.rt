@@ -1,6 +1,6 @@
 // Collects what is known of a book, row by row.
 
-ghost use Rattle.std.specs.Prelude.{◌≡◌, ◌++◌, List, IfOk, OnOk, OnErr, option_copied, unwrap_or, []};
+ghost use Rattle.std.specs.Prelude.{◌≡◌, ◌++◌, ◌∷◌, List, IfOk, OnOk, OnErr, option_copied, unwrap_or, []};
 ghost use Rattle.firm_rows.specs.Firm.{EntryRow};
 ghost use Rattle.trust_store.specs.Calls.{IsRead};
 ghost use Rattle.statement_csv.specs.References.{reference_text};
@@ -104,16 +104,46 @@ fn waiting_of(
     Ok(found)
 }
 
-// The bank line that the book has for an entry.
-fn booked(clearing: &Clearing, amount: i64) -> Result<Booking, AllocError>
-    ensures { IfOk result (λ booking. booking ≡ booked_by clearing.now amount) }
+// Adds the bank line that the book has for an entry.
+fn add_booking(found: &mut Vec<Booking>, clearing: &Clearing, amount: i64) -> Result<(), AllocError>
+    ensures { OnOk result (found.new.items ≡ found.old.items ++ booked_by clearing.now amount ∷ []) }
 {
     let bank_ref = clearing.bank_ref.copied()?;
-    Ok(Booking {
+    found.push(Booking {
         date: clearing.bank_day,
         bank_ref,
         amount,
-    })
+    })?;
+    Ok(())
+}
+
+// Adds the bank lines that are booked for an entry.
+fn add_bookings(found: &mut Vec<Booking>, entry: &Entry) -> Result<(), AllocError>
+    ensures { OnOk result (found.new.items ≡ found.old.items ++ entry_bookings entry.now) }
+{
+    match entry {
+        Entry::Deposit(d) => {
+            let amount = d.amount.get() as i64;
+            match &d.state {
+                DepositState::Cleared(clearing) => add_booking(found, clearing, amount),
+                DepositState::Returned(back) => {
+                    add_booking(found, &back.clearing, amount)?;
+                    add_booking(found, &back.returning, -amount)
+                }
+                DepositState::Held | DepositState::Cancelled(_) => Ok(()),
+            }
+        }
+        Entry::Payment(p) => match &p.state {
+            PaymentState::Cleared(paid) => {
+                add_booking(found, &paid.clearing, -(p.amount.get() as i64))
+            }
+            PaymentState::Proposed
+            | PaymentState::Declined
+            | PaymentState::Issued(_)
+            | PaymentState::Voided(_) => Ok(()),
+        },
+        Entry::Fee(_) | Entry::Claim(_) => Ok(()),
+    }
 }
 
 // Returns the bank lines that are booked for an entry.
@@ -121,25 +151,7 @@ fn bookings_of(alloc: Global, entry: &Entry) -> Result<Vec<Booking>, AllocError>
     ensures { IfOk result (λ found. found.items ≡ entry_bookings entry.now) }
 {
     let mut found = Vec::new(alloc);
-    match entry {
-        Entry::Deposit(d) => {
-            let amount = d.amount.get() as i64;
-            match &d.state {
-                DepositState::Cleared(clearing) => found.push(booked(clearing, amount)?)?,
-                DepositState::Returned(back) => {
-                    found.push(booked(&back.clearing, amount)?)?;
-                    found.push(booked(&back.returning, -amount)?)?;
-                }
-                DepositState::Held | DepositState::Cancelled(_) => {}
-            }
-        }
-        Entry::Payment(p) => {
-            if let PaymentState::Cleared(paid) = &p.state {
-                found.push(booked(&paid.clearing, -(p.amount.get() as i64))?)?;
-            }
-        }
-        Entry::Fee(_) | Entry::Claim(_) => {}
-    }
+    add_bookings(&mut found, entry)?;
     Ok(found)
 }
 

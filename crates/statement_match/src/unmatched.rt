@@ -5,15 +5,16 @@ ghost use Rattle.std.specs.List.{count_by};
 ghost use Rattle.statement_lines.specs.Words.{shown_text, words_part};
 ghost use Rattle.statement_match.specs.Rule.{outcomes as outcomes_told};
 ghost use Rattle.statement_match.specs.Reasons.{reason_for as reason_told};
+ghost use Rattle.statement_match.specs.ReasonTexts.{reason_text};
 ghost use Rattle.statement_match.specs.Unmatched.{counts_line, is_left_out as is_left_out_outcome};
 ghost use Rattle.statement_match.specs.Unmatched.{is_written as is_written_outcome, line_head};
 ghost use Rattle.statement_match.specs.Unmatched.{record_line as line_of_record, record_text, same_text, told, told_by};
 ghost use Rattle.statement_match.specs.Unmatched.{told_unreadable, unmatched, unreadable_line as line_of_unreadable};
 ghost use Rattle.statement_match.specs.Unmatched.{written_count};
 
-use crate::grounds::{Grounds, numbered_lines};
+use crate::grounds::{Grounds, LineGrounds, numbered_lines};
 use crate::own_lines::add_own;
-use crate::reason::reason_for;
+use crate::reason::{Reason, reason_for};
 use crate::reason_text::{push_amount, push_number, push_reason, push_words};
 use byte_streams::OwnedBytes;
 use firm_rows::FirmLedger;
@@ -75,20 +76,22 @@ fn push_line_head(out: &mut Vec<u8>, number: u64, line: &Line) -> Result<(), All
     push_line_words(out, &line.text)
 }
 
-// Returns the line for a record, with the text of the reason.
+// Returns the line for a record, with the reason why it has to be looked at.
 #[tactic(auto, unfolding(crate::specs::Unmatched::record_line))]
 fn record_line(
     alloc: Global,
+    today: Day,
     number: u64,
-    line: &Line,
-    reason: &[u8],
+    grounds: &LineGrounds,
+    reason: Reason,
 ) -> Result<OwnedBytes, AllocError>
-    ensures { IfOk result (λ text. text ≡ line_of_record number line.now reason.now) }
+    ensures { IfOk result (λ text. text ≡ line_of_record number grounds.now.line
+        (reason_text today grounds.now.known grounds.now.records grounds.now.line reason)) }
 {
     let mut text = Vec::new(alloc);
-    push_line_head(&mut text, number, line)?;
+    push_line_head(&mut text, number, grounds.line().line())?;
     push_words(&mut text, ": ")?;
-    text.extend_from_slice(reason)?;
+    push_reason(&mut text, today, grounds, reason)?;
     text.push(b'\n')?;
     Ok(OwnedBytes::new(text))
 }
@@ -125,9 +128,7 @@ fn add_line(
     let Some(reason) = reason_for(today, &of_line, own, outcome) else {
         return Ok(());
     };
-    let mut text = Vec::new(alloc);
-    push_reason(&mut text, today, &of_line, reason)?;
-    lines.push(record_line(alloc, number, line.line(), &text)?)?;
+    lines.push(record_line(alloc, today, number, &of_line, reason)?)?;
     Ok(())
 }
 
@@ -254,6 +255,27 @@ fn joined(alloc: Global, lines: &[OwnedBytes]) -> Result<Vec<u8>, AllocError>
     Ok(text)
 }
 
+// Returns the lines for all records that have to be looked at, by what is known of a book. `own` is the firm's own
+// ledger in it.
+fn lines_by<'a>(
+    alloc: Global,
+    today: Day,
+    known: &'a Known,
+    own: FirmLedger,
+    records: &'a Records,
+    index: Index<'a>,
+    outcomes: &[Outcome],
+) -> Result<Vec<OwnedBytes>, AllocError>
+    requires index { index ≡ record { held = known.now.held; lines = records.now.lines } }
+    requires outcomes { outcomes.now ≡ outcomes_told today known.now.held records.now.lines }
+    ensures { IfOk result (λ lines. lines.items ≡ told today known.now own records.now) }
+{
+    let numbered = numbered_lines(alloc, records)?;
+    let marks = marks_of(alloc, &known.entries)?;
+    let grounds = Grounds::of(alloc, known, records, &index, &numbered, &marks)?;
+    lines_told(alloc, today, records, &grounds, own, outcomes)
+}
+
 /// Reports on a business day the records of a statement that a person has to look at: a line for each of them, with its
 /// reason, and the counts. `own` is the firm's own ledger in the book. The only error is out of memory.
 #[tactic(auto, unfolding(crate::specs::Unmatched::unmatched))]
@@ -270,10 +292,7 @@ pub(crate) fn unmatched_of<'a>(
     requires outcomes { outcomes.now ≡ outcomes_told today known.now.held records.now.lines }
     ensures { IfOk result (λ found. found ≡ unmatched today known.now own records.now) }
 {
-    let numbered = numbered_lines(alloc, records)?;
-    let marks = marks_of(alloc, &known.entries)?;
-    let grounds = Grounds::of(alloc, known, records, &index, &numbered, &marks)?;
-    let lines = lines_told(alloc, today, records, &grounds, own, outcomes)?;
+    let lines = lines_by(alloc, today, known, own, records, index, outcomes)?;
     let left = lines.len() as u64;
     let mut text = joined(alloc, &lines)?;
     let booked = count_left_out(outcomes) as u64;

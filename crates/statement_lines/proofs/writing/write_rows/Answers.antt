@@ -1,61 +1,12 @@
-use Rattle.statement_lines.proofs.Names.{◌≡◌, ◌∙◌, ◌+◌, ◌++◌, sym, subst, [], option_copied, arith, fields_of, rows_of, Adds, HasLeft, row_as, rows_by, ints, nat_tests}
-use Rattle.statement_lines.proofs.Passing.{met-all, met-more, met-start, place-none, place-some, place-within, place_behind}
-use Rattle.statement_lines.proofs.RowsRead.{left-more, left-none}
-use Rattle.statement_lines.proofs.RowsWritten.{adds-more, adds-none}
+use Rattle.statement_lines.proofs.Names.{arith, rows_of, HasLeft, rows_by}
+use Rattle.statement_lines.proofs.RowsWritten.{adds-none}
 use Rattle.statement_lines.proofs.writing.write_rows.Goals as goal
-use Rattle.statement_lines.proofs.writing.write_rows.Goals.{then-is_some, else-is_some}
 
 pub returns-in_default : goal.returns-in_default
 unfolding rows_by
 returns-in_default g c = grind (arith, adds-none)
 
-pub loop-row-init : goal.loop-row-init
-loop-row-init g c =
-    let start = c.into_iter-row-iterator.ensures.into_iter_gives in
-    let rdr = c.into_byte_records-row-items.ensures.rdr in
-    let turns = c.into_byte_records-row-items.ensures.left in
-    let left : HasLeft c.in-Some.rows (rows_of c.args.statement.now) = rw c.in-Some.is at c.in_ok-rows.ensures in
-    grind (arith, ints, nat_tests, rows_of, met-start, adds-none)
-
-pub overflow_add-place : goal.overflow_add-place
-overflow_add-place g c = grind (arith)
-
-pub loop-row-preserved : goal.loop-row-preserved
-loop-row-preserved g c =
-    let inv = c.loop-row.invariant in
-    let (left, has, so_far) = inv.left in
-    let s = rw (c.in-Some-row.is, c.in-Ok.is) at ((c.next.ensures.steps inv.turns has.trim).0 has.ready) in
-    let fields = fields_of c.in-Ok.row in
-    let found = option_copied c.outcome_at-outcome.result in
-    let (rest, parts, more) = left-more c.loop-row.row-iterator.rdr c.next.new.self.rdr fields left has s.0 s.1 in
-    let next : c.in-Some-checked_add.next ≡ c.loop-row.number + 1 = c.in-Some-checked_add.ensures.1 in
-    let place : c.if-is_some.place ≡ place_behind c.loop-row.place found = elim c.if-is_some.branch [
-      | then-is_some w ↦ w.place-is ∙ place-some _ _ (sym c.is_some.ensures ∙ w.if-is_some.true)
-      | else-is_some w ↦ w.place-is ∙ place-none _ _ (sym c.is_some.ensures ∙ w.if-is_some.false)
-    ] in
-    record {
-      behind = rw (next, place) (place-within c.loop-row.place c.loop-row.number found inv.behind);
-      turns = s.2;
-      left = (
-        rest,
-        more,
-        λ outcome_of n o.
-            let (done, met, adds) = so_far outcome_of n o in (
-              done ++ row_as fields found,
-              rw (next, place) (met-more outcome_of c.args.numbers.now c.args.outcomes.now (rows_of c.args.statement.now)
-                  c.loop-row.number c.loop-row.place fields rest done found (rw parts at met) (rw next at c.outcome_at-outcome.ensures)),
-              adds-more g.W.Write.contents _ _ _ done (row_as fields found) adds c.in_ok-write_row.ensures,
-            ),
-      );
-    }
-
 pub returns : goal.returns
 returns g c = λ outcome_of n o.
-    let inv = c.loop-row.invariant in
-    let (left, has, so_far) = inv.left in
-    let s = rw c.in-None.is at ((c.next.ensures.steps inv.turns has.trim).0 has.ready) in
-    let none = left-none c.loop-row.row-iterator.rdr c.next.new.self.rdr [] left has s in
-    let (done, met, adds) = so_far outcome_of n o in
-    let all : rows_by outcome_of 1 (rows_of c.args.statement.now) ≡ done =
-    met-all outcome_of _ _ _ _ _ left done met none in
-    subst (λ rows. Adds g.W.Write.contents c.args.writer.now c.loop-row.writer rows) (sym all) adds
+    let left : HasLeft c.in-Some.rows (rows_of c.args.statement.now) = rw c.in-Some.is at c.in_ok-rows.ensures in
+    c.write_left.ensures outcome_of (rows_of c.args.statement.now) left n o
