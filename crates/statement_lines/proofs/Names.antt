@@ -36,5 +36,5 @@ pub use Rattle.statement_lines.specs.Words.{shown}
 pub use Rattle.statement_lines.specs.Written.{row_as, text_of}
 unfoldable pub use Rattle.statement_lines.specs.Written.{rows_by}
 pub use Rattle.statement_lines.specs.declared.book_entry.BookEntry.{BookEntry}
-pub use Rattle.statement_lines.specs.declared.outcome.Outcome.{Outcome}
+pub use Rattle.statement_lines.specs.declared.line_outcome.LineOutcome.{LineOutcome}
 pub use Rattle.std.proofs.lemmas.Int.{ints}

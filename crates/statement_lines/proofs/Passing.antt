@@ -1,5 +1,5 @@
 -- What is met of the lines of a statement while its records are passed.
-use Rattle.statement_lines.proofs.Names.{◌≡◌, ◌∙◌, sym, ap, ℕ, zero, suc, ◌+◌, ◌<◌, ◌≤◌, ◌==◌, true, false, List, [], ◌∷◌, ◌++◌, drop, map, append-nil, append_assoc, Bor, Option, Some, None, option_copied, refl, arith, add-one, cases_Bool, nat_tests, Line, items_from, Rows, line_at, lines_from, numbers_from, outcome_if, row_as, rows_by, Outcome}
+use Rattle.statement_lines.proofs.Names.{◌≡◌, ◌∙◌, sym, ap, ℕ, zero, suc, ◌+◌, ◌<◌, ◌≤◌, ◌==◌, true, false, List, [], ◌∷◌, ◌++◌, drop, map, append-nil, append_assoc, Bor, Option, Some, None, option_copied, refl, arith, add-one, cases_Bool, nat_tests, Line, items_from, Rows, line_at, lines_from, numbers_from, outcome_if, row_as, rows_by, LineOutcome}
 use Rattle.std.specs.List.{slice_get}
 use Rattle.std.specs.Option.{is_some}
 
@@ -26,32 +26,32 @@ later number k [] less e = cc
 later number k (fields ∷ rest) less e = grind (arith, nat_tests, line_at, (later (number + 1) k rest))
 
 -- behind so many records, the next lines are those of the records that are left, and so much is written
-pub record IsMet (outcome_of : Line → Outcome) (numbers : List ℕ) (outcomes : List Outcome) (all : Rows)
+pub record IsMet (outcome_of : Line → LineOutcome) (numbers : List ℕ) (outcomes : List LineOutcome) (all : Rows)
     (number place : ℕ) (left done : Rows) : Type 0 where
   pub ahead : drop place numbers ≡ numbers_from (number + 1) left
   pub next : drop place outcomes ≡ map outcome_of (lines_from (number + 1) left)
   pub parts : rows_by outcome_of 1 all ≡ done ++ rows_by outcome_of (number + 1) left
 
 -- the place of the next line behind a record
-abbrev pub place_behind : ℕ → Option Outcome → ℕ
+abbrev pub place_behind : ℕ → Option LineOutcome → ℕ
 place_behind place None = place
 place_behind place (Some o) = place + 1
 
-pub met-start : (outcome_of : Line → Outcome) (numbers : List ℕ) (outcomes : List Outcome) (all : Rows)
+pub met-start : (outcome_of : Line → LineOutcome) (numbers : List ℕ) (outcomes : List LineOutcome) (all : Rows)
     → numbers ≡ numbers_from 1 all → outcomes ≡ map outcome_of (lines_from 1 all)
     → IsMet outcome_of numbers outcomes all 0 0 all []
 met-start outcome_of numbers outcomes all n o = record { ahead = n; next = o; parts = refl }
 
-not-here : (known : Option ℕ) (number : ℕ) (next : Option Outcome) → (known ≡ Some number → ⊥)
+not-here : (known : Option ℕ) (number : ℕ) (next : Option LineOutcome) → (known ≡ Some number → ⊥)
     → outcome_if known number next ≡ None
 not-here known number next never = grind (arith, nat_tests, cases_Bool)
 
-here : (number : ℕ) (next : Option Outcome) → outcome_if (Some number) number next ≡ next
+here : (number : ℕ) (next : Option LineOutcome) → outcome_if (Some number) number next ≡ next
 here number next = let same : (number == number) ≡ true = grind (arith, nat_tests) in rw same refl
 
 -- a record was passed
-pub met-more : (outcome_of : Line → Outcome) (numbers : List ℕ) (outcomes : List Outcome) (all : Rows)
-    (number place : ℕ) (fields : List (List ℕ)) (rest done : Rows) (found : Option Outcome)
+pub met-more : (outcome_of : Line → LineOutcome) (numbers : List ℕ) (outcomes : List LineOutcome) (all : Rows)
+    (number place : ℕ) (fields : List (List ℕ)) (rest done : Rows) (found : Option LineOutcome)
     → IsMet outcome_of numbers outcomes all number place (fields ∷ rest) done
     → found ≡ outcome_if (slice_get numbers place) (number + 1) (slice_get outcomes place)
     → IsMet outcome_of numbers outcomes all (number + 1) (place_behind place found) rest (done ++ row_as fields found)
@@ -88,7 +88,7 @@ met-more outcome_of numbers outcomes all number place fields rest done found met
         })
 
 -- all records were passed
-pub met-all : (outcome_of : Line → Outcome) (numbers : List ℕ) (outcomes : List Outcome) (all : Rows)
+pub met-all : (outcome_of : Line → LineOutcome) (numbers : List ℕ) (outcomes : List LineOutcome) (all : Rows)
     (number place : ℕ) (left done : Rows)
     → IsMet outcome_of numbers outcomes all number place left done → left ≡ [] → rows_by outcome_of 1 all ≡ done
 unfolding rows_by
@@ -96,14 +96,14 @@ met-all outcome_of numbers outcomes all number place left done met none = grind 
 
 -- The place behind a record, by whether that was a line.
 
-pub place-some : (found : Option (Bor Outcome)) (place : ℕ) → is_some found ≡ true
+pub place-some : (found : Option (Bor LineOutcome)) (place : ℕ) → is_some found ≡ true
     → place + 1 ≡ place_behind place (option_copied found)
 place-some found place e = grind (arith, nat_tests)
 
-pub place-none : (found : Option (Bor Outcome)) (place : ℕ) → is_some found ≡ false
+pub place-none : (found : Option (Bor LineOutcome)) (place : ℕ) → is_some found ≡ false
     → place ≡ place_behind place (option_copied found)
 place-none found place e = grind (arith, nat_tests)
 
-pub place-within : (place number : ℕ) (found : Option Outcome) → place ≤ number
+pub place-within : (place number : ℕ) (found : Option LineOutcome) → place ≤ number
     → place_behind place found ≤ number + 1
 place-within place number found le = grind (arith, nat_tests)

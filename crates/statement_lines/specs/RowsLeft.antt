@@ -9,7 +9,7 @@ use Rattle.csv.specs.declared.writer.Writer.{Writer}
 use Rattle.byte_streams.specs.CsvRecords.{rest_records}
 use Rattle.statement_lines.specs.Records.{Rows}
 use Rattle.statement_lines.specs.Written.{text_of}
-use Rattle.statement_lines.specs.declared.outcome.Outcome.{Outcome}
+use Rattle.statement_lines.specs.declared.line_outcome.LineOutcome.{LineOutcome}
 
 -- the bytes that a slice has left
 abbrev pub left_of : Bor (List ℕ) → Option (List ℕ)
@@ -42,6 +42,6 @@ abbrev pub Adds : {W : Type 0} → (W → Option (List ℕ)) → Writer W → Wr
 Adds contents old new rows = (text : List ℕ) → Holds contents old text → Holds contents new (text ++ text_of rows)
 
 -- the outcome of the next line, if it is the record with this number
-abbrev pub outcome_if : Option ℕ → ℕ → Option Outcome → Option Outcome
+abbrev pub outcome_if : Option ℕ → ℕ → Option LineOutcome → Option LineOutcome
 outcome_if None number next = None
 outcome_if (Some line) number next = if line == number then next else None

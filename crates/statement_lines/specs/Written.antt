@@ -4,8 +4,8 @@ use Rattle.std.specs.List.{flat_map}
 use Rattle.csv.specs.Writing.{default_writer, row_text}
 use Rattle.trust_base.specs.declared.line.Line.{Line}
 use Rattle.statement_lines.specs.Records.{Rows, line_at}
-use Rattle.statement_lines.specs.declared.outcome.Outcome.{Outcome}
-use Rattle.statement_lines.specs.declared.outcome.Outcome.TheVariants as outcome
+use Rattle.statement_lines.specs.declared.line_outcome.LineOutcome.{LineOutcome}
+use Rattle.statement_lines.specs.declared.line_outcome.LineOutcome.TheVariants as outcome
 
 -- the record of a line with this as its reference
 abbrev pub named_row : List ℕ → List (List ℕ) → List (List ℕ)
@@ -14,7 +14,7 @@ named_row reference fields =
 
 -- what is written of a record, according to the outcome of its line, if it is one; a record that is not a line, and a
 -- line with a reference, is unchanged
-abbrev pub row_as : List (List ℕ) → Option Outcome → Rows
+abbrev pub row_as : List (List ℕ) → Option LineOutcome → Rows
 row_as fields None = fields ∷ []
 row_as fields (Some outcome.AsItIs) = fields ∷ []
 row_as fields (Some outcome.InBook) = []
@@ -23,7 +23,7 @@ row_as fields (Some (outcome.Filled reference)) = named_row reference fields ∷
 row_as fields (Some outcome.Left) = []
 
 -- what is written of records, in order, according to the outcomes of their lines; the first record has this number
-unfoldable pub rows_by : (Line → Outcome) → ℕ → Rows → Rows
+unfoldable pub rows_by : (Line → LineOutcome) → ℕ → Rows → Rows
 rows_by outcome_of number [] = []
 rows_by outcome_of number (fields ∷ rest) =
     row_as fields (option_map outcome_of (line_at number fields)) ++ rows_by outcome_of (number + 1) rest

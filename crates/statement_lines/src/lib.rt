@@ -3,14 +3,14 @@
 
 mod book_entry;
 mod booking;
-mod exceptions;
+mod exception_index;
 mod index;
 mod key;
 mod known;
+mod line_outcome;
 mod lookup;
 mod mark;
 mod number;
-mod outcome;
 mod records;
 mod relation;
 mod rows;
@@ -21,13 +21,13 @@ mod writing;
 
 pub use book_entry::{BookEntry, EntryState, WaitingEntry};
 pub use booking::{BookedLines, Booking};
-pub use exceptions::Exceptions;
+pub use exception_index::ExceptionIndex;
 pub use index::Index;
 pub use key::text_key;
 pub use known::{Held, Known};
+pub use line_outcome::LineOutcome;
 pub use lookup::Lookup;
 pub use mark::{Mark, line_marks_of, marks_of};
-pub use outcome::Outcome;
 pub use records::{Records, line_at, line_count, number_at, number_of, records_in};
 pub use relation::Relation;
 pub use statement_line::StatementLine;

@@ -7,10 +7,10 @@ ghost use Rattle.trust_base.specs.declared.line.Line.{Line};
 ghost use Rattle.statement_csv.specs.Headers.{header};
 ghost use Rattle.statement_lines.specs.Records.{Rows, lines_from, numbers_from, records_of, rows_of};
 ghost use Rattle.statement_lines.specs.RowsLeft.{Adds, HasLeft, Holds, outcome_if};
-ghost use Rattle.statement_lines.specs.declared.outcome.Outcome.{Outcome};
+ghost use Rattle.statement_lines.specs.declared.line_outcome.LineOutcome.{LineOutcome};
 ghost use Rattle.statement_lines.specs.Written.{named_row, row_as, rows_by, text_of};
 
-use crate::outcome::Outcome;
+use crate::line_outcome::LineOutcome;
 use crate::records::Records;
 use crate::rows::{row_read, rows_after_header};
 use csv::{ByteRecord, Reader, Writer, WriterBuilder};
@@ -62,14 +62,14 @@ fn write_named<W: Write + Drop>(
 fn write_line<W: Write + Drop>(
     writer: &mut Writer<W>,
     row: &ByteRecord,
-    outcome: &Outcome,
+    outcome: &LineOutcome,
 ) -> Result<(), AllocError>
     ensures { OnOk result (Adds W.contents writer.old writer.new (row_as (fields_of row.now) (Some outcome.now))) }
 {
     match outcome {
-        Outcome::AsItIs => write_same(writer, row),
-        Outcome::Filled(reference) => write_named(writer, row, reference),
-        Outcome::InBook | Outcome::Doubled | Outcome::Left => Ok(()),
+        LineOutcome::AsItIs => write_same(writer, row),
+        LineOutcome::Filled(reference) => write_named(writer, row, reference),
+        LineOutcome::InBook | LineOutcome::Doubled | LineOutcome::Left => Ok(()),
     }
 }
 
@@ -77,7 +77,7 @@ fn write_line<W: Write + Drop>(
 fn write_row<W: Write + Drop>(
     writer: &mut Writer<W>,
     row: &ByteRecord,
-    outcome: Option<&Outcome>,
+    outcome: Option<&LineOutcome>,
 ) -> Result<(), AllocError>
     ensures { OnOk result
         (Adds W.contents writer.old writer.new (row_as (fields_of row.now) (option_copied outcome.entry))) }
@@ -92,10 +92,10 @@ fn write_row<W: Write + Drop>(
 // lists.
 fn outcome_at<'a>(
     numbers: &[u64],
-    outcomes: &'a [Outcome],
+    outcomes: &'a [LineOutcome],
     place: usize,
     number: u64,
-) -> Option<&'a Outcome>
+) -> Option<&'a LineOutcome>
     ensures { option_copied result ≡ outcome_if (slice_get numbers.now place) number (slice_get outcomes.now place) }
 {
     match numbers.get(place) {
@@ -109,9 +109,9 @@ fn write_left<W: Write + Drop>(
     writer: &mut Writer<W>,
     rows: &mut Reader<&[u8]>,
     numbers: &[u64],
-    outcomes: &[Outcome],
+    outcomes: &[LineOutcome],
 ) -> Result<(), AllocError>
-    ensures { (outcome_of : Line → Outcome) (left : Rows) → HasLeft rows.old left
+    ensures { (outcome_of : Line → LineOutcome) (left : Rows) → HasLeft rows.old left
         → numbers.now ≡ numbers_from 1 left → outcomes.now ≡ map outcome_of (lines_from 1 left)
         → OnOk result (Adds W.contents writer.old writer.new (rows_by outcome_of 1 left)) }
 {
@@ -139,9 +139,9 @@ fn write_rows<W: Write + Drop>(
     writer: &mut Writer<W>,
     statement: &[u8],
     numbers: &[u64],
-    outcomes: &[Outcome],
+    outcomes: &[LineOutcome],
 ) -> Result<(), AllocError>
-    ensures { (outcome_of : Line → Outcome) → numbers.now ≡ numbers_from 1 (rows_of statement.now)
+    ensures { (outcome_of : Line → LineOutcome) → numbers.now ≡ numbers_from 1 (rows_of statement.now)
         → outcomes.now ≡ map outcome_of (lines_from 1 (rows_of statement.now))
         → OnOk result (Adds W.contents writer.old writer.new (rows_by outcome_of 1 (rows_of statement.now))) }
 {
@@ -192,10 +192,10 @@ pub fn write_statement(
     alloc: Global,
     statement: &[u8],
     records: &Records,
-    outcomes: &[Outcome],
+    outcomes: &[LineOutcome],
 ) -> Result<Vec<u8>, AllocError>
     requires { records.now ≡ records_of statement.now }
-    ensures { (outcome_of : Line → Outcome) → outcomes.now ≡ map outcome_of records.now.lines
+    ensures { (outcome_of : Line → LineOutcome) → outcomes.now ≡ map outcome_of records.now.lines
         → IfOk result (λ text. text.items ≡ text_of (header ∷ rows_by outcome_of 1 (rows_of statement.now))) }
 {
     let mut writer = new_writer(alloc);

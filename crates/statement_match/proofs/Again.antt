@@ -1,6 +1,6 @@
 -- A line that was filled, once the book has it.
 use Rattle.statement_match.proofs.Names.{◌≡◌, ℕ, ◌≤◌, true, false, List, arith, nat_lt, Contains, count_by, cond-false, cond-true, le-leb, or_left, or_parts, nat_tests, Line, Booking, booking_of, is_same_booking, Held, is_open, is_open_like, becomes, is_doubled, is_in_book, ints}
-use Rattle.statement_lines.specs.declared.outcome.Outcome.TheVariants as outcome
+use Rattle.statement_lines.specs.declared.line_outcome.LineOutcome.TheVariants as outcome
 use Rattle.statement_match.proofs.Filling.{sure_of}
 use Rattle.statement_match.proofs.Picks.{is_counted}
 

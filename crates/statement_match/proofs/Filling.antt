@@ -1,6 +1,6 @@
 -- When a line is filled.
-use Rattle.statement_match.proofs.Names.{◌≡◌, ℕ, Bool, true, false, not, cond, List, Option, Some, None, arith, count_by, find, and_parts, eqb-true, Line, Waiting, fits, Held, is_claimed, is_open, is_open_fit, Outcome, becomes, fill, filled_with, IsSure, FillsWhatIsSure, FillsWithWaiting, TwoEntriesAreLeft, TwoLinesAreLeft, ints, nat_tests, not-false, not-true}
-use Rattle.statement_lines.specs.declared.outcome.Outcome.TheVariants as outcome
+use Rattle.statement_match.proofs.Names.{◌≡◌, ℕ, Bool, true, false, not, cond, List, Option, Some, None, arith, count_by, find, and_parts, eqb-true, Line, Waiting, fits, Held, is_claimed, is_open, is_open_fit, LineOutcome, becomes, fill, filled_with, IsSure, FillsWhatIsSure, FillsWithWaiting, TwoEntriesAreLeft, TwoLinesAreLeft, ints, nat_tests, not-false, not-true}
+use Rattle.statement_lines.specs.declared.line_outcome.LineOutcome.TheVariants as outcome
 use Rattle.statement_match.proofs.Picks.{found_is_there, found_passes, is_the_one}
 
 -- A choice that gave what one side cannot.

@@ -1,11 +1,11 @@
 -- No line that is written before a filled one has its reference.
-use Rattle.statement_match.proofs.Names.{◌≡◌, ◌≢◌, ◌∙◌, sym, ap, subst, ℕ, zero, suc, ◌<◌, List, [], ◌∷◌, ◌++◌, length, get_or, append_assoc, refl, inl, inr, ◌⊎◌, arith, Contains, Contains-append_cases, Contains-append_right, Line, Held, Outcome, becomes, AreNamedApart, with_reference, written, written_as, written_of, ints, nat_tests, cases_eq}
-use Rattle.statement_lines.specs.declared.outcome.Outcome.TheVariants as outcome
+use Rattle.statement_match.proofs.Names.{◌≡◌, ◌≢◌, ◌∙◌, sym, ap, subst, ℕ, zero, suc, ◌<◌, List, [], ◌∷◌, ◌++◌, length, get_or, append_assoc, refl, inl, inr, ◌⊎◌, arith, Contains, Contains-append_cases, Contains-append_right, Line, Held, LineOutcome, becomes, AreNamedApart, with_reference, written, written_as, written_of, ints, nat_tests, cases_eq}
+use Rattle.statement_lines.specs.declared.line_outcome.LineOutcome.TheVariants as outcome
 use Rattle.statement_match.proofs.Writing.{none_is_named_twice}
 
 -- Of a line nothing is written, or one line.
 
-one_or_none : (line : Line) (o : Outcome) → (written_as line o ≡ []) ⊎ ((z : Line) × (written_as line o ≡ z ∷ []))
+one_or_none : (line : Line) (o : LineOutcome) → (written_as line o ≡ []) ⊎ ((z : Line) × (written_as line o ≡ z ∷ []))
 one_or_none line o = grind (arith, ints, nat_tests, with_reference)
 
 no_front : (front rest : List Line) (x : Line) → [] ≡ front ++ x ∷ rest → ⊥

@@ -1,6 +1,6 @@
 -- What becomes of a line where less is held.
 use Rattle.statement_match.proofs.Names.{◌≡◌, ℕ, zero, suc, ◌≤◌, Bool, true, false, cond, List, arith, nat_lt, Contains, count_by, list_any, and_left, and_right, leb-false, lt-leb, or_from, or_parts, Line, booking_of, is_beside, is_same_booking, Waiting, fits, Held, is_claimed, is_open_like, find_has, later, is_beside_booked, is_doubled, is_in_book, HasLess, IsPart, IsSure, MoreOnlyTakesAway, NoneOf, With, Without, ints, nat_tests, sum_by-cons}
-use Rattle.statement_lines.specs.declared.outcome.Outcome.TheVariants as outcome
+use Rattle.statement_lines.specs.declared.line_outcome.LineOutcome.TheVariants as outcome
 use Rattle.statement_match.proofs.Filling.{filled_if_sure, sure_of}
 use Rattle.statement_match.proofs.Picks.{found_is_there, found_passes, is_counted, is_the_one}
 

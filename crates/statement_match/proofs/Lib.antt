@@ -16,7 +16,7 @@ pub mod Unfilled
 pub mod Waits
 pub mod Writing
 pub mod Candidates
-pub mod Numbered
+pub mod NumberedLines
 pub mod FirstDay
 pub use Rattle.statement_lines.proofs.Members
 mod Names

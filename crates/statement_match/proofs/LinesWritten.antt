@@ -1,11 +1,11 @@
 -- The lines of the records that are written are what is written of the lines.
-use Rattle.statement_match.proofs.Names.{◌≡◌, ◌∙◌, ap, subst, ℕ, ◌+◌, true, List, [], ◌∷◌, ◌++◌, drop, Option, Some, None, refl, Line, item_of, item_of_line, items_from, line_in, Rows, line_at, lines_from, records_of, rows_of, Held, is_open, named_row, row_as, rows_by, Outcome, with_reference, written_as, written_of, becomes, HasLinesWritten, HasReferences, IsReference, arith, ints, nat_tests}
+use Rattle.statement_match.proofs.Names.{◌≡◌, ◌∙◌, ap, subst, ℕ, ◌+◌, true, List, [], ◌∷◌, ◌++◌, drop, Option, Some, None, refl, Line, item_of, item_of_line, items_from, line_in, Rows, line_at, lines_from, records_of, rows_of, Held, is_open, named_row, row_as, rows_by, LineOutcome, with_reference, written_as, written_of, becomes, HasLinesWritten, HasReferences, IsReference, arith, ints, nat_tests}
 use Rattle.std.proofs.Common.{option_map, option_to_list}
 use Rattle.std.specs.Prelude.{unwrap_or}
 use Rattle.statement_csv.specs.Lines.{line_of, line_of_texts}
 use Rattle.statement_csv.specs.declared.item.Item.TheVariants as item
 use Rattle.statement_csv.proofs.ItemFacts.{known_line, open_line, same_line}
-use Rattle.statement_lines.specs.declared.outcome.Outcome.TheVariants as outcome
+use Rattle.statement_lines.specs.declared.line_outcome.LineOutcome.TheVariants as outcome
 use Rattle.statement_match.proofs.Filling.{fills_with_waiting}
 use Rattle.statement_match.proofs.ReadBack.{reads_back}
 use Rattle.statement_match.proofs.Writing.{HasOpenness, openness}
@@ -50,7 +50,7 @@ filled_reference : (today : ℕ) (held : Held) (all : List Line) (line : Line) (
 filled_reference today held all line r ok e = grind (arith, ints, nat_tests, fills_with_waiting)
 
 -- the lines of what is written of a record, and of the records behind it
-one_written : (m : ℕ) (fields : List (List ℕ)) (line : Line) (o : Outcome) (rows : Rows) (out : List Line)
+one_written : (m : ℕ) (fields : List (List ℕ)) (line : Line) (o : LineOutcome) (rows : Rows) (out : List Line)
     → line_at m fields ≡ Some line
     → ((r : List ℕ) → o ≡ outcome.Filled r → line_at m (named_row r fields) ≡ Some (with_reference r line))
     → ((k : ℕ) → lines_from k rows ≡ out)

@@ -31,7 +31,7 @@ pub use Rattle.statement_lines.specs.Written.{named_row, row_as, text_of}
 unfoldable pub use Rattle.statement_lines.specs.Written.{rows_by}
 pub use Rattle.statement_lines.specs.declared.book_entry.BookEntry.{BookEntry}
 pub use Rattle.statement_lines.specs.declared.booking.Booking.{Booking}
-pub use Rattle.statement_lines.specs.declared.outcome.Outcome.{Outcome}
+pub use Rattle.statement_lines.specs.declared.line_outcome.LineOutcome.{LineOutcome}
 pub use Rattle.std.proofs.Common.{Bool, List, None, Option, Some, [], ap, append-nil, append_assoc, arith, cond, drop, false, flat_map, fold, get_or, inl, inr, length, length-append, map, neg_ℤ, negsuc, not, pos, refl, rules, subst, suc, sym, take, true, zero, ℕ, ℤ, ◌%◌, ◌&&◌, ◌*◌, ◌++◌, ◌+ℤ◌, ◌+◌, ◌-◌, ◌/◌, ◌<◌, ◌==◌, ◌^◌, ◌↔◌, ◌∙◌, ◌∷◌, ◌≡◌, ◌≢◌, ◌≤ℤ◌, ◌≤◌, ◌⊎◌}
 pub use Rattle.std.proofs.lemmas.Bool.{false≢true, and_from, and_left, and_parts, and_right, cases_Bool, cases_order, cond-false, cond-true, eq-eqb, eqb-true, false_from_ne_true, le-leb, leb-false, lt-leb, or_from, or_left, or_parts, cases_eq, ltb-false, not-false, not-true}
 pub use Rattle.std.proofs.lemmas.Bool.Decides.{nat_tests}

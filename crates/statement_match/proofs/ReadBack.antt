@@ -1,5 +1,5 @@
 -- The text of records reads as those records.
-use Rattle.statement_match.proofs.Names.{◌≡◌, ◌≢◌, ◌∙◌, ◌+◌, ap, ℕ, zero, suc, true, List, [], ◌∷◌, ◌++◌, map, drop, Option, Some, None, refl, inl, inr, cases_Bool, Line, items_after_header, items_from, Rows, line_at, lines_from, rows_of, named_row, row_as, rows_by, text_of, Outcome, becomes, IsImported, ReadsBack, statement_text, written_rows, arith, ints, nat_tests}
+use Rattle.statement_match.proofs.Names.{◌≡◌, ◌≢◌, ◌∙◌, ◌+◌, ap, ℕ, zero, suc, true, List, [], ◌∷◌, ◌++◌, map, drop, Option, Some, None, refl, inl, inr, cases_Bool, Line, items_after_header, items_from, Rows, line_at, lines_from, rows_of, named_row, row_as, rows_by, text_of, LineOutcome, becomes, IsImported, ReadsBack, statement_text, written_rows, arith, ints, nat_tests}
 use Rattle.std.proofs.Common.{option_map}
 use Rattle.csv.specs.Machine.{Read, ends_at_end, field_after, fields_after, is_end, next_record, step}
 use Rattle.csv.specs.Reading.{default_config, records, records_from, records_next, strip_bom}
@@ -13,7 +13,7 @@ use Rattle.csv.proofs.RoundTrip.{read-write}
 use Rattle.byte_streams.specs.CsvRecords.{rest_records}
 use Rattle.byte_streams.proofs.CsvRecords.{rest-more, rest-none}
 use Rattle.statement_csv.specs.Headers.{header}
-use Rattle.statement_lines.specs.declared.outcome.Outcome.TheVariants as outcome
+use Rattle.statement_lines.specs.declared.line_outcome.LineOutcome.TheVariants as outcome
 
 -- The records of a text that was written.
 
@@ -76,7 +76,7 @@ behind_first rows h = grind (arith, ints, nat_tests)
 
 -- So has each that is written.
 
-written_as_fields : (fields : List (List ℕ)) (found : Option Outcome) (rest : Rows) → fields ≢ [] → HaveFields rest
+written_as_fields : (fields : List (List ℕ)) (found : Option LineOutcome) (rest : Rows) → fields ≢ [] → HaveFields rest
     → HaveFields (row_as fields found ++ rest)
 written_as_fields fields None rest full h = More fields rest full h
 written_as_fields fields (Some outcome.AsItIs) rest full h = More fields rest full h
@@ -85,7 +85,7 @@ written_as_fields fields (Some outcome.Doubled) rest full h = h
 written_as_fields fields (Some (outcome.Filled r)) rest full h = More (named_row r fields) rest (λ e. cc) h
 written_as_fields fields (Some outcome.Left) rest full h = h
 
-written_fields : (outcome_of : Line → Outcome) (number : ℕ) (rows : Rows) → HaveFields rows
+written_fields : (outcome_of : Line → LineOutcome) (number : ℕ) (rows : Rows) → HaveFields rows
     → HaveFields (rows_by outcome_of number rows)
 unfolding rows_by
 written_fields outcome_of number [] h = None_here

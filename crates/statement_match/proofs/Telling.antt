@@ -1,5 +1,5 @@
 -- The steps of the loops over the records of a statement.
-use Rattle.statement_match.proofs.Names.{own_before, own_with, fold_more, ◌≡◌, ◌∙◌, sym, ap, ℕ, ◌+◌, ◌-◌, ◌<◌, ◌≤◌, List, [], ◌∷◌, ◌++◌, length, get_or, drop, append_assoc, append-nil, arith, at_drop_more, drop_all, get_or-map, Line, Records, Known, Outcome, becomes, outcomes, reason_for, told_by, told_from, told_of_line, told_unreadable, unreadable_line, ints, nat_tests}
+use Rattle.statement_match.proofs.Names.{own_before, own_with, fold_more, ◌≡◌, ◌∙◌, sym, ap, ℕ, ◌+◌, ◌-◌, ◌<◌, ◌≤◌, List, [], ◌∷◌, ◌++◌, length, get_or, drop, append_assoc, append-nil, arith, at_drop_more, drop_all, get_or-map, Line, Records, Known, LineOutcome, becomes, outcomes, reason_for, told_by, told_from, told_of_line, told_unreadable, unreadable_line, ints, nat_tests}
 use Rattle.firm_rows.specs.declared.ledger.FirmLine.{FirmLine}
 
 -- Unreadable records.
@@ -43,8 +43,8 @@ told_done today known own records before i lines told past =
     ap (λ ls. told ++ told_from today known own records before i ls) (drop_all i lines past)
 
 -- one record more, by what becomes of each line
-pub told_step : (today : ℕ) (known : Known) (own then : List FirmLine) (records : Records) (os : List Outcome)
-    (before i number : ℕ) (line : Line) (o : Outcome) (told new : List (List ℕ)) → i < length records.lines
+pub told_step : (today : ℕ) (known : Known) (own then : List FirmLine) (records : Records) (os : List LineOutcome)
+    (before i number : ℕ) (line : Line) (o : LineOutcome) (told new : List (List ℕ)) → i < length records.lines
     → then ≡ own_before today own records.lines i
     → os ≡ outcomes today known.held records.lines → number ≡ get_or records.numbers i 0
     → line ≡ get_or records.lines i line → o ≡ get_or os i o

@@ -1,6 +1,6 @@
 -- Lines that are not filled, and lines that are sure over another book.
 use Rattle.statement_match.proofs.Names.{◌≡◌, ◌≢◌, ◌∙◌, sym, ap, ℕ, true, false, List, [], ◌∷◌, length, get_or, refl, arith, nat_lt, Contains, count_by, filter, find, list_any, int_eq, and_from, and_left, and_right, eq-eqb, false_from_ne_true, lt-leb, or_from, or_parts, get_or_default, length-filter, bytes_eq-Decides, Line, Booking, booking_of, is_beside, is_same_booking, Waiting, fits, Held, is_open, is_open_fit, is_open_like, becomes, is_beside_booked, is_doubled, is_in_book, IsSure, ints, nat_tests, ltb-false, find_among}
-use Rattle.statement_lines.specs.declared.outcome.Outcome.TheVariants as outcome
+use Rattle.statement_lines.specs.declared.line_outcome.LineOutcome.TheVariants as outcome
 use Rattle.statement_match.proofs.Filling.{filled_if_sure}
 use Rattle.statement_match.proofs.Picks.{any_counted, found_passes, is_counted, one_place}
 

@@ -1,22 +1,22 @@
 -- What is written of the lines of a statement.
-use Rattle.statement_match.proofs.Names.{◌≡◌, ◌≢◌, ◌∙◌, sym, ap, subst, ℕ, ◌<◌, Bool, true, false, not, cond, List, [], ◌∷◌, ◌++◌, length, get_or, refl, Contains, find, bytes_eq, false≢true, and_from, list_any_at, bytes_eq-Decides, Line, Waiting, Held, is_claimed, is_open, is_open_fit, Outcome, becomes, fill, is_doubled, is_in_book, AreWritten, None_left, Kept, Named, LeftOut, AreNamedApart, IsSure, NoneIsNamedTwice, OnlyReferencesChange, WritesWhatIsSure, with_reference, written_as, written_of, arith, ints, nat_tests}
-use Rattle.statement_lines.specs.declared.outcome.Outcome.TheVariants as outcome
+use Rattle.statement_match.proofs.Names.{◌≡◌, ◌≢◌, ◌∙◌, sym, ap, subst, ℕ, ◌<◌, Bool, true, false, not, cond, List, [], ◌∷◌, ◌++◌, length, get_or, refl, Contains, find, bytes_eq, false≢true, and_from, list_any_at, bytes_eq-Decides, Line, Waiting, Held, is_claimed, is_open, is_open_fit, LineOutcome, becomes, fill, is_doubled, is_in_book, AreWritten, None_left, Kept, Named, LeftOut, AreNamedApart, IsSure, NoneIsNamedTwice, OnlyReferencesChange, WritesWhatIsSure, with_reference, written_as, written_of, arith, ints, nat_tests}
+use Rattle.statement_lines.specs.declared.line_outcome.LineOutcome.TheVariants as outcome
 use Rattle.statement_match.proofs.Filling.{filled_if_sure, sure_of}
 use Rattle.statement_match.proofs.Picks.{found_is_there, found_passes, one_place}
 use Rattle.statement_match.proofs.Waits.{none_there, the_one}
 
 -- What holds of both choices holds of the one that is taken.
 
-pub chosen : (P : Outcome → Type 0) (b : Bool) (x y : Outcome) → P x → P y → P (cond b x y)
+pub chosen : (P : LineOutcome → Type 0) (b : Bool) (x y : LineOutcome) → P x → P y → P (cond b x y)
 chosen x0 b x y px py = grind (arith, ints, nat_tests)
 
 -- what holds of a line that is left and of one that is filled holds behind the search for its entry
-pub by_fill : (P : Outcome → Type 0) (today : ℕ) (held : Held) (lines : List Line) (line : Line) → P outcome.Left
+pub by_fill : (P : LineOutcome → Type 0) (today : ℕ) (held : Held) (lines : List Line) (line : Line) → P outcome.Left
     → ((r : List ℕ) → P (outcome.Filled r)) → P (fill today held lines line)
 unfolding fill
 by_fill x0 today held lines line left filled = grind (arith, ints, nat_tests, chosen, find)
 
-pub by_last : (P : Outcome → Type 0) (today : ℕ) (held : Held) (lines : List Line) (line : Line) → P outcome.Doubled
+pub by_last : (P : LineOutcome → Type 0) (today : ℕ) (held : Held) (lines : List Line) (line : Line) → P outcome.Doubled
     → P outcome.Left → ((r : List ℕ) → P (outcome.Filled r))
     → P (cond (is_doubled held lines line) outcome.Doubled (fill today held lines line))
 by_last P today held lines line doubled left filled =
@@ -25,7 +25,7 @@ by_last P today held lines line doubled left filled =
 
 -- Whether a line is open, by its outcome.
 
-abbrev pub HasOpenness : Line → Outcome → Type 0
+abbrev pub HasOpenness : Line → LineOutcome → Type 0
 HasOpenness line outcome.AsItIs = is_open line ≡ false
 HasOpenness line _ = is_open line ≡ true
 
@@ -46,11 +46,11 @@ openness today held lines line = by (is_open line) refl
 
 module _ (today : ℕ) (held : Held) (all : List Line) where
   -- a line that became something else than filled is sure of no entry
-  unsure : (line : Line) (o : Outcome) → becomes today held all line ≡ o → ((r : List ℕ) → o ≢ outcome.Filled r)
+  unsure : (line : Line) (o : LineOutcome) → becomes today held all line ≡ o → ((r : List ℕ) → o ≢ outcome.Filled r)
       → (w : Waiting) → IsSure today held all line w → ⊥
   unsure line o is other w sure = other w.reference (sym is ∙ filled_if_sure today held all line w sure)
 
-  one_more : (line : Line) (lines out : List Line) (o : Outcome) → becomes today held all line ≡ o
+  one_more : (line : Line) (lines out : List Line) (o : LineOutcome) → becomes today held all line ≡ o
       → HasOpenness line o → AreWritten today held all lines out
       → AreWritten today held all (line ∷ lines) (written_as line o ++ out)
   one_more line lines out outcome.AsItIs is e rest = Kept line lines out e rest
@@ -76,7 +76,7 @@ only_references_change today held lines = written_by today held lines lines
 
 -- What is written of a line without a reference.
 
-of_open : (line x : Line) (o : Outcome) → HasOpenness line o → is_open line ≡ true → Contains (written_as line o) x
+of_open : (line x : Line) (o : LineOutcome) → HasOpenness line o → is_open line ≡ true → Contains (written_as line o) x
     → (r : List ℕ) × (o ≡ outcome.Filled r) × (with_reference r line ≡ x)
 of_open line x outcome.AsItIs e opened there = absurd (false≢true (sym e ∙ opened))
 of_open line x outcome.InBook e opened there = absurd (none_there x there)
@@ -99,7 +99,7 @@ writes_what_is_sure today held lines line x opened = (
       (found.0, found.1, sym wrote.2 ∙ ap (λ r. with_reference r line) found.2),
   λ sure.
       let filled = filled_if_sure today held lines line sure.0 sure.1 in
-      subst (λ (o : Outcome). Contains (written_as line o) x) (sym filled) (0, omega arith, sym sure.2),
+      subst (λ (o : LineOutcome). Contains (written_as line o) x) (sym filled) (0, omega arith, sym sure.2),
 )
 
 -- a record with the reference makes that claimed
@@ -117,7 +117,7 @@ not_both : (today : ℕ) (held : Held) (lines : List Line) (i k : ℕ) (d : Line
 not_both today held lines i k d w v apart li lk differ one other e =
     grind (arith, ints, nat_tests, found_is_there, get_or, and_from, is_open, found_passes, is_open_fit, one_place)
 
-clash_by : (today : ℕ) (held : Held) (lines : List Line) (i k : ℕ) (d x : Line) (w : Waiting) (o : Outcome)
+clash_by : (today : ℕ) (held : Held) (lines : List Line) (i k : ℕ) (d x : Line) (w : Waiting) (o : LineOutcome)
     → AreNamedApart held.waiting → i < length lines → k < length lines → i ≢ k
     → IsSure today held lines (get_or lines i d) w
     → becomes today held lines (get_or lines k d) ≡ o → Contains (written_as (get_or lines k d) o) x

@@ -13,7 +13,7 @@ use Rattle.firm_rows.specs.FirmSound.{FirmSound}
 use Rattle.statement_csv.specs.References.{reference_text}
 use Rattle.statement_lines.specs.Waiting.{Waiting}
 use Rattle.statement_lines.specs.Showing.{fits}
-use Rattle.statement_lines.specs.declared.outcome.Outcome.TheVariants as outcome
+use Rattle.statement_lines.specs.declared.line_outcome.LineOutcome.TheVariants as outcome
 use Rattle.statement_match.specs.Rule.{becomes}
 use Rattle.statement_match.specs.Books.{held_of, row_waiting, with_matters}
 use Rattle.statement_match.specs.Laws.{AreNamedApart, written_as}

@@ -7,8 +7,8 @@ use Rattle.statement_lines.specs.Waiting.{Waiting}
 use Rattle.statement_lines.specs.Showing.{fits}
 use Rattle.statement_lines.specs.Held.{Held}
 use Rattle.statement_lines.specs.OpenLines.{is_claimed, is_open, is_open_fit}
-use Rattle.statement_lines.specs.declared.outcome.Outcome.{Outcome}
-use Rattle.statement_lines.specs.declared.outcome.Outcome.TheVariants as outcome
+use Rattle.statement_lines.specs.declared.line_outcome.LineOutcome.{LineOutcome}
+use Rattle.statement_lines.specs.declared.line_outcome.LineOutcome.TheVariants as outcome
 use Rattle.statement_match.specs.Rule.{becomes, is_beside_booked, is_doubled, is_in_book}
 
 -- What is written.
@@ -18,7 +18,7 @@ abbrev pub with_reference : List ℕ → Line → Line
 with_reference reference line = record line { reference = reference }
 
 -- what is written of a line: nothing if it is in the book already, doubled or left
-abbrev pub written_as : Line → Outcome → List Line
+abbrev pub written_as : Line → LineOutcome → List Line
 written_as line outcome.AsItIs = line ∷ []
 written_as line outcome.InBook = []
 written_as line outcome.Doubled = []

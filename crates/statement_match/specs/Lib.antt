@@ -18,4 +18,4 @@ pub use Rattle.statement_lines.specs.Bookings
 pub use Rattle.statement_lines.specs.Showing
 pub use Rattle.statement_lines.specs.Waiting
 pub use Rattle.statement_lines.specs.declared.booking
-pub use Rattle.statement_lines.specs.declared.outcome
+pub use Rattle.statement_lines.specs.declared.line_outcome

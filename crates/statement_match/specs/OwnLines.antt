@@ -8,8 +8,8 @@ use Rattle.firm_rows.specs.FirmLines.{as_firm_line, balance_of, firm_verdict}
 use Rattle.firm_rows.specs.declared.ledger.FirmLine.{FirmLine}
 use Rattle.firm_rows.specs.declared.ledger.Verdict.{Verdict}
 use Rattle.firm_rows.specs.declared.ledger.Verdict.TheVariants as verdict
-use Rattle.statement_match.specs.declared.reason.Reason.{Reason}
-use Rattle.statement_match.specs.declared.reason.Reason.TheVariants as reason
+use Rattle.statement_match.specs.declared.reason.UnmatchedReason.{UnmatchedReason}
+use Rattle.statement_match.specs.declared.reason.UnmatchedReason.TheVariants as reason
 
 abbrev pub is_own : Line → Bool
 is_own line = bytes_eq line.reference (codes "FIRM")
@@ -29,16 +29,16 @@ abbrev pub own_before : ℕ → List FirmLine → List Line → ℕ → List Fir
 own_before today own lines place = fold (own_with today) own (take place lines)
 
 -- why an import would not apply a line of the firm's own to this ledger
-abbrev pub own_misfit : ℕ → List FirmLine → Line → Reason
+abbrev pub own_misfit : ℕ → List FirmLine → Line → UnmatchedReason
 own_misfit today own line =
     if nat_lt today line.date then reason.DatedAfter
     else if int_eq line.amount (pos 0) then reason.MovesNothing
     else reason.OwnMoney (balance_of own +ℤ line.amount)
 
-abbrev pub own_reason_by : Verdict → Reason → Option Reason
+abbrev pub own_reason_by : Verdict → UnmatchedReason → Option UnmatchedReason
 own_reason_by verdict.Applied why = None
 own_reason_by verdict.Repeat why = None
 own_reason_by verdict.Unmatched why = Some why
 
-unfoldable pub own_reason : ℕ → List FirmLine → Line → Option Reason
+unfoldable pub own_reason : ℕ → List FirmLine → Line → Option UnmatchedReason
 own_reason today own line = own_reason_by (firm_verdict own line today) (own_misfit today own line)

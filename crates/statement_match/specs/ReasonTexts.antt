@@ -23,8 +23,8 @@ use Rattle.statement_match.specs.declared.misfit.Misfit.{Misfit}
 use Rattle.statement_match.specs.declared.misfit.Misfit.TheVariants as misfit
 use Rattle.statement_match.specs.declared.phrase.Phrase.{Phrase}
 use Rattle.statement_match.specs.declared.phrase.Phrase.TheVariants as phrase
-use Rattle.statement_match.specs.declared.reason.Reason.{Reason}
-use Rattle.statement_match.specs.declared.reason.Reason.TheVariants as reason
+use Rattle.statement_match.specs.declared.reason.UnmatchedReason.{UnmatchedReason}
+use Rattle.statement_match.specs.declared.reason.UnmatchedReason.TheVariants as reason
 
 -- How many are listed at most.
 abbrev pub most_told : ℕ
@@ -258,7 +258,7 @@ together_text today known line day =
 abbrev pub own_money_text : ℤ → List ℕ
 own_money_text sum = phrase_text phrase.OwnWouldBe ++ (signed_text sum ++ phrase_text phrase.OwnStays)
 
-unfoldable pub reason_text : ℕ → Known → Records → Line → Reason → List ℕ
+unfoldable pub reason_text : ℕ → Known → Records → Line → UnmatchedReason → List ℕ
 reason_text today known records line reason.DatedAfter = phrase_text phrase.DatedAfter ++ day_text today
 reason_text today known records line reason.Doubled = doubled_text known records line
 reason_text today known records line reason.BesideBooked =

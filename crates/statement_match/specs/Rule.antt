@@ -9,8 +9,8 @@ use Rattle.statement_lines.specs.Held.{Held}
 use Rattle.statement_lines.specs.OpenLines.{is_claimed, is_open_fit, is_open_like}
 use Rattle.statement_lines.specs.Showing.{fits}
 use Rattle.statement_lines.specs.Waiting.{Waiting}
-use Rattle.statement_lines.specs.declared.outcome.Outcome.{Outcome}
-use Rattle.statement_lines.specs.declared.outcome.Outcome.TheVariants as outcome
+use Rattle.statement_lines.specs.declared.line_outcome.LineOutcome.{LineOutcome}
+use Rattle.statement_lines.specs.declared.line_outcome.LineOutcome.TheVariants as outcome
 pub use Rattle.statement_lines.specs.OpenLines.{is_open}
 
 -- 1. In the book already.
@@ -49,7 +49,7 @@ is_fitted_once today lines w = count_by (is_open_fit today w) lines == 1
 
 -- given an entry that an open line fits, the line is filled with it if no other open line fits the entry and no record
 -- has its reference
-abbrev pub filled_with : ℕ → Held → List Line → Option Waiting → Outcome
+abbrev pub filled_with : ℕ → Held → List Line → Option Waiting → LineOutcome
 filled_with today held lines None = outcome.Left
 filled_with today held lines (Some w) =
     if is_fitted_once today lines w && not (is_claimed lines w.reference)
@@ -58,7 +58,7 @@ filled_with today held lines (Some w) =
 
 -- an open line to which none of the earlier cases applies: it is filled if it fits exactly one entry, but left if the
 -- book has lines beside it
-unfoldable pub fill : ℕ → Held → List Line → Line → Outcome
+unfoldable pub fill : ℕ → Held → List Line → Line → LineOutcome
 fill today held lines line =
     if not (is_beside_booked held line) && count_by (fits today line) held.waiting == 1
     then filled_with today held lines (find (fits today line) held.waiting)
@@ -66,7 +66,7 @@ fill today held lines line =
 
 -- The outcome for a line: the first case that holds.
 
-unfoldable pub becomes : ℕ → Held → List Line → Line → Outcome
+unfoldable pub becomes : ℕ → Held → List Line → Line → LineOutcome
 becomes today held lines line =
     if not (is_open line) then outcome.AsItIs
     else if is_in_book held lines line then outcome.InBook
@@ -74,5 +74,5 @@ becomes today held lines line =
     else fill today held lines line
 
 -- the outcome for each line of a statement
-abbrev pub outcomes : ℕ → Held → List Line → List Outcome
+abbrev pub outcomes : ℕ → Held → List Line → List LineOutcome
 outcomes today held lines = map (becomes today held lines) lines

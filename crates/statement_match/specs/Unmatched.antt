@@ -9,13 +9,13 @@ use Rattle.firm_rows.specs.declared.ledger.FirmLine.{FirmLine}
 use Rattle.statement_lines.specs.Records.{Records}
 use Rattle.statement_lines.specs.Known.{Known}
 use Rattle.statement_lines.specs.Words.{further, words_part}
-use Rattle.statement_lines.specs.declared.outcome.Outcome.{Outcome}
-use Rattle.statement_lines.specs.declared.outcome.Outcome.TheVariants as outcome
+use Rattle.statement_lines.specs.declared.line_outcome.LineOutcome.{LineOutcome}
+use Rattle.statement_lines.specs.declared.line_outcome.LineOutcome.TheVariants as outcome
 use Rattle.statement_match.specs.Rule.{becomes, outcomes}
 use Rattle.statement_match.specs.OwnLines.{own_before}
 use Rattle.statement_match.specs.Reasons.{reason_for}
 use Rattle.statement_match.specs.ReasonTexts.{reason_text}
-use Rattle.statement_match.specs.declared.reason.Reason.{Reason}
+use Rattle.statement_match.specs.declared.reason.UnmatchedReason.{UnmatchedReason}
 
 pub record Unmatched : Type 0 where
   -- a line for each record that has to be looked at, in order, and the counts in the last line
@@ -41,7 +41,7 @@ unfoldable pub record_line : ℕ → Line → List ℕ → List ℕ
 record_line number line reason = line_head number line ++ (codes ": " ++ (reason ++ 10 ∷ []))
 
 -- the line for a record of this number, if it has to be looked at
-abbrev pub told_by : ℕ → Known → Records → ℕ → Line → Option Reason → List (List ℕ)
+abbrev pub told_by : ℕ → Known → Records → ℕ → Line → Option UnmatchedReason → List (List ℕ)
 told_by today known records number line None = []
 told_by today known records number line (Some why) =
     record_line number line (reason_text today known records line why) ∷ []
@@ -73,7 +73,7 @@ told today known own records = told_from today known own records 0 0 records.lin
 -- The counts.
 
 -- a record is written if it has a reference or is given one
-abbrev pub is_written : Outcome → Bool
+abbrev pub is_written : LineOutcome → Bool
 is_written outcome.AsItIs = true
 is_written outcome.InBook = false
 is_written outcome.Doubled = false
@@ -81,7 +81,7 @@ is_written (outcome.Filled reference) = true
 is_written outcome.Left = false
 
 -- a record is left out if it is in the book already
-abbrev pub is_left_out : Outcome → Bool
+abbrev pub is_left_out : LineOutcome → Bool
 is_left_out outcome.AsItIs = false
 is_left_out outcome.InBook = true
 is_left_out outcome.Doubled = false
@@ -89,7 +89,7 @@ is_left_out (outcome.Filled reference) = false
 is_left_out outcome.Left = false
 
 -- unreadable records are written unchanged
-abbrev pub written_count : Records → List Outcome → ℕ
+abbrev pub written_count : Records → List LineOutcome → ℕ
 written_count records os = (records.count - length records.lines) + count_by is_written os
 
 unfoldable pub counts_line : ℕ → ℕ → ℕ → List ℕ

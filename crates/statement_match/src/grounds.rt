@@ -15,7 +15,7 @@ ghost use Rattle.statement_match.specs.Misfits.{entry_of as entry_of_line};
 use crate::day_sums::{DaySum, day_of_sum};
 use crate::entry_index::EntryIndex;
 use statement_lines::{
-    BookEntry, Exceptions, Index, Known, Lookup, Mark, Records, Relation, StatementLine,
+    BookEntry, ExceptionIndex, Index, Known, Lookup, Mark, Records, Relation, StatementLine,
     WaitingEntry, line_at, line_count, number_of,
 };
 use std::alloc::{AllocError, Global};
@@ -23,7 +23,7 @@ use std::marker::Model;
 use trust_base::{Day, Line};
 
 /// A line, with the number of its record.
-pub(crate) type Numbered<'a> = (u64, &'a StatementLine);
+pub(crate) type NumberedLine<'a> = (u64, &'a StatementLine);
 
 /// What the reasons for the lines of a statement are based on: what is known of the book, and the records, looked up by
 /// what the reasons need.
@@ -35,9 +35,9 @@ pub(crate) struct Grounds<'a, 'b> {
     records: &'a Records,
     index: &'b Index<'a>,
     entries: EntryIndex<'a, 'b>,
-    exceptions: Exceptions<'a>,
-    numbered: &'b [Numbered<'a>],
-    amounts: Lookup<'b, Numbered<'a>>,
+    exceptions: ExceptionIndex<'a>,
+    numbered: &'b [NumberedLine<'a>],
+    amounts: Lookup<'b, NumberedLine<'a>>,
     sums: Vec<DaySum>,
 }
 
@@ -84,7 +84,7 @@ impl<'a, 'b, 'c> Model for LineGrounds<'a, 'b, 'c> {
 pub(crate) fn numbered_lines<'a>(
     alloc: Global,
     records: &'a Records,
-) -> Result<Vec<Numbered<'a>>, AllocError>
+) -> Result<Vec<NumberedLine<'a>>, AllocError>
     ensures { IfOk result (λ found. AreNumbered records.now found.items) }
 {
     let mut found = Vec::new(alloc);
@@ -113,7 +113,7 @@ impl<'a, 'b> Grounds<'a, 'b> {
         known: &'a Known,
         records: &'a Records,
         index: &'b Index<'a>,
-        numbered: &'b [Numbered<'a>],
+        numbered: &'b [NumberedLine<'a>],
         marks: &'b [Mark],
     ) -> Result<Grounds<'a, 'b>, AllocError>
         requires index { index.now ≡ record { held = known.now.held; lines = records.now.lines } }
@@ -121,7 +121,7 @@ impl<'a, 'b> Grounds<'a, 'b> {
         requires marks { marks.now ≡ marks_from 0 known.now.entries }
         ensures { IfOk result (λ grounds. grounds ≡ record { known = known.now; records = records.now }) }
     {
-        let exceptions = Exceptions::of(alloc, &known.exceptions)?;
+        let exceptions = ExceptionIndex::of(alloc, &known.exceptions)?;
         let amounts = Lookup::of(
             alloc,
             numbered,
@@ -181,7 +181,7 @@ impl<'a, 'b> Grounds<'a, 'b> {
     }
 
     // The lines whose amount is the entry's or its negative, each with its number.
-    fn lines_of_amount(&self, entry: &WaitingEntry) -> &[(u64, &'b Numbered<'a>)]
+    fn lines_of_amount(&self, entry: &WaitingEntry) -> &[(u64, &'b NumberedLine<'a>)]
         ensures { plain_pairs (elements result.now)
             ≡ filter (λ pair. amount_key pair.1 == waiting_key entry.now)
             (with_numbers self.now.records.numbers 0 self.now.records.lines) }
@@ -262,7 +262,7 @@ impl<'a, 'b, 'c> LineGrounds<'a, 'b, 'c> {
     }
 
     /// The lines whose amount is the entry's or its negative, each with its number.
-    pub(crate) fn lines_of_amount(&self, entry: &WaitingEntry) -> &[(u64, &'b Numbered<'a>)]
+    pub(crate) fn lines_of_amount(&self, entry: &WaitingEntry) -> &[(u64, &'b NumberedLine<'a>)]
         ensures { plain_pairs (elements result.now)
             ≡ filter (λ pair. amount_key pair.1 == waiting_key entry.now)
             (with_numbers self.now.records.numbers 0 self.now.records.lines) }

@@ -43,4 +43,4 @@ mod rule;
 mod unmatched;
 
 pub use matched::{Matched, match_statement};
-pub use statement_lines::{Booking, Held, Outcome, StatementLine, WaitingEntry};
+pub use statement_lines::{Booking, Held, LineOutcome, StatementLine, WaitingEntry};

@@ -12,7 +12,7 @@ use crate::knowing::known_in;
 use crate::rule::outcomes_by;
 use crate::unmatched::unmatched_of;
 use firm_rows::FirmLedger;
-use statement_lines::{Index, Known, Outcome, Records, records_in, write_statement};
+use statement_lines::{Index, Known, LineOutcome, Records, records_in, write_statement};
 use std::alloc::{AllocError, Global};
 use std::marker::Model;
 use trust_base::{Day, StoreFault};
@@ -45,7 +45,7 @@ impl Model for Matched {
 fn statement_of(
     alloc: Global,
     records: &Records,
-    outcomes: &[Outcome],
+    outcomes: &[LineOutcome],
     statement: &[u8],
 ) -> Result<Vec<u8>, AllocError>
     requires { records.now ≡ records_of statement.now }

@@ -4,7 +4,7 @@ ghost use Rattle.std.specs.Prelude.{◌≡◌, OnOk};
 ghost use Rattle.statement_match.specs.OwnLines.{is_own as is_own_line, own_misfit as own_misfit_told};
 ghost use Rattle.statement_match.specs.OwnLines.{own_reason as own_reason_told, own_with};
 
-use crate::reason::Reason;
+use crate::reason::UnmatchedReason;
 use firm_rows::{FirmLedger, FirmLine, Verdict, decide_firm_line};
 use std::alloc::AllocError;
 use trust_base::{Day, Line};
@@ -31,22 +31,22 @@ pub(crate) fn add_own(own: &mut FirmLedger, today: Day, line: &Line) -> Result<(
 }
 
 // Why an import would not apply a line of the firm's own.
-fn own_misfit(today: Day, own: &FirmLedger, line: &Line) -> Reason
+fn own_misfit(today: Day, own: &FirmLedger, line: &Line) -> UnmatchedReason
     ensures { result ≡ own_misfit_told today own.now line.now }
 {
     let amount = line.amount.get();
     if today.get() < line.date.get() {
-        return Reason::DatedAfter;
+        return UnmatchedReason::DatedAfter;
     }
     if amount == 0 {
-        return Reason::MovesNothing;
+        return UnmatchedReason::MovesNothing;
     }
-    Reason::OwnMoney(own.balance() + amount)
+    UnmatchedReason::OwnMoney(own.balance() + amount)
 }
 
 /// Why a line of the firm's own has to be looked at: an import would not apply it to this ledger.
 #[tactic(auto, unfolding(crate::specs::OwnLines::own_reason))]
-pub(crate) fn own_reason(today: Day, own: &FirmLedger, line: &Line) -> Option<Reason>
+pub(crate) fn own_reason(today: Day, own: &FirmLedger, line: &Line) -> Option<UnmatchedReason>
     ensures { result ≡ own_reason_told today own.now line.now }
 {
     match decide_firm_line(own, line, today) {

@@ -18,12 +18,12 @@ use crate::grounds::LineGrounds;
 use crate::own_lines::{is_own, own_reason};
 use crate::rule::is_beside_booked;
 use firm_rows::FirmLedger;
-use statement_lines::{BookEntry, Index, Outcome, Relation, StatementLine, WaitingEntry};
+use statement_lines::{BookEntry, Index, LineOutcome, Relation, StatementLine, WaitingEntry};
 use trust_base::{Day, EntryNo, Line, MatterNo};
 
 /// Why a record has to be looked at.
 #[derive(Clone, Copy)]
-pub(crate) enum Reason {
+pub(crate) enum UnmatchedReason {
     /// It was imported under references, and is an exception under them.
     IsException,
     /// It is dated after the business day.
@@ -175,70 +175,71 @@ fn is_exception(grounds: &LineGrounds) -> bool
     0 < count_exceptions(grounds)
 }
 
-fn is_doubled(outcome: &Outcome) -> bool
+fn is_doubled(outcome: &LineOutcome) -> bool
     ensures { result ≡ is_doubled_outcome outcome.now }
 {
     match outcome {
-        Outcome::Doubled => true,
-        Outcome::AsItIs | Outcome::InBook | Outcome::Filled(_) | Outcome::Left => false,
+        LineOutcome::Doubled => true,
+        LineOutcome::AsItIs | LineOutcome::InBook | LineOutcome::Filled(_) | LineOutcome::Left =>
+            false,
     }
 }
 
 // Why a line that fits no entry is left, according to its words and the entries of the book.
 #[tactic(auto, unfolding(crate::specs::Reasons::entry_reason))]
-fn entry_reason(today: Day, grounds: &LineGrounds) -> Reason
+fn entry_reason(today: Day, grounds: &LineGrounds) -> UnmatchedReason
     ensures { result ≡ entry_reason_told today grounds.now.known grounds.now.line }
 {
     if grounds.line().is_of_other_business() {
-        return Reason::OtherBusiness;
+        return UnmatchedReason::OtherBusiness;
     }
     if is_related(Relation::NotWaiting, today, grounds) {
-        return Reason::Related(Relation::NotWaiting);
+        return UnmatchedReason::Related(Relation::NotWaiting);
     }
     if is_related(Relation::IssuedAfter, today, grounds) {
-        return Reason::Related(Relation::IssuedAfter);
+        return UnmatchedReason::Related(Relation::IssuedAfter);
     }
     if is_related(Relation::OfAnotherAmount, today, grounds) {
-        return Reason::Related(Relation::OfAnotherAmount);
+        return UnmatchedReason::Related(Relation::OfAnotherAmount);
     }
     if is_related(Relation::OfItsAmount, today, grounds) {
-        return Reason::Related(Relation::OfItsAmount);
+        return UnmatchedReason::Related(Relation::OfItsAmount);
     }
     if is_related(Relation::MaybeReturned, today, grounds) {
-        return Reason::Related(Relation::MaybeReturned);
+        return UnmatchedReason::Related(Relation::MaybeReturned);
     }
     match grounds.first_day() {
-        Some(day) => Reason::Together(day),
-        None => Reason::NoneOfItsAmount,
+        Some(day) => UnmatchedReason::Together(day),
+        None => UnmatchedReason::NoneOfItsAmount,
     }
 }
 
 // Why a line is left.
 #[tactic(auto, unfolding(crate::specs::Reasons::left_reason))]
-fn left_reason(today: Day, grounds: &LineGrounds, outcome: &Outcome) -> Reason
+fn left_reason(today: Day, grounds: &LineGrounds, outcome: &LineOutcome) -> UnmatchedReason
     ensures { result ≡ left_reason_told today grounds.now.known grounds.now.records.lines grounds.now.line outcome.now }
 {
     let line = grounds.line().line();
     if is_exception(grounds) {
-        return Reason::IsException;
+        return UnmatchedReason::IsException;
     }
     if today.get() < line.date.get() {
-        return Reason::DatedAfter;
+        return UnmatchedReason::DatedAfter;
     }
     if is_doubled(outcome) {
-        return Reason::Doubled;
+        return UnmatchedReason::Doubled;
     }
     if is_beside_booked(grounds.index(), line) {
-        return Reason::BesideBooked;
+        return UnmatchedReason::BesideBooked;
     }
     if 1 < count_related(Relation::Fitted, today, grounds) {
-        return Reason::FitsSeveral;
+        return UnmatchedReason::FitsSeveral;
     }
     if is_claimed_fit(today, grounds) {
-        return Reason::Claimed;
+        return UnmatchedReason::Claimed;
     }
     if is_shared_fit(today, grounds) {
-        return Reason::Shared;
+        return UnmatchedReason::Shared;
     }
     entry_reason(today, grounds)
 }
@@ -259,7 +260,7 @@ pub(crate) fn names_entry(reference: &[u8]) -> bool
 
 // Why a line with a reference has to be looked at.
 #[tactic(auto, unfolding(crate::specs::Reasons::named_reason))]
-fn named_reason(today: Day, grounds: &LineGrounds) -> Option<Reason>
+fn named_reason(today: Day, grounds: &LineGrounds) -> Option<UnmatchedReason>
     ensures { result ≡ named_reason_told today grounds.now.known grounds.now.line }
 {
     let line = grounds.line().line();
@@ -267,19 +268,19 @@ fn named_reason(today: Day, grounds: &LineGrounds) -> Option<Reason>
         return None;
     }
     if today.get() < line.date.get() {
-        return Some(Reason::DatedAfter);
+        return Some(UnmatchedReason::DatedAfter);
     }
     if !is_related(Relation::Named, today, grounds) {
-        return Some(Reason::NamesNone);
+        return Some(UnmatchedReason::NamesNone);
     }
     if is_related(Relation::NamedOfAnotherAmount, today, grounds) {
-        return Some(Reason::Related(Relation::NamedOfAnotherAmount));
+        return Some(UnmatchedReason::Related(Relation::NamedOfAnotherAmount));
     }
     None
 }
 
 // Why a line with a reference has to be looked at. `own` is the firm's own ledger as it is then.
-fn kept_reason(today: Day, grounds: &LineGrounds, own: &FirmLedger) -> Option<Reason>
+fn kept_reason(today: Day, grounds: &LineGrounds, own: &FirmLedger) -> Option<UnmatchedReason>
     ensures { result ≡ kept_reason_told today grounds.now.known own.now grounds.now.line }
 {
     let line = grounds.line().line();
@@ -296,14 +297,14 @@ pub(crate) fn reason_for(
     today: Day,
     grounds: &LineGrounds,
     own: &FirmLedger,
-    outcome: &Outcome,
-) -> Option<Reason>
+    outcome: &LineOutcome,
+) -> Option<UnmatchedReason>
     ensures { result
         ≡ reason_told today grounds.now.known own.now grounds.now.records.lines grounds.now.line outcome.now }
 {
     match outcome {
-        Outcome::AsItIs => kept_reason(today, grounds, own),
-        Outcome::InBook | Outcome::Filled(_) => None,
-        Outcome::Doubled | Outcome::Left => Some(left_reason(today, grounds, outcome)),
+        LineOutcome::AsItIs => kept_reason(today, grounds, own),
+        LineOutcome::InBook | LineOutcome::Filled(_) => None,
+        LineOutcome::Doubled | LineOutcome::Left => Some(left_reason(today, grounds, outcome)),
     }
 }

@@ -21,10 +21,10 @@ ghost use Rattle.statement_match.specs.ReasonTexts.{related_entry_text, related_
 ghost use Rattle.statement_match.specs.ReasonTexts.{return_part, several_text, shared_part, state_text, state_word};
 ghost use Rattle.statement_match.specs.ReasonTexts.{states_text, text_if, together_text, words_of};
 
-use crate::grounds::{LineGrounds, Numbered};
+use crate::grounds::{LineGrounds, NumberedLine};
 use crate::misfit::{Misfit, misfit_of};
 use crate::phrase::{Phrase, push_phrase};
-use crate::reason::{Reason, count_exceptions, count_related, fitted, is_related};
+use crate::reason::{UnmatchedReason, count_exceptions, count_related, fitted, is_related};
 use crate::rule::{booked_like, count_open_like};
 use byte_streams::OwnedBytes;
 use itoa::Buffer;
@@ -264,7 +264,7 @@ fn fit_numbers_among(
     alloc: Global,
     today: Day,
     entry: &WaitingEntry,
-    found: &[(u64, &Numbered)],
+    found: &[(u64, &NumberedLine)],
 ) -> Result<Vec<u64>, AllocError>
     ensures { IfOk result (λ numbers. numbers.items
         ≡ map (λ e. e.1.now.0) (filter (λ e. is_open_fit today entry.now e.1.now.1.now) found.now)) }
@@ -649,37 +649,37 @@ pub(crate) fn push_reason(
     out: &mut Vec<u8>,
     today: Day,
     grounds: &LineGrounds,
-    reason: Reason,
+    reason: UnmatchedReason,
 ) -> Result<(), AllocError>
     ensures { OnOk result (out.new.items ≡ out.old.items
         ++ reason_text today grounds.now.known grounds.now.records grounds.now.line reason) }
 {
     match reason {
-        Reason::DatedAfter => {
+        UnmatchedReason::DatedAfter => {
             push_phrase(out, Phrase::DatedAfter)?;
             today.write_to(out)
         }
-        Reason::IsException => push_exceptions(out, today, grounds),
-        Reason::Doubled => push_doubled(out, grounds),
-        Reason::BesideBooked => { push_phrase(out, Phrase::BesideBooked) }
-        Reason::FitsSeveral => push_several(out, today, grounds),
-        Reason::Claimed => push_claimed(out, today, grounds),
-        Reason::Shared => {
+        UnmatchedReason::IsException => push_exceptions(out, today, grounds),
+        UnmatchedReason::Doubled => push_doubled(out, grounds),
+        UnmatchedReason::BesideBooked => { push_phrase(out, Phrase::BesideBooked) }
+        UnmatchedReason::FitsSeveral => push_several(out, today, grounds),
+        UnmatchedReason::Claimed => push_claimed(out, today, grounds),
+        UnmatchedReason::Shared => {
             push_phrase(out, Phrase::Records)?;
             push_shared(out, today, grounds)
         }
-        Reason::OtherBusiness => {
+        UnmatchedReason::OtherBusiness => {
             push_phrase(out, Phrase::OtherBusiness)?;
             push_return(out, today, grounds)
         }
-        Reason::Related(relation) => {
+        UnmatchedReason::Related(relation) => {
             push_words(out, words(relation))?;
             push_related(out, relation, today, grounds)
         }
-        Reason::NoneOfItsAmount => push_phrase(out, Phrase::NoneOfItsAmount),
-        Reason::Together(day) => push_together(out, today, grounds, day),
-        Reason::OwnMoney(sum) => push_own_money(out, sum),
-        Reason::MovesNothing => push_phrase(out, Phrase::MovesNothing),
-        Reason::NamesNone => push_phrase(out, Phrase::NamesNone),
+        UnmatchedReason::NoneOfItsAmount => push_phrase(out, Phrase::NoneOfItsAmount),
+        UnmatchedReason::Together(day) => push_together(out, today, grounds, day),
+        UnmatchedReason::OwnMoney(sum) => push_own_money(out, sum),
+        UnmatchedReason::MovesNothing => push_phrase(out, Phrase::MovesNothing),
+        UnmatchedReason::NamesNone => push_phrase(out, Phrase::NamesNone),
     }
 }

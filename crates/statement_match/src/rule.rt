@@ -11,7 +11,7 @@ ghost use Rattle.statement_match.specs.Rule.{is_booked_in_parts as is_split_line
 ghost use Rattle.statement_match.specs.Rule.{is_fitted_once as is_entry_fitted_once, is_in_book as is_booked_already};
 ghost use Rattle.statement_match.specs.Rule.{outcomes};
 
-use statement_lines::{Booking, Index, Outcome, StatementLine, WaitingEntry};
+use statement_lines::{Booking, Index, LineOutcome, StatementLine, WaitingEntry};
 use std::alloc::{AllocError, Global};
 use trust_base::{Day, Line};
 
@@ -233,16 +233,16 @@ fn is_fitted_once(today: Day, index: &Index, entry: &WaitingEntry) -> bool
 
 // Fills a line, or leaves it.
 #[tactic(auto, unfolding(crate::specs::Rule::fill))]
-fn fill_of(today: Day, index: &Index, line: &StatementLine) -> Result<Outcome, AllocError>
+fn fill_of(today: Day, index: &Index, line: &StatementLine) -> Result<LineOutcome, AllocError>
     ensures { IfOk result (λ outcome. outcome ≡ fill today index.now.held index.now.lines line.now) }
 {
     if is_beside_booked(index, line.line()) || !fits_one(today, index, line) {
-        return Ok(Outcome::Left);
+        return Ok(LineOutcome::Left);
     }
     match first_fit(today, index, line) {
         Some(entry) if is_fitted_once(today, index, entry) && !index.is_claimed(&entry.reference) =>
-            { Ok(Outcome::Filled(entry.reference.copied()?)) }
-        _ => Ok(Outcome::Left),
+            { Ok(LineOutcome::Filled(entry.reference.copied()?)) }
+        _ => Ok(LineOutcome::Left),
     }
 }
 
@@ -252,17 +252,17 @@ pub(crate) fn outcome_of(
     today: Day,
     index: &Index,
     line: &StatementLine,
-) -> Result<Outcome, AllocError>
+) -> Result<LineOutcome, AllocError>
     ensures { IfOk result (λ outcome. outcome ≡ becomes today index.now.held index.now.lines line.now) }
 {
     if !line.is_open() {
-        return Ok(Outcome::AsItIs);
+        return Ok(LineOutcome::AsItIs);
     }
     if is_in_book(index, line) {
-        return Ok(Outcome::InBook);
+        return Ok(LineOutcome::InBook);
     }
     if is_doubled(index, line) {
-        return Ok(Outcome::Doubled);
+        return Ok(LineOutcome::Doubled);
     }
     fill_of(today, index, line)
 }
@@ -272,7 +272,7 @@ pub(crate) fn outcomes_by(
     alloc: Global,
     today: Day,
     index: &Index,
-) -> Result<Vec<Outcome>, AllocError>
+) -> Result<Vec<LineOutcome>, AllocError>
     ensures { IfOk result (λ found. found.items ≡ outcomes today index.now.held index.now.lines) }
 {
     let mut found = Vec::new(alloc);

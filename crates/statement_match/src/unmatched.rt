@@ -14,12 +14,12 @@ ghost use Rattle.statement_match.specs.Unmatched.{written_count};
 
 use crate::grounds::{Grounds, LineGrounds, numbered_lines};
 use crate::own_lines::add_own;
-use crate::reason::{Reason, reason_for};
+use crate::reason::{UnmatchedReason, reason_for};
 use crate::reason_text::{push_amount, push_number, push_reason, push_words};
 use byte_streams::OwnedBytes;
 use firm_rows::FirmLedger;
 use statement_lines::{
-    Index, Known, Outcome, Records, StatementLine, line_at, line_count, marks_of, number_of,
+    Index, Known, LineOutcome, Records, StatementLine, line_at, line_count, marks_of, number_of,
     push_line_words,
 };
 use std::alloc::{AllocError, Global};
@@ -83,7 +83,7 @@ fn record_line(
     today: Day,
     number: u64,
     grounds: &LineGrounds,
-    reason: Reason,
+    reason: UnmatchedReason,
 ) -> Result<OwnedBytes, AllocError>
     ensures { IfOk result (λ text. text ≡ line_of_record number grounds.now.line
         (reason_text today grounds.now.known grounds.now.records grounds.now.line reason)) }
@@ -117,7 +117,7 @@ fn add_line(
     own: &FirmLedger,
     number: u64,
     line: &StatementLine,
-    outcome: &Outcome,
+    outcome: &LineOutcome,
 ) -> Result<(), AllocError>
     ensures { OnOk result (lines.new.items ≡ lines.old.items
         ++ told_by today grounds.now.known grounds.now.records number line.now
@@ -141,7 +141,7 @@ fn add_record(
     before: u64,
     number: u64,
     line: &StatementLine,
-    outcome: &Outcome,
+    outcome: &LineOutcome,
 ) -> Result<(), AllocError>
     ensures { OnOk result (lines.new.items ≡ (lines.old.items ++ told_unreadable before (number - 1 - before))
         ++ told_by today grounds.now.known grounds.now.records number line.now
@@ -160,7 +160,7 @@ fn lines_told(
     records: &Records,
     grounds: &Grounds,
     ledger: FirmLedger,
-    outcomes: &[Outcome],
+    outcomes: &[LineOutcome],
 ) -> Result<Vec<OwnedBytes>, AllocError>
     requires same { grounds.now.records ≡ records.now }
     requires outcomes { outcomes.now ≡ outcomes_told today grounds.now.known.held records.now.lines }
@@ -184,25 +184,26 @@ fn lines_told(
     Ok(lines)
 }
 
-fn is_written(outcome: &Outcome) -> bool
+fn is_written(outcome: &LineOutcome) -> bool
     ensures { result ≡ is_written_outcome outcome.now }
 {
     match outcome {
-        Outcome::AsItIs | Outcome::Filled(_) => true,
-        Outcome::InBook | Outcome::Doubled | Outcome::Left => false,
+        LineOutcome::AsItIs | LineOutcome::Filled(_) => true,
+        LineOutcome::InBook | LineOutcome::Doubled | LineOutcome::Left => false,
     }
 }
 
-fn is_left_out(outcome: &Outcome) -> bool
+fn is_left_out(outcome: &LineOutcome) -> bool
     ensures { result ≡ is_left_out_outcome outcome.now }
 {
     match outcome {
-        Outcome::InBook => true,
-        Outcome::AsItIs | Outcome::Doubled | Outcome::Filled(_) | Outcome::Left => false,
+        LineOutcome::InBook => true,
+        LineOutcome::AsItIs | LineOutcome::Doubled | LineOutcome::Filled(_) | LineOutcome::Left =>
+            false,
     }
 }
 
-fn count_written(outcomes: &[Outcome]) -> usize
+fn count_written(outcomes: &[LineOutcome]) -> usize
     ensures is { result ≡ count_by is_written_outcome outcomes.now }
     ensures bound { result ≤ length outcomes.now }
 {
@@ -212,7 +213,7 @@ fn count_written(outcomes: &[Outcome]) -> usize
         .count()
 }
 
-fn count_left_out(outcomes: &[Outcome]) -> usize
+fn count_left_out(outcomes: &[LineOutcome]) -> usize
     ensures { result ≡ count_by is_left_out_outcome outcomes.now }
 {
     outcomes
@@ -222,7 +223,7 @@ fn count_left_out(outcomes: &[Outcome]) -> usize
 }
 
 // How many records are written.
-fn written_of(records: &Records, outcomes: &[Outcome]) -> u64
+fn written_of(records: &Records, outcomes: &[LineOutcome]) -> u64
     requires { length outcomes.now ≡ length records.now.lines }
     ensures { result ≡ written_count records.now outcomes.now }
 {
@@ -264,7 +265,7 @@ fn lines_by<'a>(
     own: FirmLedger,
     records: &'a Records,
     index: Index<'a>,
-    outcomes: &[Outcome],
+    outcomes: &[LineOutcome],
 ) -> Result<Vec<OwnedBytes>, AllocError>
     requires index { index ≡ record { held = known.now.held; lines = records.now.lines } }
     requires outcomes { outcomes.now ≡ outcomes_told today known.now.held records.now.lines }
@@ -286,7 +287,7 @@ pub(crate) fn unmatched_of<'a>(
     own: FirmLedger,
     records: &'a Records,
     index: Index<'a>,
-    outcomes: &[Outcome],
+    outcomes: &[LineOutcome],
 ) -> Result<Unmatched, AllocError>
     requires index { index ≡ record { held = known.now.held; lines = records.now.lines } }
     requires outcomes { outcomes.now ≡ outcomes_told today known.now.held records.now.lines }

@@ -5,7 +5,7 @@ use Rattle.trust_base.specs.Limits.{IsEntryNo, IsMatterNo}
 use Rattle.statement_csv.specs.References.{entry_named, owner_by, owner_of, reference_text}
 use Rattle.statement_csv.specs.declared.item.Item.TheVariants as item
 use Rattle.statement_csv.proofs.NamedFacts.{named-found, named-text}
-use Rattle.statement_lines.specs.declared.outcome.Outcome.TheVariants as outcome
+use Rattle.statement_lines.specs.declared.line_outcome.LineOutcome.TheVariants as outcome
 use Rattle.statement_match.proofs.Writing.{written_is_filled}
 use Rattle.statement_match.specs.Rule.{becomes}
 use Rattle.trust_desk.specs.declared.importing.Counted.TheVariants as counted

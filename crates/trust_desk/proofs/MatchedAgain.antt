@@ -12,7 +12,7 @@ use Rattle.statement_lines.specs.declared.booking.Booking.{Booking}
 use Rattle.statement_match.proofs.Again.{filled_is_booked}
 use Rattle.statement_match.proofs.Writing.{written_is_filled}
 use Rattle.statement_match.specs.Rule.{becomes}
-use Rattle.statement_lines.specs.declared.outcome.Outcome.TheVariants as outcome
+use Rattle.statement_lines.specs.declared.line_outcome.LineOutcome.TheVariants as outcome
 use Rattle.trust_desk.proofs.Awaiting.{line_unpurged, open_unpurged}
 use Rattle.trust_desk.proofs.LineFacts.{repeat-later}
 use Rattle.trust_desk.proofs.Once.{was-applied}

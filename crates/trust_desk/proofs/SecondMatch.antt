@@ -6,7 +6,7 @@ use Rattle.matter_parts.specs.declared.edit.Edit.TheVariants as edit
 use Rattle.trust_matter.specs.declared.line_verdict.LineEffect.TheVariants as told
 use Rattle.statement_csv.specs.declared.item.Item.TheVariants as item
 use Rattle.statement_match.specs.Rule.{becomes, is_beside_booked}
-use Rattle.statement_lines.specs.declared.outcome.Outcome.TheVariants as outcome
+use Rattle.statement_lines.specs.declared.line_outcome.LineOutcome.TheVariants as outcome
 use Rattle.statement_match.proofs.Unfilled.{fits_none, sure_before}
 use Rattle.statement_match.proofs.Writing.{written_is_filled}
 use Rattle.trust_desk.proofs.AlwaysCovered.{sound-after_items}

@@ -10,7 +10,7 @@ use Rattle.statement_match.specs.Books.{held_of}
 use Rattle.statement_match.specs.FirmLaws.{HasMatterNumbers}
 use Rattle.statement_match.specs.Laws.{written, written_as}
 use Rattle.statement_match.specs.Rule.{becomes, is_open}
-use Rattle.statement_lines.specs.declared.outcome.Outcome.TheVariants as outcome
+use Rattle.statement_lines.specs.declared.line_outcome.LineOutcome.TheVariants as outcome
 use Rattle.trust_desk.specs.declared.importing.Counted.TheVariants as counted
 use Rattle.trust_desk.specs.ItemStep.{after_items, counted_of}
 

@@ -1,5 +1,5 @@
 use Rattle.statement_match.proofs.Names.{length, arith, ints, nat_tests}
-use Rattle.statement_match.proofs.Numbered.{numbered_done, numbered_more}
+use Rattle.statement_match.proofs.NumberedLines.{numbered_done, numbered_more}
 use Rattle.statement_match.proofs.grounds.numbered_lines.Goals as goal
 
 pub loop-place-preserved : goal.loop-place-preserved

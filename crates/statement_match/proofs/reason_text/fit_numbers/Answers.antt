@@ -1,5 +1,5 @@
 use Rattle.statement_match.proofs.Names.{◌∙◌}
-use Rattle.statement_match.proofs.Numbered.{fit_found}
+use Rattle.statement_match.proofs.NumberedLines.{fit_found}
 use Rattle.statement_match.proofs.reason_text.fit_numbers.Goals as goal
 
 pub returns : goal.returns

@@ -1,5 +1,5 @@
 use Rattle.statement_match.proofs.Names.{◌≡◌, ◌∙◌, ap, rules, refl, waiting_key, elements, plain_pairs}
-use Rattle.statement_match.proofs.Numbered.{pairs_found}
+use Rattle.statement_match.proofs.NumberedLines.{pairs_found}
 use Rattle.statement_match.proofs.grounds.Grounds.lines_of_amount.Goals as goal
 
 pub returns : goal.returns

@@ -1,7 +1,7 @@
 use Rattle.statement_lines.proofs.Names.{◌≡◌, ◌==◌, refl, filter, line_key, elements, is_named_like}
 use Rattle.statement_lines.proofs.Alike.{named_like_narrows}
 use Rattle.statement_lines.proofs.Found.{filtered}
-use Rattle.statement_lines.proofs.exceptions.Exceptions.like.Goals as goal
+use Rattle.statement_lines.proofs.exception_index.ExceptionIndex.like.Goals as goal
 
 pub returns : goal.returns
 returns c =

@@ -4,7 +4,7 @@ use trust_base::BankText;
 
 /// The outcome for a line of a statement.
 #[derive(Drop)]
-pub enum Outcome {
+pub enum LineOutcome {
     /// It has a reference, and is written unchanged.
     AsItIs,
     /// It has no reference, and is in the book already. It is left out.

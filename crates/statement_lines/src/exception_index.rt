@@ -16,12 +16,12 @@ use trust_base::Line;
 ///
 /// Contracts see it as the list of the exceptions.
 #[derive(Drop)]
-pub struct Exceptions<'a> {
+pub struct ExceptionIndex<'a> {
     all: &'a [Line],
     found: Lookup<'a, Line>,
 }
 
-impl<'a> Model for Exceptions<'a> {
+impl<'a> Model for ExceptionIndex<'a> {
     ghost use Rattle.std.specs.Prelude.{List};
     ghost use Rattle.trust_base.specs.declared.line.Line.{Line};
     ghost use Rattle.statement_lines.specs.Keys.{line_key};
@@ -34,13 +34,13 @@ impl<'a> Model for Exceptions<'a> {
     ghost invariant = { λ e. IsLookup line_key e.all.now e.found.sorted.items };
 }
 
-impl<'a> Exceptions<'a> {
+impl<'a> ExceptionIndex<'a> {
     /// Makes the index from the list of exceptions. The only error is out of memory.
-    pub fn of(alloc: Global, all: &'a [Line]) -> Result<Exceptions<'a>, AllocError>
+    pub fn of(alloc: Global, all: &'a [Line]) -> Result<ExceptionIndex<'a>, AllocError>
         ensures { IfOk result (λ exceptions. exceptions ≡ all.now) }
     {
         let found = Lookup::of(alloc, all, |line| line_key(line))?;
-        Ok(Exceptions { all, found })
+        Ok(ExceptionIndex { all, found })
     }
 
     /// The exceptions that may be the line with a reference. They include all that are, in their order.
