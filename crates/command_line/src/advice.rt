@@ -1,7 +1,8 @@
 // The advice that is printed for words that mean nothing.
 
-ghost use Rattle.std.specs.Prelude.{◌≡◌, ◌⊎◌, IfNone, IfSome, Some};
+ghost use Rattle.std.specs.Prelude.{◌≡◌, ◌≢◌, ◌⊎◌, IfNone, IfSome, Some};
 ghost use Rattle.command_line.specs.Advice.{advice_text, command_example, command_text, command_usage, wrong_text};
+ghost use Rattle.command_line.specs.declared.advice.CommandName.{CommandName};
 
 use std::fmt;
 
@@ -98,7 +99,8 @@ pub struct Advice<'a> {
 
 /// Returns the command with this name.
 pub fn command_called(name: &str) -> Option<CommandName>
-    ensures { IfSome result (λ command. name.now ≡ command_text command) }
+    ensures some { IfSome result (λ command. name.now ≡ command_text command) }
+    ensures none { IfNone result ((command : CommandName) → name.now ≢ command_text command) }
 {
     match name {
         "sheet" => Some(CommandName::Sheet),

@@ -2,15 +2,18 @@
 
 ghost use Rattle.std.specs.Prelude.{◌≡◌, ℕ, false, IfErr, IfOk, IfSome, IfNone, codes, option_and_then, option_map};
 ghost use Rattle.std.specs.Str.{bytes_eq};
-ghost use Rattle.clap.specs.Words.{app_of, first_of, found_of, kind_of, rows_of};
+ghost use Rattle.clap.specs.Words.{app_of, first_of, found_of, kind_of, rows_of, with_rule};
 ghost use Rattle.clap.specs.declared.builder.command.Command.TheViews.{out-Command};
 ghost use Rattle.trust_base.specs.Texts.{day_of};
+ghost use Rattle.command_line.specs.Commands.{IsTaskOf, day_report_command, option_rule, period_report_command};
 ghost use Rattle.command_line.specs.Numerals.{IsCount, IsNumberBetween, IsPort};
 ghost use Rattle.trust_base.specs.Periods.{Span};
 ghost use Rattle.command_line.specs.Program.{IsParse, IsPeriodGiven, IsRefused, IsTask, LeavesNoPlan, Means};
-ghost use Rattle.command_line.specs.Program.{apps_of, command_app, db_of, fault_by, quiet_of, with_commands, words_of};
+ghost use Rattle.command_line.specs.Program.{apps_of, command_app, db_of, fault_by, program, quiet_of};
+ghost use Rattle.command_line.specs.Program.{with_commands, words_of};
 ghost use Rattle.command_line.specs.declared.command.Task.{Task};
 
+use crate::advice::{CommandName, command_called};
 use clap::error::{Error, ErrorKind};
 use clap::{Arg, ArgAction, ArgMatches, Command};
 use itoa::Buffer;
@@ -164,61 +167,101 @@ pub fn is_firm(text: &str) -> bool
     text == "FIRM"
 }
 
-// Returns the task of a command, given by its name and its values.
+// Returns the task of printing a report as of the operand DAY; `None` without it, or if it is not a day.
 #[tactic(auto, using(crate::proofs::Values::values_read))]
-fn task_of<'a>(name: &str, values: &ArgMatches<'a>) -> Option<Task<'a>>
+fn day_report<'a>(report: DayReport, values: &ArgMatches<'a>) -> Option<Task<'a>>
+    ensures some { IfSome result (IsTaskOf (day_report_command report) (rows_of (found_of values.now))) }
+    ensures none { IfNone result
+        ((task : Task) → ¬ IsTaskOf (day_report_command report) (rows_of (found_of values.now)) task) }
+{
+    let day = day_operand(values, "DAY")?;
+    Some(Task::Report(ReportCommand::AsOf(report, day)))
+}
+
+// Returns the task of printing a report of the period of the operands FROM and TO; `None` if they give none.
+fn period_report<'a>(report: PeriodReport, values: &ArgMatches<'a>) -> Option<Task<'a>>
+    ensures some { IfSome result (IsTaskOf (period_report_command report) (rows_of (found_of values.now))) }
+    ensures none { IfNone result
+        ((task : Task) → ¬ IsTaskOf (period_report_command report) (rows_of (found_of values.now)) task) }
+{
+    let period = period_operand(values)?;
+    Some(Task::Report(ReportCommand::Within(report, period)))
+}
+
+// Returns the task of serving connections at the operand PORT, as many as the operand COUNT says.
+#[tactic(auto, using(crate::proofs::Values::values_read))]
+fn serving<'a>(values: &ArgMatches<'a>) -> Option<Task<'a>>
+    ensures some { IfSome result (IsTaskOf CommandName.Serve (rows_of (found_of values.now))) }
+    ensures none { IfNone result ((task : Task) → ¬ IsTaskOf CommandName.Serve (rows_of (found_of values.now)) task) }
+{
+    Some(Task::Serve {
+        port: port_of(values.get_str("PORT")?)?,
+        count: count_of(values.get_str("COUNT")?)?,
+    })
+}
+
+// Returns the task of printing the ledger card of the operand MATTER, which may be the firm's own.
+#[tactic(auto, using(crate::proofs::Values::values_read))]
+fn ledger_card<'a>(values: &ArgMatches<'a>) -> Option<Task<'a>>
+    ensures some { IfSome result (IsTaskOf CommandName.Ledger (rows_of (found_of values.now))) }
+    ensures none { IfNone result ((task : Task) → ¬ IsTaskOf CommandName.Ledger (rows_of (found_of values.now)) task) }
+{
+    let card = values.get_str("MATTER")?;
+    if is_firm(card) {
+        return Some(Task::Report(ReportCommand::Firm(Report::OwnLedger)));
+    }
+    Some(Task::Report(ReportCommand::Ledger(MatterNo::read(card.as_bytes())?)))
+}
+
+// Returns the task of printing the statement of account of the operand MATTER for the period of FROM and TO.
+#[tactic(auto, using(crate::proofs::Values::values_read))]
+fn account<'a>(values: &ArgMatches<'a>) -> Option<Task<'a>>
+    ensures some { IfSome result (IsTaskOf CommandName.Account (rows_of (found_of values.now))) }
+    ensures none { IfNone result ((task : Task) → ¬ IsTaskOf CommandName.Account (rows_of (found_of values.now)) task) }
+{
+    let no = MatterNo::read(values.get_str("MATTER")?.as_bytes())?;
+    let period = period_operand(values)?;
+    Some(Task::Report(ReportCommand::Account(no, period)))
+}
+
+// Returns the task of a command with these values.
+#[tactic(auto, using(crate::proofs::Values::values_read))]
+fn task_of<'a>(command: CommandName, values: &ArgMatches<'a>) -> Option<Task<'a>>
+    ensures some { IfSome result (IsTaskOf command (rows_of (found_of values.now))) }
+    ensures none { IfNone result ((task : Task) → ¬ IsTaskOf command (rows_of (found_of values.now)) task) }
+{
+    match command {
+        CommandName::Sheet => Some(Task::Sheet),
+        CommandName::Import => Some(Task::Import(values.get_str("FILE")?)),
+        CommandName::Match => Some(Task::Match(values.get_str("FILE")?)),
+        CommandName::Stream => Some(Task::Stream),
+        CommandName::Serve => serving(values),
+        CommandName::Check => Some(Task::Check),
+        CommandName::Reconcile => {
+            let day = day_operand(values, "DAY")?;
+            Some(Task::Report(ReportCommand::Reconcile(day)))
+        }
+        CommandName::Clients => day_report(DayReport::Clients, values),
+        CommandName::Outstanding => day_report(DayReport::Outstanding, values),
+        CommandName::Receipts => period_report(PeriodReport::Receipts, values),
+        CommandName::Disbursements => period_report(PeriodReport::Disbursements, values),
+        CommandName::Month => day_report(DayReport::Month, values),
+        CommandName::Trial => Some(Task::Report(ReportCommand::Firm(Report::Trial))),
+        CommandName::Journal => Some(Task::Report(ReportCommand::Firm(Report::Journal))),
+        CommandName::Retention => Some(Task::Report(ReportCommand::Firm(Report::Retention))),
+        CommandName::Exceptions => Some(Task::Report(ReportCommand::Firm(Report::Exceptions))),
+        CommandName::Ledger => ledger_card(values),
+        CommandName::Account => account(values),
+    }
+}
+
+// Returns the task of a command, given by its name and its values.
+fn task_called<'a>(name: &str, values: &ArgMatches<'a>) -> Option<Task<'a>>
     ensures some { IfSome result (IsTask name.now (rows_of (found_of values.now))) }
     ensures none { IfNone result ((task : Task) → ¬ IsTask name.now (rows_of (found_of values.now)) task) }
 {
-    match name {
-        "sheet" => Some(Task::Sheet),
-        "import" => Some(Task::Import(values.get_str("FILE")?)),
-        "match" => Some(Task::Match(values.get_str("FILE")?)),
-        "stream" => Some(Task::Stream),
-        "serve" => Some(Task::Serve {
-            port: port_of(values.get_str("PORT")?)?,
-            count: count_of(values.get_str("COUNT")?)?,
-        }),
-        "check" => Some(Task::Check),
-        "reconcile" => Some(Task::Report(ReportCommand::Reconcile(day_operand(values, "DAY")?))),
-        "clients" => {
-            let day = day_operand(values, "DAY")?;
-            Some(Task::Report(ReportCommand::AsOf(DayReport::Clients, day)))
-        }
-        "outstanding" => {
-            let day = day_operand(values, "DAY")?;
-            Some(Task::Report(ReportCommand::AsOf(DayReport::Outstanding, day)))
-        }
-        "receipts" => {
-            let period = period_operand(values)?;
-            Some(Task::Report(ReportCommand::Within(PeriodReport::Receipts, period)))
-        }
-        "disbursements" => {
-            let period = period_operand(values)?;
-            Some(Task::Report(ReportCommand::Within(PeriodReport::Disbursements, period)))
-        }
-        "month" => {
-            let day = day_operand(values, "DAY")?;
-            Some(Task::Report(ReportCommand::AsOf(DayReport::Month, day)))
-        }
-        "trial" => Some(Task::Report(ReportCommand::Firm(Report::Trial))),
-        "journal" => Some(Task::Report(ReportCommand::Firm(Report::Journal))),
-        "retention" => Some(Task::Report(ReportCommand::Firm(Report::Retention))),
-        "exceptions" => Some(Task::Report(ReportCommand::Firm(Report::Exceptions))),
-        "ledger" => {
-            let card = values.get_str("MATTER")?;
-            if is_firm(card) {
-                return Some(Task::Report(ReportCommand::Firm(Report::OwnLedger)));
-            }
-            Some(Task::Report(ReportCommand::Ledger(MatterNo::read(card.as_bytes())?)))
-        }
-        "account" => {
-            let no = MatterNo::read(values.get_str("MATTER")?.as_bytes())?;
-            let period = period_operand(values)?;
-            Some(Task::Report(ReportCommand::Account(no, period)))
-        }
-        _ => None,
-    }
+    let command = command_called(name)?;
+    task_of(command, values)
 }
 
 // The commands, each with the names of its operands: those that print no report, and those that print one.
@@ -277,9 +320,38 @@ fn with_commands<'a>(
     Ok(program)
 }
 
-/// Parses words, the first of which is the program's name: builds the command line, its options, the commands that
-/// print no report and those that print one, and matches the words with it. Returns the error with which the command
-/// line refuses them; asking for help is one too.
+// Adds an option to a command: `--name`.
+fn with_option<'a>(
+    alloc: Global,
+    command: Command<'a>,
+    name: &'a str,
+    is_required: bool,
+    action: ArgAction,
+) -> Result<Command<'a>, AllocError>
+    ensures { IfOk result
+        (λ c. app_of c ≡ with_rule (app_of command.entry) (option_rule name.entry.now is_required action)) }
+{
+    let option = Arg::new(alloc, name)
+        .long(name)
+        .required(is_required)
+        .action(action);
+    command.arg(option)
+}
+
+// Makes the command line: its options, the commands that print no report and those that print one.
+fn make_program<'a>(alloc: Global) -> Result<Command<'a>, AllocError>
+    ensures { IfOk result (λ c. app_of c ≡ program) }
+{
+    let bare = Command::new(alloc, "cashier_cli");
+    let with_today = with_option(alloc, bare, "today", true, ArgAction::Set)?;
+    let with_db = with_option(alloc, with_today, "db", false, ArgAction::Set)?;
+    let options = with_option(alloc, with_db, "quiet", false, ArgAction::SetTrue)?;
+    let whole = with_commands(alloc, options, COMMANDS)?;
+    Ok(whole.subcommand_required(true))
+}
+
+/// Parses words, the first of which is the program's name: builds the command line, and matches the words with it.
+/// Returns the error with which the command line refuses them; asking for help is one too.
 ///
 /// Returns `OutOfMemory` if memory runs out. The contract cannot say that it never does otherwise: by clap's
 /// contract, a parse of any words may end with it, and nothing shows whether memory really ran out.
@@ -287,18 +359,7 @@ pub fn parse<'a>(alloc: Global, words: &'a [&'a str]) -> Result<ArgMatches<'a>, 
     ensures ok { IfOk result (IsParse (words_of words.entry.now)) }
     ensures err { IfErr result (λ error. IsRefused (words_of words.entry.now) (kind_of error)) }
 {
-    let today = Arg::new(alloc, "today")
-        .long("today")
-        .required(true)
-        .action(ArgAction::Set);
-    let with_today = Command::new(alloc, "cashier_cli").arg(today)?;
-    let db = Arg::new(alloc, "db").long("db").action(ArgAction::Set);
-    let with_db = with_today.arg(db)?;
-    let quiet = Arg::new(alloc, "quiet")
-        .long("quiet")
-        .action(ArgAction::SetTrue);
-    let with_quiet = with_db.arg(quiet)?;
-    let command = with_commands(alloc, with_quiet, COMMANDS)?.subcommand_required(true);
+    let command = make_program(alloc)?;
     command.try_get_matches_from(words)
 }
 
@@ -323,7 +384,7 @@ pub fn command_of<'a>(alloc: Global, words: &'a [&'a str]) -> Result<Plan<'a>, C
     let Some((name, values)) = matches.subcommand() else {
         return Err(CliFault::Line);
     };
-    let Some(task) = task_of(name, values) else {
+    let Some(task) = task_called(name, values) else {
         return Err(CliFault::Line);
     };
     let is_quiet = match matches.get_str("quiet") {

@@ -3,11 +3,11 @@
 ghost use Rattle.std.specs.Prelude.{◌≡◌, ◌≢◌, ◌<◌, ℕ, IfNone, IfSome, None, [], codes, length, take, true};
 ghost use Rattle.std.specs.Str.{bytes_eq};
 ghost use Rattle.std.specs.List.{list_any};
-ghost use Rattle.clap.specs.Words.{fault_of, found_of, rows_of, subcommand_rows_of};
+ghost use Rattle.clap.specs.Words.{fault_of, first_of, found_of, rows_of, subcommand_rows_of};
 ghost use Rattle.trust_base.specs.Texts.{day_of, matter_of};
-ghost use Rattle.command_line.specs.Advice.{IsFront, IsNoPeriod, IsWrong, IsWrongOperand, IsWrongToday, IsWrongValue};
-ghost use Rattle.command_line.specs.Advice.{LacksValue, LacksValueAt, Names, front_by, last_setting, names_day};
-ghost use Rattle.command_line.specs.Advice.{setting_named};
+ghost use Rattle.command_line.specs.Advice.{IsFront, IsNoPeriod, IsWrong, IsWrongOperand, IsWrongPeriod, IsWrongToday};
+ghost use Rattle.command_line.specs.Advice.{IsWrongValue, LacksValue, LacksValueAt, Names, command_text, front_by};
+ghost use Rattle.command_line.specs.Advice.{last_setting, names_day, setting_named};
 ghost use Rattle.command_line.specs.Numerals.{IsCount, IsPort};
 ghost use Rattle.command_line.specs.Program.{IsRefused, program, words_of};
 
@@ -250,26 +250,44 @@ fn no_count<'a>(text: &'a str) -> Option<Wrong<'a>>
     }
 }
 
-// Returns the wrong operand of a command, given by its name and its values.
+// Returns what is wrong with the operands FROM and TO, if they are given.
 #[tactic(auto, using(crate::proofs::Values::values_read))]
-fn wrong_operand<'a>(name: &str, values: &ArgMatches<'a>) -> Option<Wrong<'a>>
-    ensures { IfSome result (IsWrongOperand name.now (rows_of (found_of values.now))) }
+fn wrong_period<'a>(values: &ArgMatches<'a>) -> Option<Wrong<'a>>
+    ensures { IfSome result (IsWrongPeriod (first_of (codes "FROM") (rows_of (found_of values.now)))
+        (first_of (codes "TO") (rows_of (found_of values.now)))) }
 {
-    match name {
-        "reconcile" | "clients" | "outstanding" | "month" => no_day(values.get_str("DAY")?),
-        "receipts" | "disbursements" => {
-            no_period(values.get_str("FROM")?, values.get_str("TO")?)
-        }
-        "ledger" => no_card(values.get_str("MATTER")?),
-        "account" => match no_matter(values.get_str("MATTER")?) {
+    no_period(values.get_str("FROM")?, values.get_str("TO")?)
+}
+
+// Returns the wrong operand of a command with these values.
+#[tactic(auto, using(crate::proofs::Values::values_read))]
+fn wrong_operand<'a>(command: CommandName, values: &ArgMatches<'a>) -> Option<Wrong<'a>>
+    ensures { IfSome result (IsWrongOperand (command_text command) (rows_of (found_of values.now))) }
+{
+    match command {
+        CommandName::Reconcile
+        | CommandName::Clients
+        | CommandName::Outstanding
+        | CommandName::Month => no_day(values.get_str("DAY")?),
+        CommandName::Receipts | CommandName::Disbursements => wrong_period(values),
+        CommandName::Ledger => no_card(values.get_str("MATTER")?),
+        CommandName::Account => match no_matter(values.get_str("MATTER")?) {
             Some(wrong) => Some(wrong),
-            None => no_period(values.get_str("FROM")?, values.get_str("TO")?),
+            None => wrong_period(values),
         },
-        "serve" => match no_port(values.get_str("PORT")?) {
+        CommandName::Serve => match no_port(values.get_str("PORT")?) {
             Some(wrong) => Some(wrong),
             None => no_count(values.get_str("COUNT")?),
         },
-        _ => None,
+        CommandName::Sheet
+        | CommandName::Import
+        | CommandName::Match
+        | CommandName::Stream
+        | CommandName::Trial
+        | CommandName::Journal
+        | CommandName::Retention
+        | CommandName::Exceptions
+        | CommandName::Check => None,
     }
 }
 
@@ -289,7 +307,7 @@ fn wrong_value<'a>(matches: &ArgMatches<'a>) -> Option<Wrong<'a>>
         return Some(wrong);
     }
     let (name, values) = matches.subcommand()?;
-    wrong_operand(name, values)
+    wrong_operand(command_called(name)?, values)
 }
 
 // Returns what is wrong with words that the command line refuses with an error of this kind.

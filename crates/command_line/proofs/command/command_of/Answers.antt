@@ -11,8 +11,8 @@ returns-in_default-clause-none c = grind (arith, ints, nat_tests, gives)
 pub returns-in_default-subcommand-clause-none : goal.returns-in_default-subcommand-clause-none
 returns-in_default-subcommand-clause-none c = grind (arith, ints, nat_tests, unmet, gives)
 
-pub returns-in_default-task_of-clause-none : goal.returns-in_default-task_of-clause-none
-returns-in_default-task_of-clause-none c = grind (arith, ints, nat_tests, gives, met)
+pub returns-in_default-task_called-clause-none : goal.returns-in_default-task_called-clause-none
+returns-in_default-task_called-clause-none c = grind (arith, ints, nat_tests, gives, met)
 
 pub returns-clause-plan : goal.returns-clause-plan
 returns-clause-plan c = grind (arith, ints, nat_tests, means, meets, met)
