@@ -4,7 +4,7 @@ use trust_base::BankAmount;
 
 // An amount as people write it, up to where it was read.
 #[derive(Clone, Copy)]
-struct Sum {
+struct WrittenAmount {
     // Its digits, as one number.
     value: i64,
     has_digits: bool,
@@ -27,13 +27,13 @@ fn one_more(count: Option<u8>) -> Option<u8> {
     }
 }
 
-impl Sum {
-    fn with_digit(self, digit: u8) -> Sum {
+impl WrittenAmount {
+    fn with_digit(self, digit: u8) -> WrittenAmount {
         let grouped = match self.decimals {
             None => one_more(self.grouped),
             Some(_) => self.grouped,
         };
-        Sum {
+        WrittenAmount {
             value: self.value.saturating_mul(10).saturating_add(digit as i64),
             has_digits: true,
             grouped,
@@ -43,17 +43,17 @@ impl Sum {
     }
 
     // Adds one byte. `None` if no amount has it there.
-    fn with(self, byte: u8) -> Option<Sum> {
-        let mut sum = self;
+    fn with(self, byte: u8) -> Option<WrittenAmount> {
+        let mut written = self;
         match byte {
             b'0'..=b'9' => return Some(self.with_digit(byte - b'0')),
             b'$' | b' ' | b'+' | b')' => (),
-            b'-' | b'(' => sum.is_negative = true,
-            b',' if is_group(self.grouped) && self.decimals.is_none() => sum.grouped = Some(0),
-            b'.' if is_group(self.grouped) && self.decimals.is_none() => sum.decimals = Some(0),
+            b'-' | b'(' => written.is_negative = true,
+            b',' if is_group(self.grouped) && self.decimals.is_none() => written.grouped = Some(0),
+            b'.' if is_group(self.grouped) && self.decimals.is_none() => written.decimals = Some(0),
             _ => return None,
         }
-        Some(sum)
+        Some(written)
     }
 
     // The amount in cents.
@@ -75,7 +75,7 @@ impl Sum {
 }
 
 // Nothing read yet.
-const NOTHING: Sum = Sum {
+const NOTHING: WrittenAmount = WrittenAmount {
     value: 0,
     has_digits: false,
     is_negative: false,
@@ -84,12 +84,12 @@ const NOTHING: Sum = Sum {
 };
 
 // Adds the bytes of a text.
-fn with_text(before: Sum, text: &str) -> Option<Sum> {
-    let mut sum = before;
+fn with_text(before: WrittenAmount, text: &str) -> Option<WrittenAmount> {
+    let mut written = before;
     for byte in text.as_bytes() {
-        sum = sum.with(*byte)?;
+        written = written.with(*byte)?;
     }
-    Some(sum)
+    Some(written)
 }
 
 /// Returns the amount that is meant by a text such as $1,200.00, (12.5) or 12.
