@@ -2,11 +2,11 @@
 
 ghost use Rattle.std.specs.Prelude.{◌≡◌, ◌≤◌, ◌↔◌, ℕ, pos, Ok, IfOk, IfErr};
 ghost use Rattle.trust_values.specs.Limits.{IsDay, IsEntryNo, IsAmount, IsAmountOrZero};
-ghost use Rattle.trust_base.specs.BankTexts.{IsBankText};
+ghost use Rattle.trust_base.specs.BankTexts.{IsBankText, IsLineText};
 ghost use Rattle.trust_base.specs.Names.{IsLabel};
 
 use std::alloc::Global;
-use trust_base::{BankText, Cents, CentsOrZero, Day, EntryNo, Label, StoreFault};
+use trust_base::{BankText, Cents, CentsOrZero, Day, EntryNo, Label, LineText, StoreFault};
 
 /// Reads a day, written year * 10000 + month * 100 + day of the month. Returns `Store` if the calendar does not have
 /// it.
@@ -77,6 +77,15 @@ pub(crate) fn bank_text_in(alloc: Global, column: &[u8]) -> Result<BankText, Sto
     ensures err { IfErr result (λ e. e ≡ StoreFault.Memory ↔ IsBankText column.now) }
 {
     let text = BankText::read(alloc, column)?;
+    text.ok_or(StoreFault::Store)
+}
+
+/// Reads the text of a bank line. Returns `Store` for invalid bytes, and `Memory` if memory runs out for valid ones.
+pub(crate) fn line_text_in(alloc: Global, column: &[u8]) -> Result<LineText, StoreFault>
+    ensures ok { IfOk result (λ t. t ≡ column.now) }
+    ensures err { IfErr result (λ e. e ≡ StoreFault.Memory ↔ IsLineText column.now) }
+{
+    let text = LineText::read(alloc, column)?;
     text.ok_or(StoreFault::Store)
 }
 

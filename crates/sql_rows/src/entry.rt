@@ -5,21 +5,26 @@ ghost use Rattle.matter_rows.specs.declared.limits.TheConstants.{MAX_TOTAL};
 ghost use Rattle.sql_tables.specs.Given.{entry_given};
 ghost use Rattle.matter_rows.specs.declared.clearing.Clearing.{Clearing as Told};
 ghost use Rattle.matter_rows.specs.declared.deposit.Deposit.{Deposit as Received};
+ghost use Rattle.matter_rows.specs.declared.deposit.DepositState.{DepositState as ReceivedState};
 ghost use Rattle.matter_rows.specs.declared.deposit.ReturnedDeposit.{ReturnedDeposit as Returned};
 ghost use Rattle.matter_rows.specs.declared.payment.ClearedPayment.{ClearedPayment as Cleared};
 ghost use Rattle.matter_rows.specs.declared.payment.VoidedPayment.{VoidedPayment as Voided};
 ghost use Rattle.matter_rows.specs.declared.payment.Fund.{Fund as Source};
 ghost use Rattle.matter_rows.specs.declared.payment.Payment.{Payment as Paid};
+ghost use Rattle.matter_rows.specs.declared.payment.PaymentState.{PaymentState as PaidState};
 ghost use Rattle.matter_rows.specs.declared.fee.Fee.{Fee as Earned};
 ghost use Rattle.matter_rows.specs.declared.claim.Against.{Against as On};
 ghost use Rattle.matter_rows.specs.declared.claim.Claim.{Claim as Claimed};
 ghost use Rattle.matter_rows.specs.declared.claim.ClaimState.{ClaimState as ClaimedState};
+ghost use Rattle.matter_rows.specs.declared.entry.Entry.{Entry as Written};
 ghost use Rattle.matter_parts.specs.declared.kept.Kept.{Kept as KeptEntry};
 ghost use Rattle.sql_rows.specs.Columns.{GivesBack};
-ghost use Rattle.sql_rows.specs.Entries.{IsClearing, IsReturn, IsDeposit, IsFund, IsPaymentState, IsPayment, IsFee};
+ghost use Rattle.sql_rows.specs.Entries.{IsClearing, IsReturn, IsDepositState, IsDeposit};
+ghost use Rattle.sql_rows.specs.Entries.{IsFund, IsPaymentState, IsPayment, IsFee};
 ghost use Rattle.sql_rows.specs.Entries.{IsAgainst, IsClaimState, IsClaim, IsKept};
-ghost use Rattle.sql_rows.specs.Entries.{HasClearing, HasReturn, HasDeposit, HasFund, HasPayment, HasFee};
-ghost use Rattle.sql_rows.specs.Entries.{HasAgainst, HasClaimState, HasClaim};
+ghost use Rattle.sql_rows.specs.Entries.{HasClearing, HasReturn, HasDepositState, HasDeposit};
+ghost use Rattle.sql_rows.specs.Entries.{HasFund, HasPaymentState, HasPayment, HasFee};
+ghost use Rattle.sql_rows.specs.Entries.{HasAgainst, HasClaimState, HasClaim, HasForm, HasEntry};
 ghost use Rattle.sql_rows.specs.Entries.{entry_columns, BeginsEntry};
 ghost use Rattle.sql_rows.specs.Entries.{HasSamePlace, HasSameMoney, HasSameDays, HasSameTexts};
 ghost use Rattle.sql_rows.specs.Entries.{plain_parts, fund_kind, fund_of, as_columns};
@@ -222,6 +227,23 @@ fn returned_in(alloc: Global, columns: EntryColumns<'_>) -> Result<ReturnedDepos
     })
 }
 
+// Reads what became of a deposit.
+fn deposit_state_in(alloc: Global, columns: EntryColumns<'_>) -> Result<DepositState, StoreFault>
+    ensures { (s : ReceivedState) → IsDepositState s → HasDepositState s (entry_given columns.entry)
+        → GivesBack s result }
+{
+    match columns.state {
+        DEPOSIT_HELD => Ok(DepositState::Held),
+        DEPOSIT_CLEARED => {
+            let clearing = clearing_in(alloc, columns.day_bank, columns.bank_ref)?;
+            Ok(DepositState::Cleared(clearing))
+        }
+        DEPOSIT_CANCELLED => Ok(DepositState::Cancelled(day_in(columns.day_undone)?)),
+        DEPOSIT_RETURNED => Ok(DepositState::Returned(returned_in(alloc, columns)?)),
+        _ => Err(StoreFault::Store),
+    }
+}
+
 fn deposit_in(
     alloc: Global,
     book: Day,
@@ -231,30 +253,13 @@ fn deposit_in(
     ensures { (d : Received) → IsDeposit d → HasDeposit d book amount (entry_given columns.entry)
         → GivesBack (Entry.Deposit d) result }
 {
-    let held = Deposit {
-        state: DepositState::Held,
+    Ok(Entry::Deposit(Deposit {
         source: label_in(alloc, columns.text_a)?,
         description: label_in(alloc, columns.text_b)?,
+        state: deposit_state_in(alloc, columns)?,
         book,
         amount,
-    };
-    match columns.state {
-        DEPOSIT_HELD => Ok(Entry::Deposit(held)),
-        DEPOSIT_CLEARED => {
-            let clearing = clearing_in(alloc, columns.day_bank, columns.bank_ref)?;
-            let state = DepositState::Cleared(clearing);
-            Ok(Entry::Deposit(Deposit { state, ..held }))
-        }
-        DEPOSIT_CANCELLED => {
-            let state = DepositState::Cancelled(day_in(columns.day_undone)?);
-            Ok(Entry::Deposit(Deposit { state, ..held }))
-        }
-        DEPOSIT_RETURNED => {
-            let state = DepositState::Returned(returned_in(alloc, columns)?);
-            Ok(Entry::Deposit(Deposit { state, ..held }))
-        }
-        _ => Err(StoreFault::Store),
-    }
+    }))
 }
 
 // Reads where a payment takes its money from.
@@ -293,6 +298,21 @@ fn voided_in(columns: EntryColumns<'_>) -> Result<VoidedPayment, StoreFault>
     })
 }
 
+// Reads what became of a payment.
+fn payment_state_in(alloc: Global, columns: EntryColumns<'_>) -> Result<PaymentState, StoreFault>
+    ensures { (s : PaidState) → IsPaymentState s → HasPaymentState s (entry_given columns.entry)
+        → GivesBack s result }
+{
+    match columns.state {
+        PAYMENT_PROPOSED => Ok(PaymentState::Proposed),
+        PAYMENT_DECLINED => Ok(PaymentState::Declined),
+        PAYMENT_ISSUED => Ok(PaymentState::Issued(day_in(columns.day_done)?)),
+        PAYMENT_CLEARED => Ok(PaymentState::Cleared(cleared_in(alloc, columns)?)),
+        PAYMENT_VOIDED => Ok(PaymentState::Voided(voided_in(columns)?)),
+        _ => Err(StoreFault::Store),
+    }
+}
+
 fn payment_in(
     alloc: Global,
     book: Day,
@@ -302,35 +322,15 @@ fn payment_in(
     ensures { (p : Paid) → IsPayment p → HasPayment p book amount (entry_given columns.entry)
         → GivesBack (Entry.Payment p) result }
 {
-    let proposed = Payment {
+    Ok(Entry::Payment(Payment {
         fund: fund_in(columns.fund, columns.of_no)?,
-        state: PaymentState::Proposed,
         payee: label_in(alloc, columns.text_a)?,
         purpose: label_in(alloc, columns.text_b)?,
         instrument: label_in(alloc, columns.text_c)?,
+        state: payment_state_in(alloc, columns)?,
         book,
         amount,
-    };
-    match columns.state {
-        PAYMENT_PROPOSED => Ok(Entry::Payment(proposed)),
-        PAYMENT_DECLINED => {
-            let state = PaymentState::Declined;
-            Ok(Entry::Payment(Payment { state, ..proposed }))
-        }
-        PAYMENT_ISSUED => {
-            let state = PaymentState::Issued(day_in(columns.day_done)?);
-            Ok(Entry::Payment(Payment { state, ..proposed }))
-        }
-        PAYMENT_CLEARED => {
-            let state = PaymentState::Cleared(cleared_in(alloc, columns)?);
-            Ok(Entry::Payment(Payment { state, ..proposed }))
-        }
-        PAYMENT_VOIDED => {
-            let state = PaymentState::Voided(voided_in(columns)?);
-            Ok(Entry::Payment(Payment { state, ..proposed }))
-        }
-        _ => Err(StoreFault::Store),
-    }
+    }))
 }
 
 // Reads what a claim is made on: available money, by the named claimant, or a fee.
@@ -396,6 +396,24 @@ fn fee_in(
     }))
 }
 
+// Reads the columns that the kind and the state of an entry use; the others are not looked at.
+fn entry_of_kind(
+    alloc: Global,
+    book: Day,
+    amount: Cents,
+    columns: EntryColumns<'_>,
+) -> Result<Entry, StoreFault>
+    ensures { (e : Written) → HasForm e → HasEntry e book amount (entry_given columns.entry) → GivesBack e result }
+{
+    match columns.kind {
+        DEPOSIT_KIND => deposit_in(alloc, book, amount, columns),
+        PAYMENT_KIND => payment_in(alloc, book, amount, columns),
+        FEE_KIND => fee_in(alloc, book, amount, columns),
+        CLAIM_KIND => claim_in(alloc, book, amount, columns),
+        _ => Err(StoreFault::Store),
+    }
+}
+
 // Whether both have the same matter, number, kind, state and amount left.
 fn have_same_place(a: EntryColumns<'_>, b: EntryColumns<'_>) -> bool
     ensures { IsTrue result ↔ HasSamePlace (entry_given a.entry) (entry_given b.entry) }
@@ -459,15 +477,8 @@ pub fn entry_of(
     let left = number_in(columns.left_now, MAX_TOTAL)?;
     let book = day_in(columns.day)?;
     let amount = amount_in(columns.amount)?;
-    // Reads the columns that its kind and state use; the others are compared below.
-    let read = match columns.kind {
-        DEPOSIT_KIND => deposit_in(alloc, book, amount, columns),
-        PAYMENT_KIND => payment_in(alloc, book, amount, columns),
-        FEE_KIND => fee_in(alloc, book, amount, columns),
-        CLAIM_KIND => claim_in(alloc, book, amount, columns),
-        _ => Err(StoreFault::Store),
-    };
-    let entry = read?;
+    let entry = entry_of_kind(alloc, book, amount, columns)?;
+    // The columns that its kind and state leave empty are compared too.
     let written = entry_columns(matter, number, left, &entry);
     if !are_same(written, columns) {
         return Err(StoreFault::Store);

@@ -14,11 +14,11 @@ ghost use Rattle.sql_rows.specs.Columns.{matter_column, entry_column, movement_c
 ghost use Rattle.sql_rows.specs.Columns.{IsBankLine, IsFirmLine, BeginsLine, GivesBack};
 
 use crate::codes::{CLOSING_BALANCE, OPENING_BALANCE};
-use crate::column::{bank_text_in, day_in, entry_no_in, number_in};
+use crate::column::{bank_text_in, day_in, entry_no_in, line_text_in, number_in};
 use firm_rows::{BalanceKind, BalanceRow, FirmLine, Movement, Owner};
 use sql_tables::{BalanceColumns, ExceptionColumns, FirmLineColumns, MovementColumns};
 use std::alloc::Global;
-use trust_base::{BankAmount, Day, Line, LineText, MatterNo, StoreFault};
+use trust_base::{BankAmount, Day, Line, MatterNo, StoreFault};
 
 // Reads the day and the amount of a line or balance.
 fn dated_amount(day: i64, amount: i64) -> Result<(Day, BankAmount), StoreFault>
@@ -84,7 +84,7 @@ pub fn firm_line_of(alloc: Global, columns: FirmLineColumns<'_>) -> Result<FirmL
         date,
         bank_ref: bank_text_in(alloc, columns.bank_ref)?,
         amount,
-        text: LineText::read(alloc, columns.text)?.ok_or(StoreFault::Store)?,
+        text: line_text_in(alloc, columns.text)?,
     })
 }
 
@@ -118,7 +118,7 @@ pub fn exception_of(alloc: Global, columns: ExceptionColumns<'_>) -> Result<Line
         reference: bank_text_in(alloc, columns.reference)?,
         bank_ref: bank_text_in(alloc, columns.bank_ref)?,
         amount,
-        text: LineText::read(alloc, columns.text)?.ok_or(StoreFault::Store)?,
+        text: line_text_in(alloc, columns.text)?,
     })
 }
 

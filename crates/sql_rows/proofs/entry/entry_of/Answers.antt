@@ -3,23 +3,17 @@ use Rattle.std.proofs.lemmas.Grind.{common_steps}
 use Rattle.sql_tables.specs.Given.{entry_given}
 use Rattle.trust_base.specs.declared.refusal.StoreFault.{StoreFault}
 use Rattle.trust_base.specs.declared.refusal.StoreFault.TheVariants.{Memory}
-use Rattle.sql_rows.proofs.EntryColumns.{Reads, kept_has, reads_deposit, reads_payment, reads_fee, reads_claim, reads_none, same_columns, same_kept}
-use Rattle.sql_rows.proofs.entry.entry_of.Goals.{Joined-columns, in-1, in-2, in-3, in-4, in_default}
+use Rattle.sql_rows.proofs.EntryColumns.{kept_has, same_columns, same_kept}
 use Rattle.sql_rows.proofs.entry.entry_of.Goals as goal
 
--- whatever the kind, the entry that the row has is read
-given : (c : Joined-columns) → Reads (entry_given c.args.columns) c.in_ok-book.book c.in_ok-amount.amount c.match-columns.read
-given c = elim c.match-columns.branch [
-  | in-1 w ↦ rw w.read-is (reads_deposit (entry_given c.args.columns) _ _ _ (search rules) w.deposit_in-read.ensures)
-  | in-2 w ↦ rw w.read-is (reads_payment (entry_given c.args.columns) _ _ _ (search rules) w.payment_in-read.ensures)
-  | in-3 w ↦ rw w.read-is (reads_fee (entry_given c.args.columns) _ _ _ (search rules) w.fee_in-read.ensures)
-  | in-4 w ↦ rw w.read-is (reads_claim (entry_given c.args.columns) _ _ _ (search rules) w.claim_in-read.ensures)
-  | in_default w ↦ reads_none (entry_given c.args.columns) c.in_ok-book.book c.in_ok-amount.amount c.match-columns.read
-      (λ e. omega (arith, ints, e)) (λ e. omega (arith, ints, e)) (λ e. omega (arith, ints, e)) (λ e. omega (arith, ints, e))
-]
-
 pub returns-in_err-entry-clause-back : goal.returns-in_err-entry-clause-back
-returns-in_err-entry-clause-back c k kept is = grind (arith, ints, nat_tests, entry_given, kept_has, given)
+returns-in_err-entry-clause-back c k kept is =
+    let row = entry_given c.args.columns in
+    let dated : pos c.in_ok-book.book ≡ c.args.columns.day = grind (arith, common_steps) in
+    let amounts : pos c.in_ok-amount.amount ≡ c.args.columns.amount = grind (arith, common_steps) in
+    let has = kept_has c.args.matter c.in_ok-book.book c.in_ok-amount.amount k row is dated amounts in
+    let read = c.in_err-entry.ensures k.entry kept.form has in
+    grind (arith, ints, nat_tests, read)
 
 pub returns-then-not-are_same-clause-back : goal.returns-then-not-are_same-clause-back
 returns-then-not-are_same-clause-back c k kept is =
@@ -29,7 +23,7 @@ returns-then-not-are_same-clause-back c k kept is =
     let has = kept_has c.args.matter c.in_ok-book.book c.in_ok-amount.amount k row is dated amounts in
     let numbered : pos c.in_ok-number.number ≡ c.args.columns.no = grind (arith, common_steps) in
     let lefts : pos c.in_ok-left.left ≡ c.args.columns.left_now = grind (arith, common_steps) in
-    let same = rw c.in_ok-entry.was at (given (goal.at.returns-then-not-are_same-clause-back c).Joined-columns k.entry kept.form has) in
+    let same = c.in_ok-entry.ensures k.entry kept.form has in
     grind (arith, ints, nat_tests, same_columns)
 
 at_any_error : {T P : Type 0} (r : Result T StoreFault) → P → IfErr r (λ e. e ≡ Memory → P)
@@ -58,4 +52,7 @@ returns-clause-back c k kept is =
     let row = entry_given c.args.columns in
     let dated : pos c.in_ok-book.book ≡ c.args.columns.day = grind (arith, common_steps) in
     let amounts : pos c.in_ok-amount.amount ≡ c.args.columns.amount = grind (arith, common_steps) in
-    grind (arith, ints, nat_tests, kept_has, dated, amounts, given, same_kept)
+    let has = kept_has c.args.matter c.in_ok-book.book c.in_ok-amount.amount k row is dated amounts in
+    let numbered : pos c.in_ok-number.number ≡ c.args.columns.no = grind (arith, common_steps) in
+    let lefts : pos c.in_ok-left.left ≡ c.args.columns.left_now = grind (arith, common_steps) in
+    same_kept c.args.matter _ _ _ k row is numbered lefts (c.in_ok-entry.ensures k.entry kept.form has)
