@@ -1,5 +1,5 @@
 -- What a row shows is what it stands for.
-use Rattle.sql_reads.proofs.Names.{◌≡◌, ℕ, ℤ, pos, nat_abs, Bool, List, [], ◌∷◌, map, filter, find, take, slice_get, Some, None, option_map, inl, inr, refl, sym, ap, subst, ◌∙◌, rules, SFits, to_z, of_z, w64, cases_Bool, Int, Null, Text, Row, column, bytes, State, Shown, Database, Layout, heads_in, is_past, Stands, answers, next_head_asks, next_head_answer, SeatRow, EntryRow, seat_pairs, kept_pairs, HasHead, IsHead, head_from, kept_from, seat_from, kept_at, next_at, numbered_from, seat_at, arith, ints, nat_tests}
+use Rattle.sql_reads.proofs.Names.{◌≡◌, ℕ, ℤ, pos, nat_abs, Bool, List, [], ◌∷◌, map, filter, find, take, slice_get, Option, Some, None, option_map, inl, inr, refl, sym, ap, subst, ◌∙◌, rules, SFits, to_z, of_z, w64, cases_Bool, Int, Null, Text, Row, column, bytes, State, Shown, Database, Layout, heads_in, is_past, Stands, answers, next_head_asks, next_head_answer, SeatRow, EntryRow, seat_pairs, kept_pairs, HasHead, IsHead, head_from, kept_from, seat_from, kept_at, next_at, numbered_from, seat_at, arith, ints, nat_tests}
 use Rattle.sqlite_value.specs.declared.value.Value.{Value}
 use Rattle.matter_rows.specs.declared.head.Head.{Head}
 use Rattle.matter_parts.specs.declared.kept.Kept.{Kept}
@@ -39,6 +39,20 @@ pub record Next (p : table.Head → Bool) (hs : List table.Head) (n : ℕ × Hea
   pub head : table.Head
   pub found : find p hs ≡ Some head
   pub is : n ≡ numbered_from head
+
+next_of_found : (p : table.Head → Bool) (hs : List table.Head) (n : ℕ × Head) (o : Option table.Head) → find p hs ≡ o
+    → Some n ≡ option_map numbered_from o → Next p hs n
+next_of_found p hs n None found is = absurd (let e = is in cc)
+next_of_found p hs n (Some h) found is =
+    let same : n ≡ numbered_from h = (let e = is in cc) in record { head = h; found = found; is = same }
+
+pub next_of : (p : table.Head → Bool) (hs : List table.Head) (n : ℕ × Head) → Some n ≡ option_map numbered_from (find p hs)
+    → Next p hs n
+next_of p hs n is = next_of_found p hs n (find p hs) refl is
+
+pub none_of : (o : Option table.Head) → None ≡ option_map numbered_from o → o ≡ None
+none_of None is = refl
+none_of (Some h) is = absurd (let e = is in cc)
 
 module _ (l : Layout) (was : Database) (stands : Stands l was) (old new : State) (same : old.now ≡ was) (after z : ℤ)
     (at : z ≡ after) (rows : List Row) (shown : Shown next_head_text (Int z ∷ []) old new rows) where

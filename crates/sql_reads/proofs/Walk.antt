@@ -1,5 +1,5 @@
 -- The matters of a book, one behind another.
-use Rattle.sql_reads.proofs.Names.{◌≡◌, inl, inr, ℕ, ℤ, pos, nat_abs, ◌+◌, ◌≤◌, ◌<ℤ◌, int_lt, Bool, true, false, List, [], ◌∷◌, ◌++◌, map, filter, find, length, fold, Some, None, Result, Ok, IsErr, sym, ap, ◌∙◌, subst, arith, append_assoc, length-append, AllByRecursion, ints, cases_Bool, IsKeyedBy, all_unmap, all_weaker, IsRowInRange, MOST_ROWS, HeadRow, pairs, HandedOver, FoldsFront, AreHanded, IsKeptWhole, joined, rows_kept, joined-ranged, begun, one_more, all_more, some_more, ended, kept-numbered, Lists, is_past, AreSound, IsWrittenHead, kept_from, matter_from, matters_from, part_from, all-find, entry_rows, numbered_from, rows_at, seat_rows, found_passes, filter_none, is_some, any_is_found, none_from_any, filter_all, nat_tests}
+use Rattle.sql_reads.proofs.Names.{◌≡◌, inl, inr, ℕ, ℤ, pos, nat_abs, ◌+◌, ◌≤◌, ◌<ℤ◌, int_lt, Bool, true, false, List, [], ◌∷◌, ◌++◌, map, filter, find, length, fold, Some, None, Result, Ok, IsErr, sym, ap, ◌∙◌, subst, arith, append_assoc, length-append, AllByRecursion, ints, cases_Bool, IsKeyedBy, all_unmap, all_weaker, IsRowInRange, MOST_ROWS, pairs, HandedOver, FoldsFront, AreHanded, IsKeptWhole, joined, rows_kept, joined-ranged, begun, all_more, some_more, ended, kept-numbered, Lists, is_past, AreSound, IsWrittenHead, kept_from, matter_from, matters_from, part_from, all-find, numbered_from, rows_at, found_passes, filter_none, is_some, any_is_found, none_from_any, filter_all, nat_tests}
 use Rattle.firm_rows.specs.Firm.{Row}
 use Rattle.matter_rows.specs.declared.head.Head.{Head}
 use Rattle.trust_store.specs.declared.plain.KeptMatter.{KeptMatter}
@@ -87,14 +87,8 @@ module _ {K : Type 0} (step : K → ℕ × Row → K) (a : Lists) (sound : AreSo
 
     -- the rows of the next matter are the first of those that are left
     module _ (n : ℕ × Head) (it : Next (is_past after) a.heads n) where
-      abbrev row : ℕ × Row
-      row = (n.0, HeadRow n.1)
-
-      abbrev seats : List (ℕ × Row)
-      seats = seat_rows a n.0
-
-      abbrev entries : List (ℕ × Row)
-      entries = entry_rows a n.0
+      abbrev rows : List (ℕ × Row)
+      rows = rows_at a n
 
       abbrev rest : List (ℕ × Row)
       rest = joined (past a it.head.no)
@@ -105,44 +99,25 @@ module _ {K : Type 0} (step : K → ℕ × Row → K) (a : Lists) (sound : AreSo
       own_rows : rows_at a (numbered_from it.head) ≡ pairs (nat_abs it.head.no) (rows_kept (part_from a it.head))
       own_rows = grind (arith, ints, nat_tests, all_unmap, matter_from, rows_are, written, all-find, is_past)
 
-      from : joined (past a after) ≡ row ∷ (seats ++ (entries ++ rest))
-      from =
-          grind (arith, ints, nat_tests, joined, map, next_past, rest, own_rows, rows_at, row, append_assoc, seats, entries)
+      from : joined (past a after) ≡ rows ++ rest
+      from = grind (arith, ints, nat_tests, joined, map, next_past, rest, own_rows, rows_at, rows, append_assoc)
 
-      module _ (t : K) (first : t ≡ step now row) where
-        head_done : HandedOver step old all (seats ++ (entries ++ rest)) t
-        head_done = grind (arith, ints, nat_tests, one_more, all, row, seats, entries, rest, from)
+      left : HandedOver step old all (rows ++ rest) now
+      left = subst (λ xs. HandedOver step old all xs now) from so_far.handed
 
-        pub seats_stopped : (u : K) → FoldsFront step t seats u → FoldsFront step old all u
-        seats_stopped u part =
-            (part.0 ++ (entries ++ rest), some_more step old t u all seats part.0 (entries ++ rest) head_done part.1)
+      module _ (v : K) where
+        pub matter_stopped : FoldsFront step now rows v → FoldsFront step old all v
+        matter_stopped part = (part.0 ++ rest, some_more step old now v all rows part.0 rest left part.1)
 
-        module _ (u : K) (second : u ≡ fold step t seats) (v : K) where
-          seats_done : HandedOver step old all (entries ++ rest) u
-          seats_done = all_more step old t u all seats (entries ++ rest) head_done second
-
-          pub entries_stopped : FoldsFront step u entries v → FoldsFront step old all v
-          entries_stopped part = (part.0 ++ rest, some_more step old u v all entries part.0 rest seats_done part.1)
-
-          pub reached : v ≡ fold step u entries → (i j total : ℕ) → i ≡ length seats → j ≡ length entries
-              → total ≡ count + (i + j + 1) → (z : ℤ) → z ≡ pos n.0 → IsReached step a z total old v
-          reached third i j total is js sums z number =
-              let own : it.head.no ≡ z =
-              written.0 ∙ ap (λ (k : ℕ × Head). pos k.0) (sym it.is) ∙ sym number in
-              subst (λ k. IsReached step a k total old v) own (record {
-                handed = all_more step old u v all entries rest seats_done third;
-                counted =
-                    omega (
-                      arith,
-                      is,
-                      js,
-                      sums,
-                      so_far.counted,
-                      ap length from,
-                      length-append seats (entries ++ rest),
-                      length-append entries rest,
-                    );
-              })
+        pub reached : v ≡ fold step now rows → (i total : ℕ) → i ≡ length rows → total ≡ count + i
+            → (z : ℤ) → z ≡ pos n.0 → IsReached step a z total old v
+        reached folded i total is sums z number =
+            let own : it.head.no ≡ z =
+            written.0 ∙ ap (λ (k : ℕ × Head). pos k.0) (sym it.is) ∙ sym number in
+            subst (λ k. IsReached step a k total old v) own (record {
+              handed = all_more step old now v all rows rest left folded;
+              counted = omega (arith, is, sums, so_far.counted, ap length from, length-append rows rest);
+            })
 
     -- the end
     pub at_end : {E : Type 0} → find (is_past after) a.heads ≡ None → count ≤ MOST_ROWS

@@ -13,7 +13,9 @@ ghost use Rattle.sql_rows.specs.Meaning.{matters_from};
 ghost use Rattle.sql_rows.specs.Standing.{firm_in};
 ghost use Rattle.sql_reads.specs.Parts.{without_matters};
 
-use crate::lists::{Balances, Exceptions, FirmLines, Movements, each_listed};
+use crate::lists::{
+    StoredBalances, StoredExceptions, StoredFirmLines, StoredMovements, each_listed,
+};
 use crate::matter::{opened_matters, whole_matter};
 use firm_rows::{
     BalanceRow, BalanceSink, ExceptionSink, FirmLine, FirmLineSink, Movement, MovementSink, Owner,
@@ -131,10 +133,10 @@ fn all_others<S: Alter>(conn: &mut Connection<S>, alloc: Global) -> Result<RowLi
     ensures left { LeavesAll result (state S.Store conn.old) (state S.Store conn.new) }
 {
     let mut lists = RowLists::new(alloc);
-    each_listed(conn, &Movements, &mut lists)?;
-    each_listed(conn, &FirmLines { alloc }, &mut lists)?;
-    each_listed(conn, &Exceptions { alloc }, &mut lists)?;
-    each_listed(conn, &Balances, &mut lists)?;
+    each_listed(conn, &StoredMovements, &mut lists)?;
+    each_listed(conn, &StoredFirmLines { alloc }, &mut lists)?;
+    each_listed(conn, &StoredExceptions { alloc }, &mut lists)?;
+    each_listed(conn, &StoredBalances, &mut lists)?;
     Ok(lists)
 }
 

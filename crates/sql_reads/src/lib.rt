@@ -28,14 +28,14 @@
 //!   those of the firm that the tables hold (`read`), and each matter is the whole of sound rows, by number (`whole`).
 //!   A matter that is not is Store.
 //! - each of these: changes nothing, not even after a crash, whatever the tables hold (`left`), since its query is a
-//!   SELECT. That a row which stands for nothing is Store is promised of `sql_rows`; of these calls it is tested,
-//!   column by column (`worked_tables`, `cases/spoiled-books.txt`), and so is what is not noticed: a call that reads
-//!   less than a whole matter looks at no other rows. So totals that are off by a cent are returned as they are if they
-//!   are asked for without the ledger card, and an entry missing in the middle is left out of the trial balance.
-//! - `each_row`, and `each_listed` of `Movements`, `FirmLines`, `Exceptions` and `Balances` (each says what its `hands`
-//!   is): a sink takes each row of the firm's list in its order, fewer than 2^64, one at a time while the connection
-//!   lends them, so that memory does not grow with them; at an error it has taken a prefix of them (`handed`); nothing
-//!   changes (`left`).
+//!   SELECT. That a row which stands for nothing is Store is promised of `sql_rows`; of these calls cases try it,
+//!   column by column (`cases/spoiled-books.txt`), and also what is not noticed: a call that reads less than a whole
+//!   matter looks at no other rows. So totals that are off by a cent are returned as they are if they are asked for
+//!   without the ledger card, and an entry missing in the middle is left out of the trial balance.
+//! - `each_row`, and `each_listed` of `StoredMovements`, `StoredFirmLines`, `StoredExceptions` and `StoredBalances`
+//!   (each says what its `hands` is): a sink takes each row of the firm's list in its order, fewer than 2^64, one at a
+//!   time while the connection lends them, so that memory does not grow with them; at an error it has taken a prefix of
+//!   them (`handed`); nothing changes (`left`).
 #![tactic(auto)]
 
 mod columns;
@@ -47,7 +47,8 @@ mod query;
 
 pub use firm::all_rows;
 pub use lists::{
-    Balances, Exceptions, FirmLines, Listing, Movements, balance_at, each_listed, firm_ledger,
+    Listing, StoredBalances, StoredExceptions, StoredFirmLines, StoredMovements, balance_at,
+    each_listed, firm_ledger,
 };
 pub use matter::{each_row, matter_for, opened_matters, whole_matter};
 pub use query::fault_of;

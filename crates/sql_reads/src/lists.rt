@@ -49,9 +49,9 @@ pub trait Listing<K>: RowTaking<K> {
 
 /// The movements of the journal, in order of acceptance.
 #[derive(Drop)]
-pub struct Movements;
+pub struct StoredMovements;
 
-impl<K: MovementSink> RowTaking<K> for Movements {
+impl<K: MovementSink> RowTaking<K> for StoredMovements {
     ghost use Rattle.firm_rows.specs.Countable.{IsMovementInRange};
     ghost use Rattle.sql_reads.specs.Shown.{movement_at};
 
@@ -66,7 +66,7 @@ impl<K: MovementSink> RowTaking<K> for Movements {
     }
 }
 
-impl<K: MovementSink> Listing<K> for Movements {
+impl<K: MovementSink> Listing<K> for StoredMovements {
     ghost use Rattle.firm_rows.specs.Countable.{IsMovementInRange};
     ghost use Rattle.firm_rows.specs.Handing.{AreHanded};
 
@@ -79,11 +79,11 @@ impl<K: MovementSink> Listing<K> for Movements {
 
 /// The lines of the firm's own, in order of acceptance.
 #[derive(Drop)]
-pub struct FirmLines {
+pub struct StoredFirmLines {
     pub alloc: Global,
 }
 
-impl<K: FirmLineSink> RowTaking<K> for FirmLines {
+impl<K: FirmLineSink> RowTaking<K> for StoredFirmLines {
     ghost use Rattle.firm_rows.specs.Countable.{IsFirmLineInRange};
     ghost use Rattle.sql_reads.specs.Shown.{firm_line_at};
 
@@ -98,7 +98,7 @@ impl<K: FirmLineSink> RowTaking<K> for FirmLines {
     }
 }
 
-impl<K: FirmLineSink> Listing<K> for FirmLines {
+impl<K: FirmLineSink> Listing<K> for StoredFirmLines {
     ghost use Rattle.firm_rows.specs.Countable.{IsFirmLineInRange};
     ghost use Rattle.firm_rows.specs.Handing.{AreHanded};
 
@@ -111,11 +111,11 @@ impl<K: FirmLineSink> Listing<K> for FirmLines {
 
 /// The exceptions, ordered by day, reference, the bank's reference, amount (as a number) and text.
 #[derive(Drop)]
-pub struct Exceptions {
+pub struct StoredExceptions {
     pub alloc: Global,
 }
 
-impl<K: ExceptionSink> RowTaking<K> for Exceptions {
+impl<K: ExceptionSink> RowTaking<K> for StoredExceptions {
     ghost use Rattle.firm_rows.specs.Countable.{IsLineInRange};
     ghost use Rattle.sql_reads.specs.Shown.{exception_at};
 
@@ -130,7 +130,7 @@ impl<K: ExceptionSink> RowTaking<K> for Exceptions {
     }
 }
 
-impl<K: ExceptionSink> Listing<K> for Exceptions {
+impl<K: ExceptionSink> Listing<K> for StoredExceptions {
     ghost use Rattle.firm_rows.specs.Countable.{IsLineInRange};
     ghost use Rattle.firm_rows.specs.Handing.{AreHanded};
 
@@ -144,9 +144,9 @@ impl<K: ExceptionSink> Listing<K> for Exceptions {
 
 /// The balances that the bank reported: openings before closings, each by day.
 #[derive(Drop)]
-pub struct Balances;
+pub struct StoredBalances;
 
-impl<K: BalanceSink> RowTaking<K> for Balances {
+impl<K: BalanceSink> RowTaking<K> for StoredBalances {
     ghost use Rattle.firm_rows.specs.Countable.{IsBalanceInRange};
     ghost use Rattle.sql_reads.specs.Shown.{balance_at};
 
@@ -161,7 +161,7 @@ impl<K: BalanceSink> RowTaking<K> for Balances {
     }
 }
 
-impl<K: BalanceSink> Listing<K> for Balances {
+impl<K: BalanceSink> Listing<K> for StoredBalances {
     ghost use Rattle.firm_rows.specs.Countable.{IsBalanceInRange};
     ghost use Rattle.firm_rows.specs.Handing.{AreHanded};
 

@@ -1,6 +1,6 @@
 // Matters: one with all its entries, or with the named ones; and all of them, one after the other, each with its rows.
 
-ghost use Rattle.std.specs.Prelude.{◌≡◌, ◌+◌, false, pos, List, map, IfOk};
+ghost use Rattle.std.specs.Prelude.{◌≡◌, ◌+◌, false, pos, List, map, find, Some, option_map, IfOk};
 ghost use Rattle.std.specs.Option.{option_copied};
 ghost use Rattle.sqlite_value.specs.declared.value.Value.TheVariants.{Int};
 ghost use Rattle.sqlite_value.specs.Order.{column};
@@ -16,11 +16,15 @@ ghost use Rattle.trust_store.specs.Named.{IsPartFor};
 ghost use Rattle.sql_schema.specs.declared.layout.Layout.{Layout};
 ghost use Rattle.sql_tables.specs.Lists.{lists_in};
 ghost use Rattle.sql_tables.specs.Reading.{LeavesAll};
-ghost use Rattle.sql_tables.specs.Rows.{Head as HeadRow, heads_in, no_shown};
+ghost use Rattle.sql_tables.specs.Rows.{Head as HeadRow, Seat as ShownSeat, Entry as ShownEntry};
+ghost use Rattle.sql_tables.specs.Rows.{heads_in, head_shown, is_past, no_shown, numbered_shown, seat_shown};
 ghost use Rattle.sql_tables.specs.Standing.{Stands};
+ghost use Rattle.sql_rows.specs.Meaning.{kept_from, seat_from};
 ghost use Rattle.sql_rows.specs.Standing.{StandsSound, firm_in};
-ghost use Rattle.sql_reads.specs.Parts.{drawn_by, part_at, part_of, with_totals_at};
-ghost use Rattle.sql_reads.specs.Shown.{AreNumbersOf, seat_at};
+ghost use Rattle.sql_reads.specs.Fed.{AreCounted};
+ghost use Rattle.sql_reads.specs.Parts.{drawn_by, part_at, part_of};
+ghost use Rattle.sql_reads.specs.Parts.{with_totals_at, with_totals_from};
+ghost use Rattle.sql_reads.specs.Shown.{AreNumbersOf, kept_at, numbered_from, rows_at, seat_at};
 
 use crate::columns::{entry_in, head_in, number_at, seat_in};
 use crate::query::{RowTaking, hand_rows, rows_of};
@@ -70,10 +74,29 @@ const ENTRIES: &str = select_entry!(" FROM entry_v2 WHERE matter = ?1 ORDER BY n
 const ENTRY: &str = select_entry!(" FROM entry_v2 WHERE matter = ?1 AND no = ?2 ORDER BY rowid");
 
 // The head of a matter, and its stored totals.
-#[derive(Drop)]
 struct HeadWithTotals {
     head: Head,
     figures: Figures,
+}
+
+// Written by hand, so that a function that holds one makes one call at each exit.
+impl Drop for HeadWithTotals {
+    fn drop(self) {
+        let HeadWithTotals {
+            head: _head,
+            figures: _,
+        } = self;
+    }
+}
+
+impl HeadWithTotals {
+    // Builds the matter of this head.
+    fn into_matter(self, seats: Vec<Seat>, kept: Vec<Kept>) -> Result<Matter, StoreFault>
+        ensures { IfOk result (λ part. part ≡ part_of (Some self) seats.items kept.items) }
+    {
+        let HeadWithTotals { head, figures } = self;
+        Matter::of_part(Some(head), seats, figures, kept)
+    }
 }
 
 // Reads a seat of a matter from a row.
@@ -82,6 +105,85 @@ fn read_seat(alloc: Global, matter: MatterNo, row: &Row) -> Result<Seat, StoreFa
 {
     let columns = seat_in(matter.get() as i64, row)?;
     seat_of(alloc, matter, columns)
+}
+
+// Reads the seats of a matter from their rows.
+fn read_seats(alloc: Global, matter: MatterNo, rows: &[Row]) -> Result<Vec<Seat>, StoreFault>
+    ensures { IfOk result (λ seats. (xs : List ShownSeat) → rows.now ≡ map seat_shown xs
+        → seats.items ≡ map seat_from xs) }
+{
+    let mut seats = Vec::new(alloc);
+    'each: for row in rows {
+        let seat = read_seat(alloc, matter, row)?;
+        seats.push(seat)?;
+    }
+    Ok(seats)
+}
+
+// Reads a head with its totals from a row.
+fn read_head(alloc: Global, matter: MatterNo, row: &Row) -> Result<HeadWithTotals, StoreFault>
+    ensures { IfOk result (λ h. (x : HeadRow) → row.now ≡ head_shown x → h ≡ with_totals_from x) }
+{
+    let columns = head_in(matter.get() as i64, row)?;
+    let figures = totals_of(columns)?;
+    let head = head_of(alloc, columns)?;
+    Ok(HeadWithTotals { head, figures })
+}
+
+// Reads an entry of a matter from a row.
+fn read_entry(alloc: Global, matter: MatterNo, row: &Row) -> Result<Kept, StoreFault>
+    ensures { IfOk result (λ k. k ≡ kept_at matter row.now) }
+{
+    let columns = entry_in(matter.get() as i64, row)?;
+    entry_of(alloc, matter, columns)
+}
+
+// Reads entries of a matter from their rows.
+fn read_entries(alloc: Global, matter: MatterNo, rows: &[Row]) -> Result<Vec<Kept>, StoreFault>
+    ensures { IfOk result (λ kept. (xs : List ShownEntry) → rows.now ≡ map numbered_shown xs
+        → kept.items ≡ map kept_from xs) }
+{
+    let mut kept = Vec::new(alloc);
+    'each: for row in rows {
+        let entry = read_entry(alloc, matter, row)?;
+        kept.push(entry)?;
+    }
+    Ok(kept)
+}
+
+// Returns the head of a matter with its totals, or `None` if it was never opened.
+fn opened_head<S: Alter>(
+    conn: &mut Connection<S>,
+    alloc: Global,
+    matter: MatterNo,
+) -> Result<Option<HeadWithTotals>, StoreFault>
+    requires { conn.old.in_transaction ≡ false }
+    ensures mode { conn.new.in_transaction ≡ false }
+    ensures found { (l : Layout) → HasCleanDisk (state S.Store conn.new) → Stands l (state S.Store conn.old).now
+        → IfOk result (λ h. h ≡ with_totals_at matter (lists_in l (state S.Store conn.old).now.trees)) }
+    ensures left { LeavesAll result (state S.Store conn.old) (state S.Store conn.new) }
+{
+    let rows = rows_of(conn, HEAD, &[ValueRef::Int(matter.get() as i64)])?;
+    match rows.first() {
+        None => Ok(None),
+        Some(row) => Ok(Some(read_head(alloc, matter, row)?)),
+    }
+}
+
+// Returns the seats of a matter, by person in byte order.
+fn seats_of_matter<S: Alter>(
+    conn: &mut Connection<S>,
+    alloc: Global,
+    matter: MatterNo,
+) -> Result<Vec<Seat>, StoreFault>
+    requires { conn.old.in_transaction ≡ false }
+    ensures mode { conn.new.in_transaction ≡ false }
+    ensures found { (l : Layout) → HasCleanDisk (state S.Store conn.new) → Stands l (state S.Store conn.old).now
+        → IfOk result (λ seats. seats.items ≡ (part_at matter (lists_in l (state S.Store conn.old).now.trees)).seats) }
+    ensures left { LeavesAll result (state S.Store conn.old) (state S.Store conn.new) }
+{
+    let rows = rows_of(conn, SEATS, &[ValueRef::Int(matter.get() as i64)])?;
+    read_seats(alloc, matter, &rows)
 }
 
 // Returns the head of a matter with its totals, or `None` if it was never opened, and its seats, by person in byte
@@ -100,21 +202,9 @@ fn head_and_seats<S: Alter>(
         ≡ (part_at matter (lists_in l (state S.Store conn.old).now.trees)).seats) }
     ensures left { LeavesAll result (state S.Store conn.old) (state S.Store conn.new) }
 {
-    let key = [ValueRef::Int(matter.get() as i64)];
-    let heads = rows_of(conn, HEAD, &key)?;
-    let rows = rows_of(conn, SEATS, &key)?;
-    let mut seats = Vec::new(alloc);
-    'each: for row in &rows {
-        let seat = read_seat(alloc, matter, row)?;
-        seats.push(seat)?;
-    }
-    let Some(row) = heads.first() else {
-        return Ok((None, seats));
-    };
-    let columns = head_in(matter.get() as i64, row)?;
-    let figures = totals_of(columns)?;
-    let head = head_of(alloc, columns)?;
-    Ok((Some(HeadWithTotals { head, figures }), seats))
+    let opened = opened_head(conn, alloc, matter)?;
+    let seats = seats_of_matter(conn, alloc, matter)?;
+    Ok((opened, seats))
 }
 
 // Returns the entries of a matter by number, each with what is left of it.
@@ -130,13 +220,7 @@ fn entries_of<S: Alter>(
     ensures left { LeavesAll result (state S.Store conn.old) (state S.Store conn.new) }
 {
     let rows = rows_of(conn, ENTRIES, &[ValueRef::Int(matter.get() as i64)])?;
-    let mut kept = Vec::new(alloc);
-    'each: for row in &rows {
-        let columns = entry_in(matter.get() as i64, row)?;
-        let entry = entry_of(alloc, matter, columns)?;
-        kept.push(entry)?;
-    }
-    Ok(kept)
+    read_entries(alloc, matter, &rows)
 }
 
 // Returns the entry of this number, if it is kept.
@@ -164,7 +248,7 @@ fn matter_of(
 {
     match opened {
         None => Matter::of_part(None, seats, Figures::none(), kept),
-        Some(opened) => Matter::of_part(Some(opened.head), seats, opened.figures, kept),
+        Some(opened) => opened.into_matter(seats, kept),
     }
 }
 
@@ -242,7 +326,7 @@ pub fn matter_for<S: Alter>(
         let columns = entry_in(matter.get() as i64, row)?;
         kept.push(entry_of(alloc, matter, columns)?)?;
     }
-    Matter::of_part(Some(opened.head), seats, opened.figures, kept)
+    opened.into_matter(seats, kept)
 }
 
 // Reads the number of a head from a column. Returns `Store` if no matter can have it.
@@ -258,7 +342,8 @@ fn matter_at(row: &Row, at: usize) -> Result<MatterNo, StoreFault>
 
 // Reads the numbers of rows that have one each.
 fn numbers_in(alloc: Global, rows: &[Row]) -> Result<Vec<MatterNo>, StoreFault>
-    ensures { IfOk result (λ numbers. (hs : List HeadRow) → rows.now ≡ map no_shown hs → AreNumbersOf hs numbers.items) }
+    ensures { IfOk result (λ numbers. (hs : List HeadRow) → rows.now ≡ map no_shown hs
+        → AreNumbersOf hs numbers.items) }
 {
     let mut numbers = Vec::new(alloc);
     'each: for row in rows {
@@ -325,8 +410,7 @@ impl<K: RowSink> RowTaking<K> for EntryTaking {
     ghost fits = { λ _ _. Unit {0} };
 
     fn take(&self, row: &Row, sink: &mut K) -> Result<(), StoreFault> {
-        let columns = entry_in(self.matter.get() as i64, row)?;
-        let kept = entry_of(self.alloc, self.matter, columns)?;
+        let kept = read_entry(self.alloc, self.matter, row)?;
         sink.entry(self.matter, kept.number, &kept.entry)?;
         Ok(())
     }
@@ -338,6 +422,63 @@ fn row_count(seats: u64, entries: u64) -> Result<u64, StoreFault>
 {
     let others = seats.checked_add(entries).ok_or(StoreFault::Store)?;
     others.checked_add(1).ok_or(StoreFault::Store)
+}
+
+// Returns the first head behind a number, and its number, or `None` behind the last.
+fn next_head<S: Alter>(
+    conn: &mut Connection<S>,
+    alloc: Global,
+    after: i64,
+) -> Result<Option<(MatterNo, Head)>, StoreFault>
+    requires { conn.old.in_transaction ≡ false }
+    ensures mode { conn.new.in_transaction ≡ false }
+    ensures found { (l : Layout) → HasCleanDisk (state S.Store conn.new) → Stands l (state S.Store conn.old).now
+        → IfOk result (λ next. next
+        ≡ option_map numbered_from (find (is_past after) (heads_in l (state S.Store conn.old).now.trees))) }
+    ensures left { LeavesAll result (state S.Store conn.old) (state S.Store conn.new) }
+{
+    let rows = rows_of(conn, NEXT_HEAD, &[ValueRef::Int(after)])?;
+    let Some(row) = rows.first() else {
+        return Ok(None);
+    };
+    let matter = matter_at(row, 12)?;
+    let columns = head_in(matter.get() as i64, row)?;
+    Ok(Some((matter, head_of(alloc, columns)?)))
+}
+
+// Passes the rows of a matter to the sink: its head, its seats and its entries. Returns how many they are.
+fn hand_matter<S: Alter, K: RowSink>(
+    conn: &mut Connection<S>,
+    alloc: Global,
+    matter: MatterNo,
+    head: &Head,
+    sink: &mut K,
+) -> Result<u64, StoreFault>
+    requires { conn.old.in_transaction ≡ false }
+    ensures mode { conn.new.in_transaction ≡ false }
+    ensures handed { (l : Layout) → HasCleanDisk (state S.Store conn.new) → Stands l (state S.Store conn.old).now
+        → AreCounted K.stepped (rows_at (lists_in l (state S.Store conn.old).now.trees) (matter, head.now))
+        result sink.old sink.new }
+    ensures left { LeavesAll result (state S.Store conn.old) (state S.Store conn.new) }
+{
+    sink.head(matter, head)?;
+    let key = [ValueRef::Int(matter.get() as i64)];
+    let seats = hand_rows(conn, SEATS, &key, &SeatTaking { alloc, matter }, sink)?;
+    let entries = hand_rows(conn, ENTRIES, &key, &EntryTaking { alloc, matter }, sink)?;
+    row_count(seats, entries)
+}
+
+// Returns `Store` if there is a head of the least number, which no matter has: the walk over the heads starts after it.
+fn refuse_least<S: Alter>(conn: &mut Connection<S>) -> Result<(), StoreFault>
+    requires { conn.old.in_transaction ≡ false }
+    ensures mode { conn.new.in_transaction ≡ false }
+    ensures left { LeavesAll result (state S.Store conn.old) (state S.Store conn.new) }
+{
+    let heads = rows_of(conn, HEAD, &[ValueRef::Int(i64::MIN)])?;
+    if !heads.is_empty() {
+        return Err(StoreFault::Store);
+    }
+    Ok(())
 }
 
 /// Passes each row of each matter to the sink: matters by number, and in each the head, the seats by person and the
@@ -355,29 +496,17 @@ pub fn each_row<S: Alter, K: RowSink>(
         result sink.old sink.new }
     ensures left { LeavesAll result (state S.Store conn.old) (state S.Store conn.new) }
 {
-    // No matter has the least number, after which the walk over the heads starts.
-    let least = rows_of(conn, HEAD, &[ValueRef::Int(i64::MIN)])?;
-    if !least.is_empty() {
-        return Err(StoreFault::Store);
-    }
+    refuse_least(conn)?;
     let mut after = i64::MIN;
     let mut count: u64 = 0;
     'matters: for _ in 0..u64::MAX {
-        let heads = rows_of(conn, NEXT_HEAD, &[ValueRef::Int(after)])?;
-        let Some(row) = heads.first() else {
+        let Some(next) = next_head(conn, alloc, after)? else {
             return Ok(());
         };
-        let matter = matter_at(row, 12)?;
-        let number = matter.get() as i64;
-        let columns = head_in(number, row)?;
-        let found = head_of(alloc, columns)?;
-        sink.head(matter, &found)?;
-        let key = [ValueRef::Int(number)];
-        let seats = hand_rows(conn, SEATS, &key, &SeatTaking { alloc, matter }, sink)?;
-        let entries = hand_rows(conn, ENTRIES, &key, &EntryTaking { alloc, matter }, sink)?;
-        let rows = row_count(seats, entries)?;
+        let (matter, head) = next;
+        let rows = hand_matter(conn, alloc, matter, &head, sink)?;
         count = count.checked_add(rows).ok_or(StoreFault::Store)?;
-        after = number;
+        after = matter.get() as i64;
     }
     Err(StoreFault::Store)
 }

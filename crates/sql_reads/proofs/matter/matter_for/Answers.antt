@@ -112,6 +112,6 @@ returns-clause-found g c l clean stands =
     let some = sym c.in-Some.is ∙ c.in_ok-opened.ensures.head l first stands.tables in
     let part = read_for c.args.matter _ stands.rows _ some _ (c.in_ok-opened.ensures.seats l first stands.tables)
     c.args.entry c.args.other _ ((rw four at (c.turns.invariant.kept l clean)) stands) in
-    IfOk-weaker c.of_part.result _ _
+    IfOk-weaker c.into_matter.result _ _
     (λ p is. subst (λ (q : Part). IsPartFor (of c.args.matter (firm_in l (state g.S.Store c.args.conn.now).now.trees))
-    c.args.entry c.args.other q) (sym is) part) c.of_part.ensures.ok
+    c.args.entry c.args.other q) (sym is) part) c.into_matter.ensures

@@ -1,9 +1,8 @@
-use Rattle.sql_reads.proofs.Names.{rules, ap, ◌∙◌, Kept, EntryRow}
-use Rattle.sql_reads.proofs.Shown.{entry_shown}
+use Rattle.sql_reads.proofs.Names.{ap, ◌∙◌, Kept, EntryRow}
 use Rattle.sql_reads.proofs.matter.EntryTakingRowTaking.take.Goals as goal
 
 pub returns-clause-ok : goal.returns-clause-ok
 returns-clause-ok g c =
     c.in_ok-entry.ensures.ok
     ∙ ap (λ (k : Kept). g.K.RowSink.stepped c.args.sink.now (c.args.self.now.matter, EntryRow k.number k.entry))
-    (entry_shown _ _ _ _ c.args.row.now (search rules) c.in_ok-kept.ensures.ok c.in_ok-columns.ensures.ok)
+    c.in_ok-kept.ensures

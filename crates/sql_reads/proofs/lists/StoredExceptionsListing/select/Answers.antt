@@ -1,6 +1,6 @@
 use Rattle.sql_reads.proofs.Names.{[], map-map, exception_scan_asks, exception_scan_answer, exception_scan_selects, exception_values, exception_at}
 use Rattle.sql_reads.proofs.Handed.{handed}
-use Rattle.sql_reads.proofs.lists.ExceptionsListing.select.Goals as goal
+use Rattle.sql_reads.proofs.lists.StoredExceptionsListing.select.Goals as goal
 
 pub returns-clause-select : goal.returns-clause-select
 returns-clause-select g c = exception_scan_selects

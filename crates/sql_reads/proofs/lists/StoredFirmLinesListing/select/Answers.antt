@@ -1,6 +1,6 @@
 use Rattle.sql_reads.proofs.Names.{[], map-map, firm_scan_asks, firm_scan_answer, firm_scan_selects, firm_line_values, firm_line_at}
 use Rattle.sql_reads.proofs.Handed.{handed}
-use Rattle.sql_reads.proofs.lists.FirmLinesListing.select.Goals as goal
+use Rattle.sql_reads.proofs.lists.StoredFirmLinesListing.select.Goals as goal
 
 pub returns-clause-select : goal.returns-clause-select
 returns-clause-select g c = firm_scan_selects

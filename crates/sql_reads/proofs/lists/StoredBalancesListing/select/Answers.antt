@@ -1,6 +1,6 @@
 use Rattle.sql_reads.proofs.Names.{[], map-map, balance_scan_asks, balance_scan_answer, balance_scan_selects, balance_values, balance_at}
 use Rattle.sql_reads.proofs.Handed.{handed}
-use Rattle.sql_reads.proofs.lists.BalancesListing.select.Goals as goal
+use Rattle.sql_reads.proofs.lists.StoredBalancesListing.select.Goals as goal
 
 pub returns-clause-select : goal.returns-clause-select
 returns-clause-select g c = balance_scan_selects

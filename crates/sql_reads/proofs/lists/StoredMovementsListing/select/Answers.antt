@@ -1,6 +1,6 @@
 use Rattle.sql_reads.proofs.Names.{[], map-map, journal_scan_asks, journal_scan_answer, journal_scan_selects, movement_values, movement_at}
 use Rattle.sql_reads.proofs.Handed.{handed}
-use Rattle.sql_reads.proofs.lists.MovementsListing.select.Goals as goal
+use Rattle.sql_reads.proofs.lists.StoredMovementsListing.select.Goals as goal
 
 pub returns-clause-select : goal.returns-clause-select
 returns-clause-select g c = journal_scan_selects
