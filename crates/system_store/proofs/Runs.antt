@@ -55,8 +55,8 @@ module _ {D E : Type 0} (g : disk.Ghosts D) (h : disk.Ghosts E) where
   same_rows before put image next is_open stands found holds =
       let conn = found.conn in
       let now = (file_state conn).now in
-      let trees : now.trees ≡ (at over_files before).now.trees = ap (λ (d : Database). d.trees) found.opened.0.clean ∙ found.found.holds _ holds ∙ sym (ap (λ (d : Database). d.trees) (put.settled is_open)) in
-      let one : now ≡ (at over_files before).now = one_database now (at over_files before).now (found.opened.1 found.opened.0.is_open).0 (put.listed is_open) trees in
+      let trees : now.trees ≡ (at over_files before).now.trees = ap (λ (d : Database). d.trees) found.opened.0.clean ∙ found.found.holds _ holds ∙ sym (ap (λ (d : Database). d.trees) (put.seen.settled is_open)) in
+      let one : now ≡ (at over_files before).now = one_database now (at over_files before).now (found.opened.1 found.opened.0.is_open).0 (put.seen.listed is_open) trees in
       let schema : now.schema ≡ book_schema before.layout = ap (λ (d : Database). d.schema) one ∙ stands.tables.schema in
       let taken = taken_there before.layout conn next schema found.book in
       let kept = kept_there over_files before.layout conn next schema taken in

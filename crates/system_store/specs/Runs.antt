@@ -15,7 +15,7 @@ use Rattle.sqlite.specs.Held.{Held}
 use Rattle.sqlite.specs.Start.{FindsIn}
 use Rattle.trust_store.specs.Crashes.{LeavesAlone}
 use Rattle.sql_making.specs.Books.{no_schema}
-use Rattle.sql_book.specs.Books.{HeldBook, at, firm_of, IsStanding, IsLasting, MayLeave}
+use Rattle.sql_book.specs.Books.{HeldBook, firm_of, IsServing, IsStanding, IsSure, IsLasting, MayLeave}
 use Rattle.sql_book.specs.Opening.{IsMade, IsTaken}
 use Rattle.sql_book.specs.Stops.{IsNext, IsOldStanding, IsLeftInMoving, IsOfFirm}
 use Rattle.sql_book.specs.Then.{firm_then}
@@ -35,13 +35,22 @@ pub record IsFoundIn {D : Type 0} {g : disk.Ghosts D} (image : Image) (b : BookO
   pub found : FindsIn image (file_state conn)
   pub book : IsTaken over_files conn b ⊎ (((file_state conn).now.schema ≡ no_schema) × IsMade over_files b)
 
+-- a book was had of files with these contents: once it is sure, it was found in them, and it serves
+pub record IsHad {D : Type 0} {g : disk.Ghosts D} (image : Image) (b : BookOf g) : Type 0 where
+  pub found : IsSure over_files b → IsFoundIn image b
+  pub serves : IsSure over_files b → IsServing over_files b
+
+-- what an open connection sees was committed, in a database that lists what it holds
+pub record IsSettled {D : Type 0} {g : disk.Ghosts D} (conn : Held (FileStore D g)) : Type 0 where
+  pub settled : IsTrue (file_state conn).is_open → (file_state conn).now ≡ (file_state conn).committed
+  pub listed : IsTrue (file_state conn).is_open → IsDatabase (file_state conn).now
+
 -- The book was given back to its files. What it saw was committed, in a database that lists what it holds. It is in
 -- the database file, with its log and alone, both as the file reads now and after a crash.
 pub record IsPutBack {D : Type 0} {g : disk.Ghosts D} (b : BookOf g) : Type 0 where
   pub files : Files D
   pub copied : AreClean g files.log files.db → IsCopied b.conn files
-  pub settled : IsTrue (at over_files b).is_open → (at over_files b).now ≡ (at over_files b).committed
-  pub listed : IsTrue (at over_files b).is_open → IsDatabase (at over_files b).now
+  pub seen : IsSettled b.conn
 
 -- the contents of two files as they read now, or after a crash
 abbrev pub IsLeftIn : {D : Type 0} → disk.Ghosts D → Files D → Image → Type 0

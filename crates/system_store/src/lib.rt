@@ -5,10 +5,10 @@
 //! By public call, with the clauses of its contract in brackets.
 //!
 //! - `system_store::book_at`, `copied`: for whatever the files at a path hold when they are opened: the book that they
-//!   hold is taken, and one is made only if they hold no table (`found`); it serves if what was read is what had been
-//!   written (`serves`). A connection whose log was copied has its database in the database file alone, both with its
-//!   log and without it, as the file reads now and after a crash (`copied`); what it saw was committed (`settled`), and
-//!   the database lists what it holds (`listed`).
+//!   hold is taken, and one is made only if they hold no table; it serves if what was read is what had been written
+//!   (`had`). A connection whose log was copied has its database in the database file alone, both with its log and
+//!   without it, as the file reads now and after a crash (`copied`); what it saw was committed, and the database lists
+//!   what it holds (`settled`).
 //! - `system_store::SystemStores` as `Stores`: of files of which nothing is known, `finds` says what `book_at` does,
 //!   and `puts` only that there are files to which a book was put back: that they are its connection's is said of
 //!   `copied`. That these two are what it calls, and that nothing else is done to a book's files, no clause says.

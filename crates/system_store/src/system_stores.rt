@@ -1,17 +1,15 @@
 // The books at paths of the system.
 
-ghost use Rattle.std.specs.Prelude.{◌≡◌, ◌↔◌, false, true, IfOk, OnOk, IsTrue};
+ghost use Rattle.std.specs.Prelude.{◌≡◌, ◌↔◌, false, true, IfOk, OnOk};
 ghost use Rattle.sqlite.specs.Closing.{IsCopied};
-ghost use Rattle.sqlite.specs.Effect.{IsDatabase};
-ghost use Rattle.sqlite.specs.Files.{IsBlankAs, IsOpened, file_state, over_files};
+ghost use Rattle.sqlite.specs.Files.{IsBlankAs, IsOpened, file_state};
 ghost use Rattle.sqlite.specs.Start.{FindsIn};
 ghost use Rattle.sqlite.specs.declared.error.ErrorCode.TheVariants.{OutOfMemory};
 ghost use Rattle.sqlite.specs.State.{HasCleanDisk};
 ghost use Rattle.sqlite_store.specs.FileStore.{view};
 ghost use Rattle.sqlite_wal.specs.Files.{image_at};
 ghost use Rattle.sqlite_wal.specs.Reads.{AreClean};
-ghost use Rattle.sql_book.specs.Books.{IsServing, IsSure};
-ghost use Rattle.system_store.specs.Runs.{IsFoundIn, IsPutBack, unknown_files};
+ghost use Rattle.system_store.specs.Runs.{IsFoundIn, IsHad, IsPutBack, IsSettled, unknown_files};
 
 use sql_book::{OpenFault, SqlBook};
 use sql_reads::fault_of;
@@ -102,8 +100,7 @@ pub fn book_at<T: Start>(
     path: &str,
     start: T,
 ) -> Result<SqlBook<FileWith<T>>, NoBook>
-    ensures found { IfOk result (λ book. IsSure over_files book → IsFoundIn (image_at T.Start) book) }
-    ensures serves { IfOk result (λ book. IsSure over_files book → IsServing over_files book) }
+    ensures had { IfOk result (IsHad (image_at T.Start)) }
 {
     let conn = connection_at(rt, path, start)?;
     match SqlBook::adopt(alloc, conn) {
@@ -121,8 +118,7 @@ pub fn book_at<T: Start>(
 pub fn copied<D: Disk + Drop>(conn: Connection<FileStore<D>>) -> Result<Files<D>, Error>
     requires { conn.in_transaction ≡ false }
     ensures copied { IfOk result (λ files. AreClean D.Disk files.log files.db → IsCopied conn files) }
-    ensures settled { IsTrue (file_state conn).is_open → (file_state conn).now ≡ (file_state conn).committed }
-    ensures listed { IsTrue (file_state conn).is_open → IsDatabase (file_state conn).now }
+    ensures settled { IsSettled conn }
 {
     // For the proof.
     let _settled = conn.is_autocommit();

@@ -3,6 +3,5 @@ use Rattle.system_store.proofs.system_stores.SystemStoresStores.put_back.Goals a
 
 pub returns-in-Ok : goal.returns-in-Ok
 returns-in-Ok c = record {
-  put = put_back _ _ c.in-Ok._files c.release.ensures.same c.in-Ok.ensures.copied c.in-Ok.ensures.settled
-      c.in-Ok.ensures.listed;
+  put = put_back _ _ c.in-Ok._files c.release.ensures.same c.in-Ok.ensures.copied c.in-Ok.ensures.settled;
 }
