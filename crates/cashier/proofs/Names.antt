@@ -8,7 +8,8 @@ pub use Rattle.csv.specs.Reading.{ReadRecord, Ready, default_config, source_of}
 unfoldable pub use Rattle.csv.specs.Reading.{Reached, strip_bom}
 pub use Rattle.csv.specs.Records.{fields_of}
 pub use Rattle.firm_rows.specs.Firm.{Firm, empty_firm, of}
-pub use Rattle.portal_http.specs.Clients.{Comes, Ports}
+pub use Rattle.portal_http.specs.Clients.{Comes}
+pub use Rattle.portal_http.specs.Output.{Output}
 pub use Rattle.portal_http.specs.ServedAll.{AreServedInTurn, IsClientServed}
 pub use Rattle.portal_http.specs.declared.stream.StreamEnd.{StreamEnd}
 pub use Rattle.std.proofs.Common.{Bool, Bor, Err, IfOk, IfSome, List, None, Ok, OnOk, Option, Result, Some, [], ap, append_assoc, arith, cond, false, inl, inr, length, length-append, map, nat_lt, not, option_map, refl, subst, suc, sym, take, true, ℕ, ◌&&◌, ◌++◌, ◌+◌, ◌<◌, ◌||◌, ◌∙◌, ◌∷◌, ◌≡◌, ◌≢◌, ◌≤◌, ◌⊎◌}
@@ -36,8 +37,9 @@ pub use Rattle.trust_store.specs.Seen.{Seen}
 pub use Rattle.cashier.specs.Calls.{IsSame}
 pub use Rattle.trust_desk.specs.Calls.{Counts, IsAny, KeepsBook}
 pub use Rattle.cashier.specs.Outcome.{Ran, put_outcome, store_outcome, stream_outcome}
-pub use Rattle.cashier.specs.Sheet.{Cut, CutsLine, Ends, IsBehindLines, IsWhole, LargeEnds, Leaves, LinesAreKept, OwnRecordsAlone, RecordEnds, RunEnds, TellsLine, all_accepted, body_line, end_of, firm_from, is_accepting, lines_at, lines_from, names_matter, ran_by, ran_refused, record_step, records_run, refusal_line, reply_line, sheet_records}
+pub use Rattle.cashier.specs.Sheet.{Cut, CutsLine, Ends, IsBehindLines, IsWhole, LargeEnds, Leaves, LinesAreKept, OwnRecordsAlone, RecordEnds, RunEnds, SheetIsKept, TellsLine, all_accepted, body_line, end_of, firm_from, is_accepting, lines_at, lines_from, names_matter, ran_by, ran_refused, record_step, records_run, refusal_line, reply_line, sheet_records}
 unfoldable pub use Rattle.cashier.specs.Sheet.{line_of}
+pub use Rattle.cashier.specs.Views.{Known}
 pub use Rattle.cashier.specs.declared.outcome.Outcome.{Outcome}
 pub use Rattle.cashier.specs.declared.sheet.SheetEnd.{SheetEnd}
 pub use Rattle.std.proofs.lemmas.Int.{ints}

@@ -3,7 +3,6 @@ use Rattle.cashier.proofs.Names.{◌≡◌, ℕ, Option, inl, inr, Refusal, Firm
 use Rattle.trust_matter.specs.declared.ask.Ask.TheVariants.{Account, Accounting}
 use Rattle.trust_matter.specs.declared.ask.Caller.TheVariants.{Cashier}
 use Rattle.command_line.specs.declared.command.ReportCommand.{ReportCommand}
-use Rattle.command_line.specs.declared.command.ReportCommand.TheVariants as commands
 use Rattle.trust_base.specs.Periods.{Span}
 use Rattle.cashier.specs.Report.{asked_for}
 

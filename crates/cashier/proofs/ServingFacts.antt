@@ -1,7 +1,6 @@
 -- What the end of serving clients says of the firm, and of the program's end.
 use Rattle.cashier.proofs.Names.{◌≡◌, ℕ, suc, List, [], ◌∷◌, Option, ap, subst, Seen, StreamEnd, Comes, AreServedInTurn, IsClientServed, arith, ints, nat_tests}
 use Rattle.portal_http.specs.declared.server.ServeEnd.{ServeEnd}
-use Rattle.portal_http.specs.declared.server.ServeEnd.TheVariants as serving
 use Rattle.cashier.specs.Serving.{AreMetInTurn, IsMet, serving_outcome}
 use Rattle.cashier.specs.declared.outcome.Outcome.TheVariants as outcome
 use Rattle.cashier.proofs.StreamFacts.{stream-ends}

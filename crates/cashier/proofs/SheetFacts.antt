@@ -1,5 +1,6 @@
 -- What the lines of a sheet are, record after record.
-use Rattle.cashier.proofs.Names.{◌≡◌, ◌⊎◌, ◌∙◌, ◌<◌, ◌≤◌, ◌+◌, ◌++◌, nat_lt, IfSome, ◌∷◌, ◌&&◌, ◌||◌, not, ℕ, Bool, true, false, List, [], length, take, Option, Some, None, Result, Ok, Err, inl, inr, refl, sym, ap, arith, append_assoc, length-append, Appends-trans, nat_tests, append-nil, take-append-le, Appends, concat, Refusal, Store, Memory, Firm, Steps, firm_step, Heard, is_fault_body, is_fault_reply, refused, Body, Refused, Reply, heard_of, Cut, CutsLine, Ends, LargeEnds, Leaves, RunEnds, sheet_records, all_accepted, body_line, end_of, firm_from, is_accepting, lines_from, ran_by, ran_refused, record_step, refusal_line, reply_line, RecordEnds, SheetEnd, MAX_FILE_BYTES, ints}
+use Rattle.cashier.proofs.Names.{◌≡◌, ◌⊎◌, ◌∙◌, ◌<◌, ◌≤◌, ◌+◌, ◌++◌, nat_lt, IfSome, ◌∷◌, ◌&&◌, ◌||◌, not, ℕ, Bool, true, false, List, [], length, take, Option, Some, None, Result, Ok, Err, inl, inr, refl, sym, ap, arith, append_assoc, length-append, Appends-nil, Appends-trans, nat_tests, append-nil, take-append-le, Appends, concat, Refusal, Store, Memory, Firm, Steps, firm_step, Heard, is_fault_body, is_fault_reply, refused, Body, Refused, Reply, heard_of, Cut, CutsLine, Ends, LargeEnds, Leaves, RunEnds, sheet_records, all_accepted, body_line, end_of, firm_from, is_accepting, lines_from, ran_by, ran_refused, record_step, refusal_line, reply_line, RecordEnds, SheetEnd, MAX_FILE_BYTES, ints}
+use Rattle.std.specs.Prelude.{MatchBool}
 use Rattle.std.proofs.Math.Seq.{take-append-add, take-append_seam}
 use Rattle.trust_base.specs.Refusals.{is_fault}
 use Rattle.day_sheet.proofs.RecordFacts.{steps-fault}
@@ -188,3 +189,14 @@ ends-run (Some bytes) items day before after old new e (same, short) h =
 pub ends-large : (known : Option (List ℕ)) (day : ℕ) (firm : Firm) (old new : Option (List ℕ)) (e : SheetEnd)
     → IfSome known (λ all. MAX_FILE_BYTES < length all) → LargeEnds firm firm old new e → IfSome known (λ bytes. Ends day firm bytes firm old new e)
 ends-large known day firm old new e long h = grind (arith, ints, nat_tests, nat_lt, length)
+
+-- memory ran out before a record was run
+by-size : (is_large : Bool) (Large Small : Type 0) → Large → Small → MatchBool is_large Large Small
+by-size true Large Small large small = large
+by-size false Large Small large small = small
+
+pub ends-unread : (known : Option (List ℕ)) (day : ℕ) (firm : Firm) (text : Option (List ℕ)) → IfSome known (λ bytes. Ends day firm bytes firm text text end.NoMemory)
+ends-unread None day firm text = tt
+ends-unread (Some bytes) day firm text =
+    by-size (nat_lt MAX_FILE_BYTES (length bytes)) (LargeEnds firm firm text text end.NoMemory) (RunEnds day firm (sheet_records bytes) firm text text end.NoMemory)
+    (Appends-nil text, refl) (inl (leaves-first day firm firm (sheet_records bytes) [] (sheet_records bytes) text text false refl (Appends-nil text, refl, refl)))

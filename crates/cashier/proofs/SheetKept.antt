@@ -1,5 +1,5 @@
 -- What a crash leaves of a sheet.
-use Rattle.cashier.proofs.Names.{◌≡◌, ◌∙◌, ◌<◌, ◌≤◌, ◌++◌, ◌∷◌, ◌⊎◌, nat_lt, ℕ, Bool, true, false, List, [], length, take, Option, Result, Err, IfSome, inl, inr, refl, ap, subst, arith, IsOk, Appends-nil, Appends-trans, nat_tests, append-nil, Appends, concat, MAX_FILE_BYTES, Refusal, TooLarge, Firm, Seen, LeavesAlone, IsMade, MayLeave, Steps, firm_step, Heard, is_fault_body, is_fault_reply, Body, Json, Refused, Reply, leave-as, heard_of, IsBehindLines, IsWhole, LargeEnds, LinesAreKept, TellsLine, body_line, firm_from, lines_from, ran_by, record_step, records_run, refusal_line, reply_line, sheet_records, SheetEnd, ints}
+use Rattle.cashier.proofs.Names.{◌≡◌, ◌∙◌, ◌<◌, ◌≤◌, ◌++◌, ◌∷◌, ◌⊎◌, nat_lt, ℕ, Bool, true, false, List, [], length, take, Option, Result, Err, IfSome, inl, inr, refl, ap, subst, arith, IsOk, Appends-trans, nat_tests, append-nil, Appends, concat, MAX_FILE_BYTES, Refusal, TooLarge, Output, Firm, Seen, LeavesAlone, IsMade, MayLeave, Steps, firm_step, Heard, is_fault_body, is_fault_reply, Body, Json, Refused, Reply, leave-as, heard_of, IsBehindLines, IsWhole, LargeEnds, LinesAreKept, TellsLine, body_line, firm_from, lines_from, ran_by, record_step, records_run, refusal_line, reply_line, sheet_records, SheetEnd, ints}
 use Rattle.trust_desk.specs.declared.requests.Body.TheVariants.{Text}
 use Rattle.trust_desk.proofs.MadeRows.{plain-step}
 use Rattle.cashier.specs.Sent.{IsSent}
@@ -77,54 +77,55 @@ pub going-more : {done : Type 0} {Makes : Firm → Type 0} (old mid new : Seen) 
 going-more old mid new is going one = (one.serves going.0 is, λ alone. one.settled is (going.1 alone))
 
 -- where it ends between two records
-pub kept-here : (day : ℕ) (all past later : List (List (List ℕ))) (old new : Seen) (given told : Option (List ℕ)) (off : Bool) (ended : SheetEnd) → past ++ later ≡ all → (IsWhole ended → later ≡ [])
-    → SoFar day old.firm past new.firm given told off → IsGoing old new
-    → LinesAreKept day old.firm all old given told ended new
-kept-here day all past later old new given told off ended parts none x12 going =
+pub kept-here : (day : ℕ) (all past later : List (List (List ℕ))) (old new : Seen) (output : Output) (off : Bool) (ended : SheetEnd) → past ++ later ≡ all → (IsWhole ended → later ≡ [])
+    → SoFar day old.firm past new.firm output.before output.after off → IsGoing old new
+    → LinesAreKept day all output ended old new
+kept-here day all past later old new output off ended parts none x11 going =
     grind (arith, ints, nat_tests, append-nil, concat, lines_from)
 
 -- where a record ends it
-pub kept-stopped : (day : ℕ) (all past left rest : List (List (List ℕ))) (r : List (List ℕ)) (old mid new : Seen) (given so_far told : Option (List ℕ)) (off : Bool) (ended : SheetEnd) → past ++ left ≡ all → left ≡ r ∷ rest
-    → SoFar day old.firm past mid.firm given so_far off → IsGoing old mid
-    → MayLeave (GoesOn (Err ended)) (IsMade day mid.firm (heard_of r)) mid.firm new.firm mid new → TellsLine day mid.firm r so_far told (Err ended)
-    → LinesAreKept day old.firm all old given told ended new
-kept-stopped day all past left rest r old mid new given so_far told off ended parts first (written, is, was) going one line =
-    let here = subst (λ (f : Firm). TellsLine day f r so_far told (Err ended)) is line in
-    let (more, behind, wrote) = behind-of day (firm_from day old.firm past) r rest so_far told ended here in
+pub kept-stopped : (day : ℕ) (all past left rest : List (List (List ℕ))) (r : List (List ℕ)) (old mid new : Seen) (output : Output) (so_far : Option (List ℕ)) (off : Bool) (ended : SheetEnd) → past ++ left ≡ all → left ≡ r ∷ rest
+    → SoFar day old.firm past mid.firm output.before so_far off → IsGoing old mid
+    → MayLeave (GoesOn (Err ended)) (IsMade day mid.firm (heard_of r)) mid.firm new.firm mid new → TellsLine day mid.firm r so_far output.after (Err ended)
+    → LinesAreKept day all output ended old new
+kept-stopped day all past left rest r old mid new output so_far off ended parts first (written, is, was) going one line =
+    let here = subst (λ (f : Firm). TellsLine day f r so_far output.after (Err ended)) is line in
+    let (more, behind, wrote) = behind-of day (firm_from day old.firm past) r rest so_far output.after ended here in
     record {
       past = past;
       later = r ∷ rest;
       parts = rw first at parts;
       more = more;
       behind = behind;
-      written = Appends-trans given so_far told _ more written wrote;
+      written = Appends-trans output.before so_far output.after _ more written wrote;
       left = λ alone found may. elim (one.crash found may) [
         | inl before ↦ inl (going.1 alone found before ∙ is)
         | inr made ↦ inr (subst (λ (f : Firm). IsMade day f (heard_of r) found) is made)
       ];
-      whole = λ w. absurd (not-whole line.reply so_far told ended line.sent w);
+      whole = λ w. absurd (not-whole line.reply so_far output.after ended line.sent w);
     }
 
 -- where none was run
-pub kept-none : (day : ℕ) (all : List (List (List ℕ))) (old : Seen) (given : Option (List ℕ)) (ended : SheetEnd) → (IsWhole ended → ⊥) → LinesAreKept day old.firm all old given given ended old
-kept-none day all old given ended never = record {
+pub kept-none : (day : ℕ) (all : List (List (List ℕ))) (old : Seen) (output : Output) (ended : SheetEnd) → (IsWhole ended → ⊥) → Appends output.before output.after []
+    → LinesAreKept day all output ended old old
+kept-none day all old output ended never nothing = record {
   past = [];
   later = all;
   parts = refl;
   more = [];
   behind = inl refl;
-  written = Appends-nil given;
+  written = nothing;
   left = λ alone found may. inl (alone found may);
   whole = λ w. absurd (never w);
 }
 
-pub kept-large : (day : ℕ) (old : Seen) (given told : Option (List ℕ)) (ended : SheetEnd) → old.clean → LargeEnds old.firm old.firm given told ended → LinesAreKept day old.firm [] old given told ended old
-kept-large day old given told end.Done served large = absurd large
-kept-large day old given told end.Refused served (wrote, same) = record { past = []; later = []; parts = refl; more = refusal_line TooLarge; behind = inr (inl (TooLarge, inl refl)); written = wrote; left = λ alone found may. inl (alone found may); whole = λ w. (refl, served) }
-kept-large day old given told end.ReadFault served (wrote, same) = record { past = []; later = []; parts = refl; more = []; behind = inl refl; written = wrote; left = λ alone found may. inl (alone found may); whole = λ w. absurd w }
-kept-large day old given told end.WriteFault served (n, less, wrote, same) = record { past = []; later = []; parts = refl; more = take n (refusal_line TooLarge); behind = inr (inl (TooLarge, inr (n, less, refl))); written = wrote; left = λ alone found may. inl (alone found may); whole = λ w. absurd w }
-kept-large day old given told end.Store served large = absurd large
-kept-large day old given told end.NoMemory served (wrote, same) = record { past = []; later = []; parts = refl; more = []; behind = inl refl; written = wrote; left = λ alone found may. inl (alone found may); whole = λ w. absurd w }
+pub kept-large : (day : ℕ) (old : Seen) (output : Output) (ended : SheetEnd) → old.clean → LargeEnds old.firm old.firm output.before output.after ended → LinesAreKept day [] output ended old old
+kept-large day old output end.Done served large = absurd large
+kept-large day old output end.Refused served (wrote, same) = record { past = []; later = []; parts = refl; more = refusal_line TooLarge; behind = inr (inl (TooLarge, inl refl)); written = wrote; left = λ alone found may. inl (alone found may); whole = λ w. (refl, served) }
+kept-large day old output end.ReadFault served (wrote, same) = record { past = []; later = []; parts = refl; more = []; behind = inl refl; written = wrote; left = λ alone found may. inl (alone found may); whole = λ w. absurd w }
+kept-large day old output end.WriteFault served (n, less, wrote, same) = record { past = []; later = []; parts = refl; more = take n (refusal_line TooLarge); behind = inr (inl (TooLarge, inr (n, less, refl))); written = wrote; left = λ alone found may. inl (alone found may); whole = λ w. absurd w }
+kept-large day old output end.Store served large = absurd large
+kept-large day old output end.NoMemory served (wrote, same) = record { past = []; later = []; parts = refl; more = []; behind = inl refl; written = wrote; left = λ alone found may. inl (alone found may); whole = λ w. absurd w }
 
 -- A sheet, of bytes that are known or not.
 

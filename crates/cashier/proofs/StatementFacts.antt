@@ -1,5 +1,5 @@
 -- What the import of a statement says of its bytes, where less is known of them.
-use Rattle.cashier.proofs.Names.{ℕ, List, Option, option_map, Keeps, Firm, Seen, IsAfterFirst, MayLeave, arith, ints, nat_tests}
+use Rattle.cashier.proofs.Names.{ℕ, List, Option, option_map, Keeps, Output, Firm, Seen, IsAfterFirst, MayLeave, arith, ints, nat_tests}
 use Rattle.statement_csv.specs.Items.{items}
 use Rattle.trust_desk.specs.Imports.{Imports}
 use Rattle.trust_desk.specs.declared.importing.ImportEnd.{ImportEnd}
@@ -14,13 +14,13 @@ imported-known : (day : ℕ) (before after : Firm) (known bytes : Option (List �
     → Imported day before bytes after ran → Imported day before known after ran
 imported-known day before after known bytes ran keeps h = grind (arith, ints, nat_tests, imports-known)
 
-run-known : (day : ℕ) (before after : Firm) (known bytes old new : Option (List ℕ)) (e : Outcome) → Keeps known bytes
-    → Run day before bytes after old new e → Run day before known after old new e
-run-known day before after known bytes old new e keeps h = grind (arith, ints, nat_tests, imported-known)
+run-known : (day : ℕ) (before after : Firm) (known bytes : Option (List ℕ)) (output : Output) (e : Outcome) → Keeps known bytes
+    → Run day bytes output e before after → Run day known output e before after
+run-known day before after known bytes output e keeps h = grind (arith, ints, nat_tests, imported-known)
 
-pub ends-known : (day : ℕ) (before after : Firm) (size : Option ℕ) (known bytes old new : Option (List ℕ)) (e : Outcome) → Keeps known bytes
-    → StatementEnds day before size bytes after old new e → StatementEnds day before size known after old new e
-ends-known day before after size known bytes old new e keeps h =
+pub ends-known : (day : ℕ) (before after : Firm) (size : Option ℕ) (known bytes : Option (List ℕ)) (output : Output) (e : Outcome) → Keeps known bytes
+    → StatementEnds day size bytes output e before after → StatementEnds day size known output e before after
+ends-known day before after size known bytes output e keeps h =
     grind (arith, ints, nat_tests, is_told_longer, run-known)
 
 -- what a crash leaves

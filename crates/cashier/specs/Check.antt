@@ -1,5 +1,5 @@
 -- What a check of the book prints, and how it ends.
-use Rattle.std.specs.Prelude.{◌≡◌, ◌++◌, ℕ, List, Option, Some, None, Result, Ok, Err, codes, ⊤}
+use Rattle.std.specs.Prelude.{◌≡◌, ◌++◌, ℕ, List, Some, None, Result, Ok, Err, codes, ⊤}
 use Rattle.std.specs.Fmt.{decimal}
 use Rattle.std.specs.Io.KnownBytes.{Appends}
 use Rattle.trust_base.specs.Refusals.{refused_by}
@@ -14,6 +14,7 @@ use Rattle.trust_desk.specs.Checking.{AreCountsOf}
 use Rattle.trust_desk.specs.declared.checking.RowCounts.{RowCounts}
 use Rattle.trust_desk.specs.declared.unread.Unread.{Unread}
 use Rattle.trust_desk.specs.declared.unread.Unread.TheVariants as unread
+use Rattle.portal_http.specs.Output.{Output}
 use Rattle.cashier.specs.Report.{refused_outcome}
 use Rattle.cashier.specs.Sent.{IsSent}
 use Rattle.cashier.specs.Sheet.{refusal_line}
@@ -85,14 +86,15 @@ check_outcome (Ok told) = found_outcome told
 check_outcome (Err fault) = refused_outcome (refused_by fault)
 
 -- everything was printed, and the run ended accordingly; or a write failed, and only a prefix was printed
-abbrev pub PrintsCheck : Result CheckFound StoreFault → Option (List ℕ) → Option (List ℕ) → Outcome → Type 0
-PrintsCheck told old new ended = IsSent (check_line told) (check_outcome told) outcome.OutputFault old new ended
+abbrev pub PrintsCheck : Result CheckFound StoreFault → Output → Outcome → Type 0
+PrintsCheck told output ended =
+    IsSent (check_line told) (check_outcome told) outcome.OutputFault output.before output.after ended
 
 -- a check of the book: the firm is unchanged, and the result was printed
-pub record CheckEnds (before after : Firm) (old new : Option (List ℕ)) (told : Outcome) : Type 0 where
+pub record CheckEnds (output : Output) (told : Outcome) (before after : Firm) : Type 0 where
   pub firm : after ≡ before
   pub found : Result CheckFound StoreFault
-  pub prints : PrintsCheck found old new told
+  pub prints : PrintsCheck found output told
 
 -- what is said to be sound is sound, and has this many rows; a flaw is one that the firm has. Of a row that the book
 -- refused to read the firm's rows say nothing
@@ -108,32 +110,32 @@ IsUnsoundBy firm (found.Flawed flaw) = IsFlawOf firm flaw
 IsUnsoundBy firm (found.Unreadable row) = ⊤
 
 -- it was found sound, and this was printed
-pub record IsSaid (told : Result CheckFound StoreFault) (old new : Option (List ℕ)) : Type 0 where
+pub record IsSaid (told : Result CheckFound StoreFault) (output : Output) : Type 0 where
   pub counts : RowCounts
   pub is : told ≡ Ok (found.Sound counts)
-  pub printed : Appends old new (check_text (found.Sound counts))
+  pub printed : Appends output.before output.after (check_text (found.Sound counts))
 
 -- it was found not to be sound, or not to be readable, and this was printed
-pub record IsSaidRefused (told : Result CheckFound StoreFault) (old new : Option (List ℕ)) : Type 0 where
+pub record IsSaidRefused (told : Result CheckFound StoreFault) (output : Output) : Type 0 where
   pub found : CheckFound
   pub is : told ≡ Ok found
   pub refused : found_outcome found ≡ outcome.Refused
-  pub printed : Appends old new (check_text found)
+  pub printed : Appends output.before output.after (check_text found)
 
 -- the firm was said to be sound, and is
-pub record IsSaidSound (firm : Firm) (old new : Option (List ℕ)) : Type 0 where
+pub record IsSaidSound (firm : Firm) (output : Output) : Type 0 where
   pub counts : RowCounts
-  pub printed : Appends old new (check_text (found.Sound counts))
+  pub printed : Appends output.before output.after (check_text (found.Sound counts))
   pub sound : FirmSound firm
   pub are : AreCountsOf firm counts
 
 -- a flaw was printed, which the firm has, or a row that the book refused to read
-pub record IsSaidUnsound (firm : Firm) (old new : Option (List ℕ)) : Type 0 where
+pub record IsSaidUnsound (firm : Firm) (output : Output) : Type 0 where
   pub found : CheckFound
-  pub printed : Appends old new (check_text found)
+  pub printed : Appends output.before output.after (check_text found)
   pub unsound : IsUnsoundBy firm found
 
 -- what a check that ended so printed is true of the firm
-pub record IsCheckTrue (firm : Firm) (old new : Option (List ℕ)) (ended : Outcome) : Type 0 where
-  pub sound : ended ≡ outcome.Done → IsSaidSound firm old new
-  pub unsound : ended ≡ outcome.Refused → IsSaidUnsound firm old new
+pub record IsCheckTrue (firm : Firm) (output : Output) (ended : Outcome) : Type 0 where
+  pub sound : ended ≡ outcome.Done → IsSaidSound firm output
+  pub unsound : ended ≡ outcome.Refused → IsSaidUnsound firm output

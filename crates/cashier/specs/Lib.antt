@@ -11,3 +11,4 @@ pub mod Serving
 pub mod Sheet
 pub mod Statement
 pub mod Stream
+pub mod Views

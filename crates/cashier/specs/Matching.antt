@@ -8,6 +8,7 @@ use Rattle.trust_matter.specs.declared.ask.Caller.TheVariants.{Cashier}
 use Rattle.firm_rows.specs.Firm.{Firm}
 use Rattle.statement_match.specs.Matched.{MatchedTexts}
 use Rattle.trust_desk.specs.MatchStep.{IsMatched}
+use Rattle.portal_http.specs.Output.{Output}
 use Rattle.cashier.specs.Report.{refused_outcome}
 use Rattle.cashier.specs.Sent.{IsSent}
 use Rattle.cashier.specs.Sheet.{refusal_line}
@@ -35,8 +36,9 @@ found_outcome (Ok texts) = left_outcome texts.is_left
 found_outcome (Err r) = refused_outcome r
 
 -- the result was printed completely, and the run ended accordingly; or a write failed, and only a prefix was printed
-abbrev pub PrintsFound : Found → Option (List ℕ) → Option (List ℕ) → Outcome → Type 0
-PrintsFound found old new told = IsSent (found_text found) (found_outcome found) outcome.OutputFault old new told
+abbrev pub PrintsFound : Found → Output → Outcome → Type 0
+PrintsFound found output told =
+    IsSent (found_text found) (found_outcome found) outcome.OutputFault output.before output.after told
 
 -- this is the result for a statement with this length, if it is reported, and these bytes, if they are known, over the
 -- firm on a day, asked for by the cashier; one that reports a length above the limit is refused, whatever its bytes are
@@ -45,16 +47,16 @@ IsFound day firm size bytes found = MatchBool (is_told_longer size) (found ≡ E
     (IfSome bytes (λ all. IsMatched day firm Cashier all found))
 
 -- a read failed, and nothing was printed; or the result was printed
-abbrev pub MatchPrints : ℕ → Firm → Option ℕ → Option (List ℕ) → Option Found → Option (List ℕ) → Option (List ℕ)
-    → Outcome → Type 0
-MatchPrints day firm size bytes None old new told = Appends old new [] × (told ≡ outcome.FileFault)
-MatchPrints day firm size bytes (Some found) old new told =
-    IsFound day firm size bytes found × PrintsFound found old new told
+abbrev pub MatchPrints : ℕ → Firm → Option ℕ → Option (List ℕ) → Option Found → Output → Outcome → Type 0
+MatchPrints day firm size bytes None output told =
+    Appends output.before output.after [] × (told ≡ outcome.FileFault)
+MatchPrints day firm size bytes (Some found) output told =
+    IsFound day firm size bytes found × PrintsFound found output told
 
 -- how the match of a statement with this length, if it is reported, and these bytes, if they are known, ends on a day:
 -- the firm is unchanged, and the result was printed
-pub record MatchEnds (day : ℕ) (before : Firm) (size : Option ℕ) (bytes : Option (List ℕ)) (after : Firm)
-    (old new : Option (List ℕ)) (told : Outcome) : Type 0 where
+pub record MatchEnds (day : ℕ) (size : Option ℕ) (bytes : Option (List ℕ)) (output : Output) (told : Outcome)
+    (before after : Firm) : Type 0 where
   pub firm : after ≡ before
   pub found : Option Found
-  pub prints : MatchPrints day before size bytes found old new told
+  pub prints : MatchPrints day before size bytes found output told

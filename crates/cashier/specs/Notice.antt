@@ -9,20 +9,20 @@ use Rattle.command_line.specs.declared.advice.Advice.{Advice}
 use Rattle.command_line.specs.declared.command.Task.TheVariants as task
 use Rattle.cashier.specs.declared.notice.Notice.{Notice}
 use Rattle.cashier.specs.declared.notice.Notice.TheVariants as notice
-use Rattle.cashier.specs.declared.notice.Source.{Source}
-use Rattle.cashier.specs.declared.notice.Source.TheVariants as source
+use Rattle.cashier.specs.declared.notice.InputSource.{InputSource}
+use Rattle.cashier.specs.declared.notice.InputSource.TheVariants as source
 use Rattle.cashier.specs.declared.outcome.Outcome.{Outcome}
 use Rattle.cashier.specs.declared.outcome.Outcome.TheVariants as outcome
 
 -- ---- texts
 
 -- what could not be read
-abbrev pub source_text : Source → Text
+abbrev pub source_text : InputSource → Text
 source_text (source.File path) = path.now ++ codes " could not be opened or read"
 source_text source.Input = codes "standard input could not be read"
 
 -- the line about what could not be read, if that is known
-abbrev pub source_line : Option Source → Text
+abbrev pub source_line : Option InputSource → Text
 source_line None = codes "file fault"
 source_line (Some s) = codes "file fault\n" ++ source_text s
 
@@ -54,7 +54,7 @@ pub record IsAdvice (words : List Text) (advice : Advice) : Type 0 where
   pub wrong : IfSome advice.wrong (IsWrong words)
 
 -- the words say to read this
-abbrev pub IsSource : List Text → Source → Type 0
+abbrev pub IsSource : List Text → InputSource → Type 0
 IsSource words (source.File path) =
     ((today : ℕ) × Means words today (task.Import path)) ⊎ ((today : ℕ) × Means words today (task.Match path))
 IsSource words source.Input = MeansSheet words ⊎ MeansStream words
@@ -74,7 +74,7 @@ IsTold words outcome.Refused told = told ≡ None
 IsTold words outcome.CommandLine told =
     (advice : Advice) × IsAdvice words advice × (told ≡ Some (notice.CommandLine advice))
 IsTold words outcome.FileFault told =
-    (s : Option Source) × IfSome s (IsSource words) × (told ≡ Some (notice.FileFault s))
+    (s : Option InputSource) × IfSome s (IsSource words) × (told ≡ Some (notice.FileFault s))
 IsTold words outcome.OutputFault told = told ≡ Some notice.OutputFault
 IsTold words outcome.StoreFault told =
     (path : Option (Bor (List ℕ))) × IfSome path (λ p. IsBookPath words p.now) × (told ≡ Some (notice.StoreFault path))

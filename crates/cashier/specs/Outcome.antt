@@ -1,5 +1,5 @@
 -- How a run of the program ends for its caller, and its exit status.
-use Rattle.std.specs.Prelude.{◌≡◌, ◌⊎◌, ◌++◌, ℕ, List, [], Option, Some, None, IfSome, Result, Ok, Err, codes, ⊤}
+use Rattle.std.specs.Prelude.{◌≡◌, ◌⊎◌, ℕ, List, [], Option, Some, None, Result, Ok, Err, ⊤}
 use Rattle.std.specs.Borrow.{Bor}
 use Rattle.std.specs.Io.KnownBytes.{Appends}
 use Rattle.clap.specs.Words.{Text}
@@ -10,13 +10,14 @@ use Rattle.command_line.specs.Program.{Means}
 use Rattle.cashier.specs.Check.{CheckEnds}
 use Rattle.cashier.specs.Matching.{MatchEnds}
 use Rattle.cashier.specs.Report.{PrintsReport}
-use Rattle.portal_http.specs.Clients.{Ports}
+use Rattle.portal_http.specs.Clients.{clients_of}
+use Rattle.portal_http.specs.Output.{Output}
 use Rattle.cashier.specs.Serving.{PortEnds}
-use Rattle.cashier.specs.Sheet.{Ends}
+use Rattle.cashier.specs.Sheet.{SheetEnds}
 use Rattle.cashier.specs.Statement.{StatementEnds}
 use Rattle.cashier.specs.Stream.{StreamEnds}
+use Rattle.cashier.specs.Views.{File, Files, Known}
 use Rattle.command_line.specs.declared.command.ReportCommand.{ReportCommand}
-use Rattle.command_line.specs.declared.command.Task.{Task}
 use Rattle.command_line.specs.declared.command.Task.TheVariants as task
 use Rattle.cashier.specs.declared.outcome.Outcome.{Outcome}
 use Rattle.cashier.specs.declared.outcome.Outcome.TheVariants as outcome
@@ -89,123 +90,114 @@ HasBegun outcome.StoreFault = ⊤
 HasBegun outcome.MemoryFault = ⊥
 HasBegun outcome.NetworkFault = ⊤
 
--- the file at a path was not opened, as its folder allows, and nothing was done
-pub record IsUnopened (opens : Option (Option ℕ) → Type 0) (before after : Firm) (old new : Option (List ℕ))
-    (told : Outcome) : Type 0 where
-  pub opened : opens None
+-- the file was not opened, as its folder allows, and nothing was done
+pub record IsUnopened (file : File) (output : Output) (told : Outcome) (before after : Firm) : Type 0 where
+  pub opened : file.opens None
   pub outcome : told ≡ outcome.FileFault
-  pub written : Appends old new []
+  pub written : Appends output.before output.after []
   pub firm : after ≡ before
 
--- the statement of these bytes, if they are known, was imported with a length that its folder may report, and that
--- ended with this outcome
-pub record IsImported (day : ℕ) (before : Firm) (bytes : Option (List ℕ)) (opens : Option (Option ℕ) → Type 0)
-    (after : Firm) (old new : Option (List ℕ)) (told : Outcome) : Type 0 where
+-- the statement in a file was imported with a length that its folder may report, and that ended with this outcome
+pub record IsImported (day : ℕ) (file : File) (output : Output) (told : Outcome) (before after : Firm)
+    : Type 0 where
   pub size : Option ℕ
-  pub opened : opens (Some size)
-  pub ends : StatementEnds day before size bytes after old new told
+  pub opened : file.opens (Some size)
+  pub ends : StatementEnds day size file.bytes output told before after
 
--- how a file that should be imported ends, given its bytes, if they are known, and what opening it may return
-abbrev pub FileEnds : ℕ → Firm → Option (List ℕ) → (Option (Option ℕ) → Type 0) → Firm → Option (List ℕ)
-    → Option (List ℕ) → Outcome → Type 0
-FileEnds day before bytes opens after old new told =
-    IsImported day before bytes opens after old new told ⊎ IsUnopened opens before after old new told
+-- how a file that should be imported ends
+abbrev pub FileEnds : ℕ → File → Output → Outcome → Firm → Firm → Type 0
+FileEnds day file output told before after =
+    IsImported day file output told before after ⊎ IsUnopened file output told before after
 
 -- the words say to run a sheet on a day, and it ended with this outcome
-pub record RanSheet (words : List Text) (input : Option (List ℕ)) (before after : Firm) (old new : Option (List ℕ))
-    (told : Outcome) : Type 0 where
+pub record RanSheet (words : List Text) (input : Option (List ℕ)) (output : Output) (told : Outcome)
+    (before after : Firm) : Type 0 where
   pub today : ℕ
   pub means : Means words today task.Sheet
   pub end : SheetEnd
   pub outcome : sheet_outcome end ≡ told
-  pub ends : IfSome input (λ bytes. Ends today before bytes after old new end)
+  pub ends : SheetEnds today input output end before after
 
 -- the words say to import the statement at a path on a day, and that ended with this outcome
-pub record RanImport (words : List Text) (known : Text → Option (List ℕ))
-    (opens : Text → Option (Option ℕ) → Type 0) (before after : Firm) (old new : Option (List ℕ))
-    (told : Outcome) : Type 0 where
+pub record RanImport (words : List Text) (files : Files) (output : Output) (told : Outcome) (before after : Firm)
+    : Type 0 where
   pub today : ℕ
   pub path : Bor (List ℕ)
   pub means : Means words today (task.Import path)
-  pub ends : FileEnds today before (known path.now) (opens path.now) after old new told
+  pub ends : FileEnds today (files path.now) output told before after
 
--- the statement of these bytes, if they are known, was matched against the firm with a length that its folder may
--- report, and that ended with this outcome
-pub record IsMatchedFile (day : ℕ) (before : Firm) (bytes : Option (List ℕ)) (opens : Option (Option ℕ) → Type 0)
-    (after : Firm) (old new : Option (List ℕ)) (told : Outcome) : Type 0 where
+-- the statement in a file was matched against the firm with a length that its folder may report, and that ended with
+-- this outcome
+pub record IsMatchedFile (day : ℕ) (file : File) (output : Output) (told : Outcome) (before after : Firm)
+    : Type 0 where
   pub size : Option ℕ
-  pub opened : opens (Some size)
-  pub ends : MatchEnds day before size bytes after old new told
+  pub opened : file.opens (Some size)
+  pub ends : MatchEnds day size file.bytes output told before after
 
--- how a file that should be matched ends, given its bytes, if they are known, and what opening it may return
-abbrev pub MatchFileEnds : ℕ → Firm → Option (List ℕ) → (Option (Option ℕ) → Type 0) → Firm → Option (List ℕ)
-    → Option (List ℕ) → Outcome → Type 0
-MatchFileEnds day before bytes opens after old new told =
-    IsMatchedFile day before bytes opens after old new told ⊎ IsUnopened opens before after old new told
+-- how a file that should be matched ends
+abbrev pub MatchFileEnds : ℕ → File → Output → Outcome → Firm → Firm → Type 0
+MatchFileEnds day file output told before after =
+    IsMatchedFile day file output told before after ⊎ IsUnopened file output told before after
 
 -- the words say to match the statement at a path on a day, and that ended with this outcome
-pub record RanMatch (words : List Text) (known : Text → Option (List ℕ))
-    (opens : Text → Option (Option ℕ) → Type 0) (before after : Firm) (old new : Option (List ℕ))
-    (told : Outcome) : Type 0 where
+pub record RanMatch (words : List Text) (files : Files) (output : Output) (told : Outcome) (before after : Firm)
+    : Type 0 where
   pub today : ℕ
   pub path : Bor (List ℕ)
   pub means : Means words today (task.Match path)
-  pub ends : MatchFileEnds today before (known path.now) (opens path.now) after old new told
+  pub ends : MatchFileEnds today (files path.now) output told before after
 
 -- a stream was served on a day, and that ended with this outcome
-pub record IsServed (day : ℕ) (before : Firm) (input : Option (List ℕ)) (after : Firm) (old new : Option (List ℕ))
-    (told : Outcome) : Type 0 where
+pub record IsServed (day : ℕ) (input : Option (List ℕ)) (output : Output) (told : Outcome) (before after : Firm)
+    : Type 0 where
   pub end : StreamEnd
   pub outcome : stream_outcome end ≡ told
-  pub ends : StreamEnds day before input after old new end
+  pub ends : StreamEnds day input output end before after
 
 -- the words say to serve standard input on a day, and that ended with this outcome
-pub record RanStream (words : List Text) (input : Option (List ℕ)) (before after : Firm) (old new : Option (List ℕ))
-    (told : Outcome) : Type 0 where
+pub record RanStream (words : List Text) (input : Option (List ℕ)) (output : Output) (told : Outcome)
+    (before after : Firm) : Type 0 where
   pub today : ℕ
   pub means : Means words today task.Stream
-  pub ends : IsServed today before input after old new told
+  pub ends : IsServed today input output told before after
 
 -- the words say to serve clients of a port on a day, and that ended with this outcome
-pub record RanServe {W : Type 0} (words : List Text) (ports : Ports W) (before after : Firm)
-    (old new : Option (List ℕ)) (told : Outcome) : Type 0 where
+pub record RanServe {W : Type 0} (words : List Text) (known : Known W) (output : Output) (told : Outcome)
+    (before after : Firm) : Type 0 where
   pub today : ℕ
   pub port : ℕ
   pub count : ℕ
   pub means : Means words today (task.Serve port count)
-  pub ends : PortEnds today count ports port before after old new told
+  pub ends : PortEnds today (clients_of count known.contents (known.ports port).comes) (known.ports port).refuses
+      output told before after
 
 -- the words say to print a report on a day, and that ended with this outcome
-pub record RanReport (words : List Text) (before after : Firm) (old new : Option (List ℕ)) (told : Outcome)
-    : Type 0 where
+pub record RanReport (words : List Text) (output : Output) (told : Outcome) (before after : Firm) : Type 0 where
   pub today : ℕ
   pub command : ReportCommand
   pub means : Means words today (task.Report command)
-  pub prints : PrintsReport today before command after old new told
+  pub prints : PrintsReport today command output told before after
 
 -- the words say to check the book, and that ended with this outcome
-pub record RanCheck (words : List Text) (before after : Firm) (old new : Option (List ℕ)) (told : Outcome)
-    : Type 0 where
+pub record RanCheck (words : List Text) (output : Output) (told : Outcome) (before after : Firm) : Type 0 where
   pub today : ℕ
   pub means : Means words today task.Check
-  pub ends : CheckEnds before after old new told
+  pub ends : CheckEnds output told before after
 
 -- memory ran out before anything was run
-pub record RanNothing (before after : Firm) (old new : Option (List ℕ)) (told : Outcome) : Type 0 where
+pub record RanNothing (output : Output) (told : Outcome) (before after : Firm) : Type 0 where
   pub outcome : told ≡ outcome.MemoryFault
-  pub written : Appends old new []
+  pub written : Appends output.before output.after []
   pub firm : after ≡ before
 
 -- how a run of the words ends: a sheet or a stream on standard input, files at paths, and clients of ports, given what
--- is known of them, a report or a check; and the firm after it
-abbrev pub Ran : {W : Type 0} → List Text → Option (List ℕ) → (Text → Option (List ℕ))
-    → (Text → Option (Option ℕ) → Type 0) → Ports W → Firm → Firm → Option (List ℕ) → Option (List ℕ) → Outcome
-    → Type 0
-Ran words input known opens ports before after old new told =
-    RanSheet words input before after old new told
-    ⊎ (RanImport words known opens before after old new told
-    ⊎ (RanMatch words known opens before after old new told
-    ⊎ (RanStream words input before after old new told
-    ⊎ (RanServe words ports before after old new told
-    ⊎ (RanReport words before after old new told
-    ⊎ (RanCheck words before after old new told ⊎ RanNothing before after old new told))))))
+-- is known of them, a report or a check; what was written by then; and the firm before and after
+abbrev pub Ran : {W : Type 0} → List Text → Known W → Output → Outcome → Firm → Firm → Type 0
+Ran words known output told before after =
+    RanSheet words known.input output told before after
+    ⊎ (RanImport words known.files output told before after
+    ⊎ (RanMatch words known.files output told before after
+    ⊎ (RanStream words known.input output told before after
+    ⊎ (RanServe words known output told before after
+    ⊎ (RanReport words output told before after
+    ⊎ (RanCheck words output told before after ⊎ RanNothing output told before after))))))

@@ -1,5 +1,5 @@
 -- What a command for a report asks, and what it writes.
-use Rattle.std.specs.Prelude.{ℕ, List, Option}
+use Rattle.std.specs.Prelude.{ℕ}
 use Rattle.trust_base.specs.declared.refusal.Refusal.{Refusal}
 use Rattle.trust_base.specs.declared.refusal.Refusal.TheVariants.{Memory, Store}
 use Rattle.trust_matter.specs.declared.ask.Ask.TheVariants.{Account, Accounting}
@@ -12,6 +12,7 @@ use Rattle.trust_desk.specs.declared.requests.Body.TheVariants.{Json, Refused, T
 use Rattle.trust_desk.specs.declared.requests.Reply.{Reply}
 use Rattle.trust_desk.specs.declared.requests.Request.{Request}
 use Rattle.trust_desk.specs.declared.requests.Request.TheVariants as requests
+use Rattle.portal_http.specs.Output.{Output}
 use Rattle.command_line.specs.declared.command.ReportCommand.{ReportCommand}
 use Rattle.command_line.specs.declared.command.ReportCommand.TheVariants as commands
 use Rattle.cashier.specs.Sent.{IsSent}
@@ -42,13 +43,13 @@ reply_outcome (Refused r) = refused_outcome r
 
 -- a reply was written completely, as its text or its refusal's line, and decides the outcome; or a write failed, and
 -- only a prefix was written
-abbrev pub Prints : Reply → Option (List ℕ) → Option (List ℕ) → Outcome → Type 0
-Prints reply old new told =
-    IsSent (reply_line reply) (reply_outcome reply.body) outcome.OutputFault old new told
+abbrev pub Prints : Reply → Output → Outcome → Type 0
+Prints reply output told =
+    IsSent (reply_line reply) (reply_outcome reply.body) outcome.OutputFault output.before output.after told
 
 -- the cashier asked for the report on a day, the firm's step gave the reply, and it was printed
-pub record PrintsReport (day : ℕ) (before : Firm) (command : ReportCommand) (after : Firm)
-    (old new : Option (List ℕ)) (told : Outcome) : Type 0 where
+pub record PrintsReport (day : ℕ) (command : ReportCommand) (output : Output) (told : Outcome) (before after : Firm)
+    : Type 0 where
   pub reply : Reply
   pub steps : Steps day before (Asks (asked_for command)) reply after
-  pub prints : Prints reply old new told
+  pub prints : Prints reply output told

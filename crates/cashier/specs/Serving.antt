@@ -4,8 +4,9 @@ use Rattle.std.specs.Io.KnownBytes.{Appends}
 use Rattle.firm_rows.specs.Firm.{Firm}
 use Rattle.portal_http.specs.declared.stream.StreamEnd.{StreamEnd}
 use Rattle.portal_http.specs.declared.stream.StreamEnd.TheVariants as stream
-use Rattle.portal_http.specs.Clients.{Comes, Client, Gone, Refused, Ports}
+use Rattle.portal_http.specs.Clients.{Comes, Client, Clients, Gone, Refused}
 use Rattle.portal_http.specs.EndLines.{IsTold}
+use Rattle.portal_http.specs.Output.{Output, output_of}
 use Rattle.portal_http.specs.declared.server.ServeEnd.{ServeEnd}
 use Rattle.portal_http.specs.declared.server.ServeEnd.TheVariants as serving
 use Rattle.cashier.specs.Stream.{StreamEnds}
@@ -26,7 +27,7 @@ module _ {W : Type 0} (contents : W → Option (List ℕ)) where
     pub writer : W
     pub left : W
     pub came : comes (Client stream writer)
-    pub ends : StreamEnds day before stream after (contents writer) (contents left) end
+    pub ends : StreamEnds day stream (output_of contents writer left) end before after
 
   -- a client could not be served, because it was gone or the system could not make its connection; nothing was done
   pub record IsGone (comes : Comes W → Type 0) (before : Firm) (end : StreamEnd) (after : Firm) : Type 0 where
@@ -45,30 +46,27 @@ module _ {W : Type 0} (contents : W → Option (List ℕ)) where
   AreMetInTurn day comes before (end ∷ ends) after =
       (mid : Firm) × IsMet day (comes 0) before end mid × AreMetInTurn day (λ k. comes (suc k)) mid ends after
 
-  -- clients of a port were served, and that ended with this outcome: how each one's stream ended, in order, and what
-  -- was written about that; serving stopped early if a line could not be written, as the end then says, and otherwise
-  -- only if the network refused an accept
-  pub record IsPortServed (day count : ℕ) (comes : ℕ → Comes W → Type 0) (before after : Firm)
-      (old new : Option (List ℕ)) (told : Outcome) : Type 0 where
-    pub end : ServeEnd
-    pub outcome : serving_outcome end ≡ told
-    pub ends : List StreamEnd
-    pub met : AreMetInTurn day comes before ends after
-    pub lines : IsTold end count ends old new
-    pub refused : end ≡ serving.NetworkFault → comes (length ends) Refused
+-- clients of a port were served, and that ended with this outcome: how each one's stream ended, in order, and what was
+-- written about that; serving stopped early if a line could not be written, as the end then says, and otherwise only if
+-- the network refused an accept
+pub record IsPortServed {W : Type 0} (day : ℕ) (clients : Clients W) (output : Output) (told : Outcome)
+    (before after : Firm) : Type 0 where
+  pub end : ServeEnd
+  pub outcome : serving_outcome end ≡ told
+  pub ends : List StreamEnd
+  pub met : AreMetInTurn clients.contents day clients.comes before ends after
+  pub lines : IsTold end clients.count ends output.before output.after
+  pub refused : end ≡ serving.NetworkFault → clients.comes (length ends) Refused
 
 -- a port was not available, and nothing was done
-pub record IsPortRefused (refused : Type 0) (before after : Firm) (old new : Option (List ℕ)) (told : Outcome)
-    : Type 0 where
+pub record IsPortRefused (refused : Type 0) (output : Output) (told : Outcome) (before after : Firm) : Type 0 where
   pub cause : refused
   pub outcome : told ≡ outcome.NetworkFault
-  pub written : Appends old new []
+  pub written : Appends output.before output.after []
   pub firm : after ≡ before
 
--- how a port ends of which this many clients were to be served on a day, given what its accepts may return, the firm
--- before and after, and what was written by then
-abbrev pub PortEnds : {W : Type 0} → ℕ → ℕ → Ports W → ℕ → Firm → Firm → Option (List ℕ) → Option (List ℕ) → Outcome
-    → Type 0
-PortEnds day count ports port before after old new told =
-    IsPortServed ports.contents day count (ports.comes port) before after old new told
-    ⊎ IsPortRefused (ports.refuses port) before after old new told
+-- how a port ends of which these clients were to be served on a day, given when it is not available, what was written
+-- by then, and the firm before and after
+abbrev pub PortEnds : {W : Type 0} → ℕ → Clients W → Type 0 → Output → Outcome → Firm → Firm → Type 0
+PortEnds day clients refused output told before after =
+    IsPortServed day clients output told before after ⊎ IsPortRefused refused output told before after

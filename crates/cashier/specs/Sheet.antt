@@ -1,6 +1,6 @@
 -- What a day sheet prints, and the firm that it leaves.
 use Rattle.std.specs.Prelude.{◌≡◌, ◌<◌, ◌⊎◌, ℕ, Bool, true, false, List, [], ◌∷◌}
-use Rattle.std.specs.Prelude.{◌++◌, Option, Result, Ok, Err, length, nat_lt, take, ⊤, if◌then◌else◌, MatchBool}
+use Rattle.std.specs.Prelude.{◌++◌, Option, IfSome, Result, Ok, Err, length, nat_lt, take, ⊤, if◌then◌else◌, MatchBool}
 use Rattle.std.specs.Fmt.{decimal}
 use Rattle.std.specs.Io.KnownBytes.{Appends}
 use Rattle.std.specs.List.{concat, filter}
@@ -23,6 +23,7 @@ use Rattle.trust_desk.specs.declared.requests.Body.{Body}
 use Rattle.trust_desk.specs.declared.requests.Body.TheVariants.{Json, Refused, Text}
 use Rattle.trust_desk.specs.declared.requests.Reply.{Reply}
 use Rattle.day_sheet.specs.Records.{heard_of, text_at}
+use Rattle.portal_http.specs.Output.{Output}
 use Rattle.cashier.specs.Sent.{IsSent}
 use Rattle.cashier.specs.declared.sheet.SheetEnd.{SheetEnd}
 use Rattle.cashier.specs.declared.sheet.SheetEnd.TheVariants as end
@@ -172,11 +173,16 @@ LargeEnds before after old new end.WriteFault = (n : ℕ) × (n < length (refusa
 LargeEnds before after old new end.Store = ⊥
 LargeEnds before after old new end.NoMemory = Appends old new [] × (after ≡ before)
 
--- how a sheet ends
+-- how a sheet of these bytes ends
 abbrev pub Ends : ℕ → Firm → List ℕ → Firm → Option (List ℕ) → Option (List ℕ) → SheetEnd → Type 0
 Ends day before bytes after old new e =
     MatchBool (nat_lt MAX_FILE_BYTES (length bytes)) (LargeEnds before after old new e)
     (RunEnds day before (sheet_records bytes) after old new e)
+
+-- how a sheet on this input ends, if its bytes are known
+abbrev pub SheetEnds : ℕ → Option (List ℕ) → Output → SheetEnd → Firm → Firm → Type 0
+SheetEnds day input output e before after =
+    IfSome input (λ bytes. Ends day before bytes after output.before output.after e)
 
 -- ---- what a crash leaves of a sheet
 
@@ -226,17 +232,22 @@ IsNextMade day firm (here ∷ later) found = IsMade day firm (heard_of here) fou
 -- a run of records ended: the lines of the first ones were written, and after them no complete line except that of a
 -- refusal. If a crash could have left only the rows before, it now leaves those after these records, or those with the
 -- next; and if all were run, the store is clean and none is left
-pub record LinesAreKept (day : ℕ) (before : Firm) (all : List (List (List ℕ))) (old : Seen)
-    (given told : Option (List ℕ)) (ended : SheetEnd) (new : Seen) : Type 0 where
+pub record LinesAreKept (day : ℕ) (all : List (List (List ℕ))) (output : Output) (ended : SheetEnd) (old new : Seen)
+    : Type 0 where
   pub past : List (List (List ℕ))
   pub later : List (List (List ℕ))
   pub parts : past ++ later ≡ all
   pub more : List ℕ
-  pub behind : IsBehindLines day (firm_from day before past) later more
-  pub written : Appends given told (concat (lines_from day before past) ++ more)
-  pub left : LeavesAlone before old.leaves → (found : Firm) → new.leaves found
-      → (found ≡ firm_from day before past) ⊎ IsNextMade day (firm_from day before past) later found
+  pub behind : IsBehindLines day (firm_from day old.firm past) later more
+  pub written : Appends output.before output.after (concat (lines_from day old.firm past) ++ more)
+  pub left : LeavesAlone old.firm old.leaves → (found : Firm) → new.leaves found
+      → (found ≡ firm_from day old.firm past) ⊎ IsNextMade day (firm_from day old.firm past) later found
   pub whole : IsWhole ended → (later ≡ []) × new.clean
+
+-- so ends a sheet on this input, if its bytes are known
+abbrev pub SheetIsKept : ℕ → Option (List ℕ) → Output → SheetEnd → Seen → Seen → Type 0
+SheetIsKept day input output ended old new =
+    IfSome input (λ bytes. LinesAreKept day (records_run bytes) output ended old new)
 
 -- ---- the lines of one matter
 

@@ -10,6 +10,7 @@ use Rattle.firm_rows.specs.Firm.{Firm}
 use Rattle.matter_bodies.specs.Bodies.{import_body}
 use Rattle.trust_desk.specs.Imports.{Imports, IsStop}
 use Rattle.matter_bodies.specs.declared.bodies.ImportReply.{ImportReply}
+use Rattle.portal_http.specs.Output.{Output}
 use Rattle.trust_desk.specs.declared.importing.ImportEnd.{ImportEnd}
 use Rattle.trust_desk.specs.declared.importing.ImportStop.{ImportStop}
 use Rattle.trust_desk.specs.declared.importing.ImportStop.TheVariants as stop
@@ -40,14 +41,14 @@ stop_outcome stop.Limit = outcome.Refused
 stop_outcome stop.ReadFault = outcome.FileFault
 
 -- a text was written and the run ended this way, or a write failed and only a prefix of the text was written
-abbrev pub Sent : List ℕ → Outcome → Option (List ℕ) → Option (List ℕ) → Outcome → Type 0
-Sent text told old new result = IsSent text told outcome.OutputFault old new result
+abbrev pub Sent : List ℕ → Outcome → Output → Outcome → Type 0
+Sent text told output result = IsSent text told outcome.OutputFault output.before output.after result
 
 -- what an import prints was written; if there was no memory for its counts, that was written instead
-abbrev pub Answers : ImportEnd → Option (List ℕ) → Option (List ℕ) → Outcome → Type 0
-Answers ran old new result =
-    Sent (stop_text ran.reply ran.end) (stop_outcome ran.end) old new result
-    ⊎ ((ran.end ≡ stop.Done) × Sent (refusal_line Memory) outcome.MemoryFault old new result)
+abbrev pub Answers : ImportEnd → Output → Outcome → Type 0
+Answers ran output result =
+    Sent (stop_text ran.reply ran.end) (stop_outcome ran.end) output result
+    ⊎ ((ran.end ≡ stop.Done) × Sent (refusal_line Memory) outcome.MemoryFault output result)
 
 -- neither the store nor memory ended it, and its line was written
 abbrev pub EndsByNoFault : Outcome → Type 0
@@ -75,20 +76,19 @@ is_told_longer None = false
 is_told_longer (Some n) = nat_lt MAX_FILE_BYTES n
 
 -- a statement with such a length is refused, and none of its items is applied
-pub record Large (before after : Firm) (old new : Option (List ℕ)) (result : Outcome) : Type 0 where
+pub record Large (output : Output) (result : Outcome) (before after : Firm) : Type 0 where
   pub firm : after ≡ before
-  pub sent : Sent (refusal_line TooLarge) outcome.Refused old new result
+  pub sent : Sent (refusal_line TooLarge) outcome.Refused output result
 
 -- any other statement is imported, and the import answered
-pub record Run (day : ℕ) (before : Firm) (bytes : Option (List ℕ)) (after : Firm) (old new : Option (List ℕ))
-    (result : Outcome) : Type 0 where
+pub record Run (day : ℕ) (bytes : Option (List ℕ)) (output : Output) (result : Outcome) (before after : Firm)
+    : Type 0 where
   pub ran : ImportEnd
   pub imported : Imported day before bytes after ran
-  pub answers : Answers ran old new result
+  pub answers : Answers ran output result
 
 -- how the import of a statement with this length, if it is reported, and these bytes, if they are known, ends on a day,
--- given the firm before and after, and what was written by then
-abbrev pub StatementEnds : ℕ → Firm → Option ℕ → Option (List ℕ) → Firm → Option (List ℕ) → Option (List ℕ)
-    → Outcome → Type 0
-StatementEnds day before size bytes after old new result =
-    MatchBool (is_told_longer size) (Large before after old new result) (Run day before bytes after old new result)
+-- given what was written by then, and the firm before and after
+abbrev pub StatementEnds : ℕ → Option ℕ → Option (List ℕ) → Output → Outcome → Firm → Firm → Type 0
+StatementEnds day size bytes output result before after =
+    MatchBool (is_told_longer size) (Large output result before after) (Run day bytes output result before after)

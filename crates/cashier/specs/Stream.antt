@@ -7,21 +7,22 @@ use Rattle.trust_desk.specs.FirmStep.{IsUnstopped, RunsSoundly}
 use Rattle.trust_desk.specs.Isolation.{IsOwn}
 use Rattle.trust_desk.specs.NeverBelowZero.{CoveredRun}
 use Rattle.portal_http.specs.message.Message.{Message}
+use Rattle.portal_http.specs.Output.{Output}
 use Rattle.portal_http.specs.Requests.{heard_of}
 use Rattle.portal_http.specs.Served.{IsRead, IsTail, IsWritten}
 use Rattle.portal_http.specs.declared.stream.StreamEnd.{StreamEnd}
 
 -- how a stream of these bytes, if they are known, ends on a day: its messages and their replies, in order, the refusal
--- after them, if there is one, the firm before and after, and what was written by then
-pub record StreamEnds (day : ℕ) (before : Firm) (stream : Option (List ℕ)) (after : Firm) (old new : Option (List ℕ))
-    (end : StreamEnd) : Type 0 where
+-- after them, if there is one, what was written by then, and the firm before and after
+pub record StreamEnds (day : ℕ) (stream : Option (List ℕ)) (output : Output) (end : StreamEnd) (before after : Firm)
+    : Type 0 where
   pub messages : List Message
   pub replies : List Reply
   pub tail : Option Refusal
   pub read : IfSome stream (λ bytes. IsRead end bytes messages tail)
   pub paired : length replies ≡ length messages
   pub behind : IsTail end tail
-  pub written : IsWritten end replies tail old new
+  pub written : IsWritten end replies tail output.before output.after
   -- each reply is that of the firm's step, and the firm is sound after it
   pub run : RunsSoundly day before (map heard_of messages) replies after
   -- each matter is answered by its own machine, which leaves its rows

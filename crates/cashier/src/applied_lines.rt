@@ -21,14 +21,14 @@ struct Start {
 
 // Some lines, in the order of their records, and where the record of each begins.
 #[derive(Drop)]
-struct Kept {
+struct KeptLines {
     lines: Vec<AppliedLine>,
     starts: Vec<Start>,
 }
 
-impl Kept {
-    fn new(alloc: Global) -> Kept {
-        Kept {
+impl KeptLines {
+    fn new(alloc: Global) -> KeptLines {
+        KeptLines {
             lines: Vec::new(alloc),
             starts: Vec::new(alloc),
         }
@@ -46,7 +46,7 @@ impl Kept {
 #[derive(Drop)]
 pub struct AppliedLines {
     alloc: Global,
-    kept: RefCell<Kept>,
+    kept: RefCell<KeptLines>,
     // Whether memory ran out for one of them.
     is_short: Cell<bool>,
 }
@@ -56,7 +56,7 @@ impl AppliedLines {
     pub fn new(alloc: Global) -> AppliedLines {
         AppliedLines {
             alloc,
-            kept: RefCell::new(Kept::new(alloc)),
+            kept: RefCell::new(KeptLines::new(alloc)),
             is_short: Cell::new(false),
         }
     }
@@ -79,15 +79,15 @@ impl AppliedLines {
     /// Lets go of them: nobody is told about those that were kept so far.
     pub fn forget(&self) {
         self.is_short.set(false);
-        let _ = self.kept.try_replace(Kept::new(self.alloc));
+        let _ = self.kept.try_replace(KeptLines::new(self.alloc));
     }
 
     // Takes them out. None if memory ran out for one of them.
-    fn take(&self) -> Option<Kept> {
+    fn take(&self) -> Option<KeptLines> {
         if self.is_short.get() {
             return None;
         }
-        match self.kept.try_replace(Kept::new(self.alloc)) {
+        match self.kept.try_replace(KeptLines::new(self.alloc)) {
             Ok(kept) => Some(kept),
             Err(_) => None,
         }
@@ -131,7 +131,7 @@ impl<M: Remarks> EarlierWatch for EarlierTelling<'_, M> {
 pub fn tell_of_earlier<M: Remarks, B: Book>(remarks: &M, applied: &AppliedLines, desk: &mut Desk<B>)
     ensures { AreReads (B.seen desk.old) (B.seen desk.new) }
 {
-    let Some(Kept { lines, starts }) = applied.take() else {
+    let Some(KeptLines { lines, starts }) = applied.take() else {
         return remarks.tell(&Remark::EarlierEnd(StoreFault::Memory));
     };
     let telling = EarlierTelling {

@@ -2,7 +2,10 @@
 
 ghost use Rattle.std.specs.Prelude.{◌≡◌, ◌≢◌, ◌⊎◌, ◌↔◌, IfOk, IfSome, OnOk, Ok, Err, None, Some};
 ghost use Rattle.std.specs.Io.KnownBytes.{Appends};
+ghost use Rattle.trust_desk.specs.Answered.{IfServed};
 ghost use Rattle.trust_desk.specs.Calls.{IsAny, KeepsBook};
+ghost use Rattle.portal_http.specs.Output.{output_of};
+ghost use Rattle.cashier.specs.Calls.{LeavesSame};
 ghost use Rattle.cashier.specs.Check.{CheckEnds, IsCheckTrue, IsSaid, IsSaidRefused, IsTrueOf, PrintsCheck, check_text};
 ghost use Rattle.cashier.specs.Check.{counts_text, flaw_text, found_outcome, unread_text};
 ghost use Rattle.firm_audit.specs.Flaws.{IsFlawOf};
@@ -10,7 +13,6 @@ ghost use Rattle.firm_rows.specs.Firm.{Firm};
 ghost use Rattle.firm_rows.specs.FirmSound.{FirmSound};
 ghost use Rattle.trust_desk.specs.Checking.{AreCountsOf, AreReads};
 ghost use Rattle.trust_desk.specs.declared.checking.RowCounts.{RowCounts};
-ghost use Rattle.trust_store.specs.Crashes.{LeavesOr};
 
 use crate::outcome::{Outcome, outcome_of_refusal, write_refusal};
 use cashier_remarks::{Remark, Remarks};
@@ -175,7 +177,7 @@ fn outcome_of_found(found: &CheckFound) -> Outcome
 // Prints the line for the fault that kept the book from being read.
 fn print_fault<W: Write>(writer: &mut W, fault: StoreFault) -> Outcome
     ensures began { result ≢ Outcome.CommandLine }
-    ensures prints { PrintsCheck (Err fault) (W.contents writer.old) (W.contents writer.new) result }
+    ensures prints { PrintsCheck (Err fault) (output_of W.contents writer.old writer.new) result }
     ensures unsaid { result ≢ Outcome.Done }
     ensures unrefused { result ≢ Outcome.Refused }
 {
@@ -189,11 +191,11 @@ fn print_fault<W: Write>(writer: &mut W, fault: StoreFault) -> Outcome
 // Prints the result, or that there was no memory for its text.
 fn print_told<W: Write>(alloc: Global, writer: &mut W, told: &CheckFound) -> Outcome
     ensures began { result ≢ Outcome.CommandLine }
-    ensures prints { PrintsCheck (Ok told.now) (W.contents writer.old) (W.contents writer.new) result
-        ⊎ PrintsCheck (Err StoreFault.Memory) (W.contents writer.old) (W.contents writer.new) result }
-    ensures said { result ≡ Outcome.Done → IsSaid (Ok told.now) (W.contents writer.old) (W.contents writer.new) }
+    ensures prints { PrintsCheck (Ok told.now) (output_of W.contents writer.old writer.new) result
+        ⊎ PrintsCheck (Err StoreFault.Memory) (output_of W.contents writer.old writer.new) result }
+    ensures said { result ≡ Outcome.Done → IsSaid (Ok told.now) (output_of W.contents writer.old writer.new) }
     ensures refused { result ≡ Outcome.Refused
-        → IsSaidRefused (Ok told.now) (W.contents writer.old) (W.contents writer.new) }
+        → IsSaidRefused (Ok told.now) (output_of W.contents writer.old writer.new) }
 {
     let Ok(text) = format!(in alloc; "{told}") else {
         return print_fault(writer, StoreFault::Memory);
@@ -211,11 +213,10 @@ fn print_found<W: Write>(
     found: &Result<CheckFound, StoreFault>,
 ) -> Outcome
     ensures began { result ≢ Outcome.CommandLine }
-    ensures prints { PrintsCheck found.now (W.contents writer.old) (W.contents writer.new) result
-        ⊎ PrintsCheck (Err StoreFault.Memory) (W.contents writer.old) (W.contents writer.new) result }
-    ensures said { result ≡ Outcome.Done → IsSaid found.now (W.contents writer.old) (W.contents writer.new) }
-    ensures refused { result ≡ Outcome.Refused
-        → IsSaidRefused found.now (W.contents writer.old) (W.contents writer.new) }
+    ensures prints { PrintsCheck found.now (output_of W.contents writer.old writer.new) result
+        ⊎ PrintsCheck (Err StoreFault.Memory) (output_of W.contents writer.old writer.new) result }
+    ensures said { result ≡ Outcome.Done → IsSaid found.now (output_of W.contents writer.old writer.new) }
+    ensures refused { result ≡ Outcome.Refused → IsSaidRefused found.now (output_of W.contents writer.old writer.new) }
 {
     match found {
         Ok(told) => print_told(alloc, writer, told),
@@ -248,15 +249,14 @@ pub fn run_check<M: Remarks, W: Write, B: Book>(
     today: Day,
 ) -> Outcome
     ensures sound { (B.seen desk.new).clean → (B.seen desk.old).readable
-        → IsCheckTrue (B.seen desk.old).firm (W.contents writer.old) (W.contents writer.new) result }
+        → IsCheckTrue (B.seen desk.old).firm (output_of W.contents writer.old writer.new) result }
     ensures began { result ≢ Outcome.CommandLine }
-    ensures ends { (B.seen desk.new).clean → (B.seen desk.old).stands
-        → CheckEnds (B.seen desk.old).firm (B.seen desk.new).firm (W.contents writer.old) (W.contents writer.new)
-        result }
+    ensures ends { IfServed (B.seen desk.old) (B.seen desk.new)
+        (CheckEnds (output_of W.contents writer.old writer.new) result) }
     ensures kept { KeepsBook IsAny (B.seen desk.old) (B.seen desk.new) }
     ensures serves { result ≡ Outcome.Done → (B.seen desk.new).sure → (B.seen desk.new).clean }
     ensures crash { (B.seen desk.new).clean → (B.seen desk.old).stands
-        → LeavesOr (B.seen desk.old).firm (B.seen desk.old).leaves (B.seen desk.new).leaves }
+        → LeavesSame (B.seen desk.old) (B.seen desk.new) }
 {
     let found = find_flaw(alloc, desk, today);
     tell_found(remarks, &found);

@@ -1,6 +1,6 @@
 // Remarks about what only the bytes of a statement show.
 
-use crate::records::{Found, Records};
+use crate::file_records::{FileRecords, Found};
 use crate::sighting::{EMPTY_MARK, Seen, Sighting, marked};
 use cashier_remarks::{
     FileRemark, HeaderRemark, Remark, Remarks, has_open_quote, remark_on_header,
@@ -122,7 +122,7 @@ pub fn tell_of_records<M: Remarks>(
     remarks: &M,
     is_match: bool,
 ) -> Result<(), AllocError> {
-    let mut records = Records::new(alloc, bytes);
+    let mut records = FileRecords::new(alloc, bytes);
     let mut seen = Seen::new();
     for number in 1..u64::MAX {
         if !records.has_read(number)? {

@@ -1,6 +1,6 @@
 // The files that a command line can name.
 
-ghost use Rattle.std.specs.Prelude.{IfSome, List, Option, ℕ, option_map};
+ghost use Rattle.std.specs.Prelude.{IfSome, option_map};
 ghost use Rattle.std.specs.Io.KnownBytes.{Keeps};
 
 use std::io::Read;
@@ -27,22 +27,19 @@ pub enum Presence {
 
 /// Opens the files that a command line names.
 pub trait Folder {
-    ghost use Rattle.std.specs.Prelude.{List, Option, ℕ};
+    ghost use Rattle.cashier.specs.Views.{Files};
 
     /// An opened file.
     type File: Read + Drop;
 
-    /// The bytes of the file at a path, if they are known.
-    ghost known: { Self → List ℕ → Option (List ℕ) };
-
-    /// What opening the file at a path may return: `None` if it can't be opened, otherwise its length if it reports
-    /// one.
-    ghost opens: { Self → List ℕ → Option (Option ℕ) → Type 0 };
+    /// What is known of the files.
+    ghost files: { Self → Files };
 
     /// Opens the file at a path for reading. Returns `None` if it can't be opened.
     fn open(&self, path: &str) -> Option<Opened<Self::File>>
-        ensures bytes { IfSome result (λ file. Keeps (known self.now path.now) (Self.File.remaining file.reader)) }
-        ensures told { opens self.now path.now (option_map (λ file. file.length) result) };
+        ensures bytes { IfSome result
+            (λ file. Keeps (files self.now path.now).bytes (Self.File.remaining file.reader)) }
+        ensures told { (files self.now path.now).opens (option_map (λ file. file.length) result) };
 
     /// What is at a path. It only affects what a person is told.
     fn presence(&self, _path: &str) -> Presence {

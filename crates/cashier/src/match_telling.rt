@@ -1,7 +1,7 @@
 // Remarks about a statement that is matched.
 
+use crate::file_records::FileRecords;
 use crate::file_telling::{remark_on_first, tell_of_records};
-use crate::records::Records;
 use cashier_remarks::{Remark, Remarks, UnmatchedLine};
 use std::alloc::{AllocError, Global};
 use trust_base::{Field, MAX_FILE_BYTES, Refusal};
@@ -33,7 +33,7 @@ pub fn tell_matched<M: Remarks>(alloc: Global, remarks: &M, file: &[u8], matched
 
 // Reports another header than that of a statement. Fails if memory runs out.
 fn tell_header<M: Remarks>(alloc: Global, remarks: &M, file: &[u8]) -> Result<(), AllocError> {
-    let mut records = Records::new(alloc, file);
+    let mut records = FileRecords::new(alloc, file);
     let is_there = records.has_read(0)?;
     let found = records.found(file);
     remarks.tell(&Remark::Header(remark_on_first(found, is_there)));

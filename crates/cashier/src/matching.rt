@@ -2,9 +2,10 @@
 
 ghost use Rattle.std.specs.Prelude.{◌≡◌, ◌≢◌, Err, IfSome, Some};
 ghost use Rattle.trust_base.specs.declared.refusal.Refusal.TheVariants as refusals;
-ghost use Rattle.trust_store.specs.Crashes.{LeavesOr};
-ghost use Rattle.cashier.specs.Calls.{CountsStore};
+ghost use Rattle.trust_desk.specs.Answered.{IfServed};
 ghost use Rattle.trust_desk.specs.Calls.{KeepsBook};
+ghost use Rattle.portal_http.specs.Output.{output_of};
+ghost use Rattle.cashier.specs.Calls.{CountsStore, IfSure, LeavesSame};
 ghost use Rattle.cashier.specs.Matching.{IsFound, MatchEnds, PrintsFound};
 ghost use Rattle.cashier.specs.Outcome.{MatchFileEnds};
 
@@ -35,8 +36,8 @@ fn found_in<R: Read + Drop, B: Book>(
         → (B.seen desk.new).firm ≡ (B.seen desk.old).firm }
     ensures kept { KeepsBook (CountsStore (Some (Err refusals.Store)) result) (B.seen desk.old)
         (B.seen desk.new) }
-    ensures crash { (B.seen desk.new).sure → (B.seen desk.old).clean → (B.seen desk.old).stands
-        → LeavesOr (B.seen desk.old).firm (B.seen desk.old).leaves (B.seen desk.new).leaves }
+    ensures crash { IfSure (B.seen desk.old) (B.seen desk.new)
+        (LeavesSame (B.seen desk.old) (B.seen desk.new)) }
 {
     let Opened { mut reader, length } = file;
     if is_told_longer(length) {
@@ -64,7 +65,7 @@ fn print_found<W: Write, M: Remarks>(
     found: &Result<Matched, Refusal>,
 ) -> Outcome
     ensures began { result ≢ Outcome.CommandLine }
-    ensures prints { PrintsFound found.now (W.contents writer.old) (W.contents writer.new) result }
+    ensures prints { PrintsFound found.now (output_of W.contents writer.old writer.new) result }
     ensures store { result ≡ Outcome.StoreFault → found.now ≡ Err refusals.Store }
 {
     match found {
@@ -99,12 +100,11 @@ fn match_in<R: Read + Drop, M: Remarks, W: Write, B: Book>(
     writer: &mut W,
 ) -> Outcome
     ensures began { result ≢ Outcome.CommandLine }
-    ensures ends { (B.seen desk.new).clean → (B.seen desk.old).stands
-        → MatchEnds today (B.seen desk.old).firm file.length (R.remaining file.reader) (B.seen desk.new).firm
-        (W.contents writer.old) (W.contents writer.new) result }
+    ensures ends { IfServed (B.seen desk.old) (B.seen desk.new)
+        (MatchEnds today file.length (R.remaining file.reader) (output_of W.contents writer.old writer.new) result) }
     ensures kept { KeepsBook (CountsStore Outcome.StoreFault result) (B.seen desk.old) (B.seen desk.new) }
-    ensures crash { (B.seen desk.new).sure → (B.seen desk.old).clean → (B.seen desk.old).stands
-        → LeavesOr (B.seen desk.old).firm (B.seen desk.old).leaves (B.seen desk.new).leaves }
+    ensures crash { IfSure (B.seen desk.old) (B.seen desk.new)
+        (LeavesSame (B.seen desk.old) (B.seen desk.new)) }
 {
     let mut bytes = Vec::new(alloc);
     match found_in(alloc, file, &mut bytes, desk, today) {
@@ -132,14 +132,13 @@ pub fn run_match<F: Folder, M: Remarks, W: Write, B: Book>(
     today: Day,
 ) -> Outcome
     ensures began { result ≢ Outcome.CommandLine }
-    ensures ends { (B.seen desk.new).clean → (B.seen desk.old).stands
-        → MatchFileEnds today (B.seen desk.old).firm (F.known folder.now path.now) (F.opens folder.now path.now)
-        (B.seen desk.new).firm (W.contents writer.old) (W.contents writer.new) result }
+    ensures ends { IfServed (B.seen desk.old) (B.seen desk.new)
+        (MatchFileEnds today (F.files folder.now path.now) (output_of W.contents writer.old writer.new) result) }
 
     // It ends with `StoreFault` only if a call of the book returned `Store`.
     ensures kept { KeepsBook (CountsStore Outcome.StoreFault result) (B.seen desk.old) (B.seen desk.new) }
-    ensures crash { (B.seen desk.new).sure → (B.seen desk.old).clean → (B.seen desk.old).stands
-        → LeavesOr (B.seen desk.old).firm (B.seen desk.old).leaves (B.seen desk.new).leaves }
+    ensures crash { IfSure (B.seen desk.old) (B.seen desk.new)
+        (LeavesSame (B.seen desk.old) (B.seen desk.new)) }
 {
     let Some(file) = folder.open(path) else {
         return Outcome::FileFault;

@@ -13,7 +13,7 @@ use std::fmt;
 
 /// What a run reads.
 #[derive(Clone, Copy)]
-pub enum Source<'a> {
+pub enum InputSource<'a> {
     /// The file at this path.
     File(&'a str),
     /// Standard input.
@@ -26,7 +26,7 @@ pub enum Notice<'a> {
     /// The command line is invalid: the usage, an example, and what is wrong.
     CommandLine(Advice<'a>),
     /// This could not be opened or read.
-    FileFault(Option<Source<'a>>),
+    FileFault(Option<InputSource<'a>>),
     /// Standard output could not be written.
     OutputFault,
     /// The book at this path could not be opened, read or written.
@@ -37,13 +37,13 @@ pub enum Notice<'a> {
     NetworkFault(Option<u16>),
 }
 
-impl fmt::Display for Source<'_> {
+impl fmt::Display for InputSource<'_> {
     ghost output = { λ source. Some (source_text source) };
 
     fn fmt<W: fmt::Write>(&self, f: &mut fmt::Formatter<W>) -> fmt::Result {
         match *self {
-            Source::File(path) => write!(f, "{path} could not be opened or read"),
-            Source::Input => f.write_str("standard input could not be read"),
+            InputSource::File(path) => write!(f, "{path} could not be opened or read"),
+            InputSource::Input => f.write_str("standard input could not be read"),
         }
     }
 }
@@ -74,17 +74,17 @@ impl fmt::Display for Notice<'_> {
 
 // Returns what these words say to read. A path with control characters is not shown, because a terminal would obey
 // them.
-fn source_of<'a>(alloc: Global, words: &'a [&'a str]) -> Option<Source<'a>>
+fn source_of<'a>(alloc: Global, words: &'a [&'a str]) -> Option<InputSource<'a>>
     ensures { IfSome result (IsSource (words_of words.entry.now)) }
 {
     let Ok(plan) = command_of(alloc, words) else {
         return None;
     };
     match plan.task {
-        Task::Import(path) if is_printable(path) => Some(Source::File(path)),
-        Task::Match(path) if is_printable(path) => Some(Source::File(path)),
-        Task::Sheet => Some(Source::Input),
-        Task::Stream => Some(Source::Input),
+        Task::Import(path) if is_printable(path) => Some(InputSource::File(path)),
+        Task::Match(path) if is_printable(path) => Some(InputSource::File(path)),
+        Task::Sheet => Some(InputSource::Input),
+        Task::Stream => Some(InputSource::Input),
         Task::Import(_) | Task::Match(_) | Task::Serve { .. } | Task::Report(_) | Task::Check =>
             None,
     }

@@ -3,7 +3,8 @@
 ghost use Rattle.std.specs.Prelude.{◌≡◌, ◌≢◌, ◌⊎◌, ℕ, IfErr, IfOk, List, map};
 ghost use Rattle.std.specs.String.{string_bytes};
 ghost use Rattle.clap.specs.Words.{Text};
-ghost use Rattle.cashier.specs.Calls.{CountsStore, CountsStoreIn};
+ghost use Rattle.cashier.specs.Calls.{CountsStore, CountsStoreIn, IfSure};
+ghost use Rattle.trust_desk.specs.Answered.{IfServed};
 ghost use Rattle.trust_desk.specs.Calls.{KeepsBook};
 ghost use Rattle.cashier.specs.Check.{IsCheckTrue};
 ghost use Rattle.cashier.specs.Crashes.{LeavesClients, LeavesItems, LeavesRun};
@@ -12,7 +13,9 @@ ghost use Rattle.cashier.specs.Runs.{HadNoBook, HasRun, RanAtPath, RanInMemory};
 ghost use Rattle.cashier.specs.Serving.{PortEnds};
 ghost use Rattle.command_line.specs.Program.{Means, MeansSheet, MeansStream, words_of};
 ghost use Rattle.command_line.specs.declared.command.Task.{Task};
-ghost use Rattle.portal_http.specs.Clients.{ports_of};
+ghost use Rattle.cashier.specs.Views.{books_of, known_of};
+ghost use Rattle.portal_http.specs.Clients.{clients_of};
+ghost use Rattle.portal_http.specs.Output.{output_of};
 ghost use Rattle.trust_desk.specs.Checking.{AreReads};
 
 use crate::applied_lines::{AppliedLines, tell_of_earlier};
@@ -77,13 +80,11 @@ fn import_file<F: Folder, M: Remarks, W: Write, B: Book>(
     writer: &mut W,
 ) -> Outcome
     ensures began { result ≢ Outcome.CommandLine }
-    ensures ends { (B.seen desk.new).clean → (B.seen desk.old).stands
-        → FileEnds today (B.seen desk.old).firm (F.known folder.now path.now) (F.opens folder.now path.now)
-        (B.seen desk.new).firm (W.contents writer.old) (W.contents writer.new) result }
+    ensures ends { IfServed (B.seen desk.old) (B.seen desk.new)
+        (FileEnds today (F.files folder.now path.now) (output_of W.contents writer.old writer.new) result) }
     ensures kept { KeepsBook (CountsStore Outcome.StoreFault result) (B.seen desk.old) (B.seen desk.new) }
-    ensures crash { (B.seen desk.new).sure → (B.seen desk.old).clean → (B.seen desk.old).stands
-        → LeavesItems B.seen today (F.known folder.now path.now) (F.opens folder.now path.now) desk.old result
-        desk.new }
+    ensures crash { IfSure (B.seen desk.old) (B.seen desk.new)
+        (LeavesItems B.seen today (F.files folder.now path.now) result desk.old desk.new) }
 {
     let Some(file) = folder.open(path) else {
         return Outcome::FileFault;
@@ -115,16 +116,15 @@ pub fn run_serve<F: Folder, C: Clock + Drop, N: Network, M: Remarks, W: Write, B
 ) -> Outcome
     ensures began { result ≢ Outcome.CommandLine }
     ensures store { result ≢ Outcome.StoreFault }
-    ensures ends { (B.seen desk.new).clean → (B.seen desk.old).stands
-        → PortEnds today count (ports_of N.Listener.Writer.contents (N.comes around.entry.network.now)
-        (N.refuses around.entry.network.now)) port (B.seen desk.old).firm (B.seen desk.new).firm
-        (W.contents writer.old) (W.contents writer.new) result }
+    ensures ends { IfServed (B.seen desk.old) (B.seen desk.new) (PortEnds today
+        (clients_of count N.Listener.Writer.contents (N.ports around.entry.network.now port).comes)
+        (N.ports around.entry.network.now port).refuses (output_of W.contents writer.old writer.new) result) }
     ensures kept { KeepsBook (CountsStore Outcome.StoreFault result) (B.seen desk.old) (B.seen desk.new) }
 
     // For each client its answers, and what a crash leaves of its messages.
     ensures crash { LeavesClients B.seen today
-        (ports_of N.Listener.Writer.contents (N.comes around.entry.network.now)
-        (N.refuses around.entry.network.now)) port desk.old desk.new }
+        (clients_of count N.Listener.Writer.contents (N.ports around.entry.network.now port).comes)
+        desk.old desk.new }
 {
     let Some(mut listener) = around.network.listen(port) else {
         return Outcome::NetworkFault;
@@ -156,23 +156,19 @@ fn run_plan<R: Read, F: Folder, C: Clock + Drop, N: Network, M: Remarks, W: Writ
     ensures input { (words : List Text) → Means words plan.now.today plan.now.task
         → MeansSheet words ⊎ (MeansStream words ⊎ (reader.new ≡ reader.old)) }
     ensures ends { (words : List Text) → Means words plan.now.today plan.now.task
-        → (B.seen desk.new).clean → (B.seen desk.old).stands
-        → Ran words (R.remaining reader.old) (F.known around.entry.folder.now)
-        (F.opens around.entry.folder.now)
-        (ports_of N.Listener.Writer.contents (N.comes around.entry.network.now)
-        (N.refuses around.entry.network.now)) (B.seen desk.old).firm (B.seen desk.new).firm
-        (W.contents writer.old) (W.contents writer.new) result }
+        → IfServed (B.seen desk.old) (B.seen desk.new) (Ran words
+        (known_of (R.remaining reader.old) (F.files around.entry.folder.now)
+        (N.ports around.entry.network.now) N.Listener.Writer.contents)
+        (output_of W.contents writer.old writer.new) result) }
     ensures sound { (B.seen desk.new).clean → (B.seen desk.old).readable → plan.now.task ≡ Task.Check
-        → IsCheckTrue (B.seen desk.old).firm (W.contents writer.old) (W.contents writer.new) result }
+        → IsCheckTrue (B.seen desk.old).firm (output_of W.contents writer.old writer.new) result }
     ensures kept { (words : List Text) → Means words plan.now.today plan.now.task
         → KeepsBook (CountsStoreIn words result) (B.seen desk.old) (B.seen desk.new) }
     ensures crash { (words : List Text) → Means words plan.now.today plan.now.task
-        → (B.seen desk.new).sure → (B.seen desk.old).clean → (B.seen desk.old).stands
-        → LeavesRun B.seen words (R.remaining reader.old)
-        (F.known around.entry.folder.now) (F.opens around.entry.folder.now)
-        (ports_of N.Listener.Writer.contents (N.comes around.entry.network.now)
-        (N.refuses around.entry.network.now)) (W.contents writer.old) (W.contents writer.new)
-        desk.old desk.new result }
+        → IfSure (B.seen desk.old) (B.seen desk.new) (LeavesRun B.seen words
+        (known_of (R.remaining reader.old) (F.files around.entry.folder.now)
+        (N.ports around.entry.network.now) N.Listener.Writer.contents)
+        (output_of W.contents writer.old writer.new) result desk.old desk.new) }
 {
     let today = plan.today;
     let asked = AskedRemarks {
@@ -218,11 +214,10 @@ fn run_in_memory<R: Read, F: Folder, C: Clock + Drop, N: Network, M: Remarks, W:
         → MeansSheet words ⊎ (MeansStream words ⊎ (reader.new ≡ reader.old)) }
     ensures began { result ≢ Outcome.CommandLine }
     ensures ran { (words : List Text) → Means words plan.now.today plan.now.task
-        → RanInMemory (λ before after. Ran words (R.remaining reader.old)
-        (F.known around.entry.folder.now) (F.opens around.entry.folder.now)
-        (ports_of N.Listener.Writer.contents (N.comes around.entry.network.now)
-        (N.refuses around.entry.network.now))
-        before after (W.contents writer.old) (W.contents writer.new)) result }
+        → RanInMemory (Ran words
+        (known_of (R.remaining reader.old) (F.files around.entry.folder.now)
+        (N.ports around.entry.network.now) N.Listener.Writer.contents)
+        (output_of W.contents writer.old writer.new) result) }
 {
     let remarks = around.remarks;
     let mut desk = Desk::new(PlainBook::new(alloc));
@@ -309,10 +304,10 @@ fn run_at_path<R: Read, F: Folder, C: Clock + Drop, N: Network, M: Remarks, S: S
     ensures input { (words : List Text) → Means words plan.now.today plan.now.task
         → MeansSheet words ⊎ (MeansStream words ⊎ (reader.new ≡ reader.old)) }
     ensures ran { (words : List Text) → Means words plan.now.today plan.now.task
-        → RanAtPath S.AtPath.seen (S.finds stores.now path.now) (S.puts stores.now) words (R.remaining reader.old)
-        (F.known around.entry.folder.now) (F.opens around.entry.folder.now)
-        (ports_of N.Listener.Writer.contents (N.comes around.entry.network.now)
-        (N.refuses around.entry.network.now)) (W.contents writer.old) (W.contents writer.new) result
+        → RanAtPath (books_of S.AtPath.seen (S.finds stores.now) (S.puts stores.now)) path.now words
+        (known_of (R.remaining reader.old) (F.files around.entry.folder.now)
+        (N.ports around.entry.network.now) N.Listener.Writer.contents)
+        (output_of W.contents writer.old writer.new) result
         ⊎ HadNoBook ((reader.new ≡ reader.old) × (writer.new ≡ writer.old)) result }
 {
     let (folder, remarks) = (around.folder, around.remarks);
@@ -370,13 +365,11 @@ pub fn run_called<R: Read, F: Folder, C: Clock + Drop, N: Network, M: Remarks, S
     writer: &mut W,
 ) -> Outcome
     ensures ran { IfOk called.now
-        (λ words. HasRun S.AtPath.seen (S.finds stores.now) (S.puts stores.now)
-        ((reader.new ≡ reader.old) × (writer.new ≡ writer.old))
-        (map string_bytes words.items) (R.remaining reader.old) (F.known around.entry.folder.now)
-        (F.opens around.entry.folder.now)
-        (ports_of N.Listener.Writer.contents (N.comes around.entry.network.now)
-        (N.refuses around.entry.network.now)) (W.contents writer.old)
-        (W.contents writer.new) result) }
+        (λ words. HasRun (books_of S.AtPath.seen (S.finds stores.now) (S.puts stores.now))
+        ((reader.new ≡ reader.old) × (writer.new ≡ writer.old)) (map string_bytes words.items)
+        (known_of (R.remaining reader.old) (F.files around.entry.folder.now)
+        (N.ports around.entry.network.now) N.Listener.Writer.contents)
+        (output_of W.contents writer.old writer.new) result) }
     ensures unread { result ≡ Outcome.CommandLine → reader.new ≡ reader.old }
     ensures unwritten { result ≡ Outcome.CommandLine → writer.new ≡ writer.old }
 

@@ -2,11 +2,12 @@
 
 ghost use Rattle.std.specs.Prelude.{◌≡◌, ◌≢◌, Result};
 ghost use Rattle.trust_base.specs.declared.refusal.StoreFault.{StoreFault};
-ghost use Rattle.cashier.specs.Calls.{CountsStore};
+ghost use Rattle.trust_desk.specs.Answered.{IfServed};
 ghost use Rattle.trust_desk.specs.Calls.{KeepsBook};
+ghost use Rattle.portal_http.specs.Output.{output_of};
+ghost use Rattle.cashier.specs.Calls.{CountsStore, IfSure, LeavesSame};
 ghost use Rattle.cashier.specs.Report.{PrintsReport, asked_for};
 ghost use Rattle.trust_store.specs.Calls.{IsRead};
-ghost use Rattle.trust_store.specs.Crashes.{LeavesOr};
 
 use crate::exception_telling::ExceptionTelling;
 use crate::outcome::{Outcome, outcome_of_reply, write_reply};
@@ -59,11 +60,10 @@ fn print_report<W: Write, B: Book>(
     // If the text was written, the store has met no fault.
     ensures serves { result ≡ Outcome.Done → (B.seen desk.new).sure → (B.seen desk.old).clean
         → (B.seen desk.old).stands → (B.seen desk.new).clean }
-    ensures ends { (B.seen desk.new).clean → (B.seen desk.old).stands
-        → PrintsReport today (B.seen desk.old).firm command (B.seen desk.new).firm (W.contents writer.old)
-        (W.contents writer.new) result }
-    ensures crash { (B.seen desk.new).sure → (B.seen desk.old).clean → (B.seen desk.old).stands
-        → LeavesOr (B.seen desk.old).firm (B.seen desk.old).leaves (B.seen desk.new).leaves }
+    ensures ends { IfServed (B.seen desk.old) (B.seen desk.new)
+        (PrintsReport today command (output_of W.contents writer.old writer.new) result) }
+    ensures crash { IfSure (B.seen desk.old) (B.seen desk.new)
+        (LeavesSame (B.seen desk.old) (B.seen desk.new)) }
 {
     let reply = desk.answer_beside(alloc, &request_for(command), today, lines);
     let Ok(()) = write_reply(writer, &reply) else {
@@ -154,14 +154,13 @@ pub fn run_report<M: Remarks, W: Write, B: Book>(
     is_past: bool,
 ) -> Outcome
     ensures began { result ≢ Outcome.CommandLine }
-    ensures ends { (B.seen desk.new).clean → (B.seen desk.old).stands
-        → PrintsReport today (B.seen desk.old).firm command (B.seen desk.new).firm (W.contents writer.old)
-        (W.contents writer.new) result }
+    ensures ends { IfServed (B.seen desk.old) (B.seen desk.new)
+        (PrintsReport today command (output_of W.contents writer.old writer.new) result) }
 
     // It ends with `StoreFault` only if a call of the book returned `Store`.
     ensures kept { KeepsBook (CountsStore Outcome.StoreFault result) (B.seen desk.old) (B.seen desk.new) }
-    ensures crash { (B.seen desk.new).sure → (B.seen desk.old).clean → (B.seen desk.old).stands
-        → LeavesOr (B.seen desk.old).firm (B.seen desk.old).leaves (B.seen desk.new).leaves }
+    ensures crash { IfSure (B.seen desk.old) (B.seen desk.new)
+        (LeavesSame (B.seen desk.old) (B.seen desk.new)) }
 {
     let mut lines = match &command {
         ReportCommand::Reconcile(day) if remarks.are_told() => ClearedLines::up_to(alloc, *day),

@@ -1,13 +1,15 @@
 // Runs a day sheet.
 
-ghost use Rattle.std.specs.Prelude.{◌≡◌, ◌≢◌, IfErr, IfSome, IsOk, []};
+ghost use Rattle.std.specs.Prelude.{◌≡◌, ◌≢◌, IfErr, IsOk, []};
 ghost use Rattle.std.specs.Io.KnownBytes.{Appends};
 ghost use Rattle.csv.specs.Records.{fields_of};
 ghost use Rattle.firm_rows.specs.Firm.{Firm};
-ghost use Rattle.cashier.specs.Calls.{CountsStore};
+ghost use Rattle.trust_desk.specs.Answered.{IfServed};
 ghost use Rattle.trust_desk.specs.Calls.{KeepsBook};
-ghost use Rattle.cashier.specs.Sheet.{Ends, IsCounted, LargeEnds, LinesAreKept, RecordEnds, RunEnds, TellsLine};
-ghost use Rattle.cashier.specs.Sheet.{end_of, ran_by, records_run, sheet_records};
+ghost use Rattle.portal_http.specs.Output.{output_of};
+ghost use Rattle.cashier.specs.Calls.{CountsStore, IfSure};
+ghost use Rattle.cashier.specs.Sheet.{IsCounted, LargeEnds, LinesAreKept, RecordEnds, RunEnds, SheetEnds, SheetIsKept};
+ghost use Rattle.cashier.specs.Sheet.{TellsLine, end_of, ran_by, sheet_records};
 ghost use Rattle.day_sheet.specs.Records.{heard_of};
 ghost use Rattle.trust_desk.specs.Crashes.{IsMade, MayLeave};
 
@@ -68,12 +70,11 @@ fn run_record<W: Write, B: Book, M: Remarks>(
         (W.contents writer.new) result }
     ensures read { IfErr result (λ end. end ≢ SheetEnd.ReadFault) }
     ensures kept { KeepsBook (IsCounted result) (B.seen desk.old) (B.seen desk.new) }
-    ensures told { (B.seen desk.new).sure → (B.seen desk.old).clean → (B.seen desk.old).stands
-        → TellsLine day (B.seen desk.old).firm (fields_of row.now) (W.contents writer.old) (W.contents writer.new)
-        result }
-    ensures crash { (B.seen desk.new).sure → (B.seen desk.old).clean → (B.seen desk.old).stands
-        → MayLeave (IsOk result) (IsMade day (B.seen desk.old).firm (heard_of (fields_of row.now)))
-        (B.seen desk.old).firm (B.seen desk.new).firm (B.seen desk.old) (B.seen desk.new) }
+    ensures told { IfSure (B.seen desk.old) (B.seen desk.new) (TellsLine day (B.seen desk.old).firm
+        (fields_of row.now) (W.contents writer.old) (W.contents writer.new) result) }
+    ensures crash { IfSure (B.seen desk.old) (B.seen desk.new) (MayLeave (IsOk result)
+        (IsMade day (B.seen desk.old).firm (heard_of (fields_of row.now)))
+        (B.seen desk.old).firm (B.seen desk.new).firm (B.seen desk.old) (B.seen desk.new)) }
 {
     let reply = answer_record(alloc, row, desk, day);
     let Ok(()) = write_reply(writer, &reply) else {
@@ -108,9 +109,9 @@ fn run_records<W: Write, B: Book, M: Remarks>(
         (W.contents writer.old) (W.contents writer.new) result }
     ensures read { result ≢ SheetEnd.ReadFault }
     ensures kept { KeepsBook (CountsStore SheetEnd.Store result) (B.seen desk.old) (B.seen desk.new) }
-    ensures crash { (B.seen desk.new).sure → (B.seen desk.old).clean → (B.seen desk.old).stands
-        → LinesAreKept day (B.seen desk.old).firm (sheet_records bytes.now) (B.seen desk.old)
-        (W.contents writer.old) (W.contents writer.new) result (B.seen desk.new) }
+    ensures crash { IfSure (B.seen desk.old) (B.seen desk.new)
+        (LinesAreKept day (sheet_records bytes.now) (output_of W.contents writer.old writer.new) result
+        (B.seen desk.old) (B.seen desk.new)) }
 {
     let telling = SheetTelling::new(bytes, remarks);
     let mut refused = false;
@@ -161,9 +162,8 @@ pub fn run_sheet<R: Read, W: Write, B: Book, M: Remarks>(
     desk: &mut Desk<B>,
     day: Day,
 ) -> SheetEnd
-    ensures ends { (B.seen desk.new).clean → (B.seen desk.old).stands → IfSome (R.remaining reader.old)
-        (λ bytes. Ends day (B.seen desk.old).firm bytes (B.seen desk.new).firm (W.contents writer.old)
-        (W.contents writer.new) result) }
+    ensures ends { IfServed (B.seen desk.old) (B.seen desk.new)
+        (SheetEnds day (R.remaining reader.old) (output_of W.contents writer.old writer.new) result) }
     ensures unread { result ≡ SheetEnd.ReadFault
         → Appends (W.contents writer.old) (W.contents writer.new) [] × (desk.new ≡ desk.old) }
 
@@ -172,10 +172,9 @@ pub fn run_sheet<R: Read, W: Write, B: Book, M: Remarks>(
 
     // Each line that was written as accepted is of a record that a crash leaves done, however the sheet ended. A line
     // is written only after its change is settled.
-    ensures crash { (B.seen desk.new).sure → (B.seen desk.old).clean → (B.seen desk.old).stands
-        → IfSome (R.remaining reader.old)
-        (λ bytes. LinesAreKept day (B.seen desk.old).firm (records_run bytes) (B.seen desk.old)
-        (W.contents writer.old) (W.contents writer.new) result (B.seen desk.new)) }
+    ensures crash { IfSure (B.seen desk.old) (B.seen desk.new)
+        (SheetIsKept day (R.remaining reader.old) (output_of W.contents writer.old writer.new) result
+        (B.seen desk.old) (B.seen desk.new)) }
 {
     match read_whole(alloc, reader, MAX_FILE_BYTES) {
         Ok(Some(bytes)) => run_records(alloc, bytes.as_slice(), remarks, writer, desk, day),

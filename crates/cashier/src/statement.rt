@@ -1,16 +1,17 @@
 // Imports a bank's statement.
 
-ghost use Rattle.std.specs.Prelude.{◌≡◌, ◌≢◌, ◌⊎◌, option_map};
+ghost use Rattle.std.specs.Prelude.{◌≡◌, ◌≢◌, ◌⊎◌};
 ghost use Rattle.std.specs.Io.KnownBytes.{Appends};
 ghost use Rattle.trust_base.specs.declared.refusal.Refusal.TheVariants as refusals;
-ghost use Rattle.cashier.specs.Calls.{CountsStore};
+ghost use Rattle.trust_desk.specs.Answered.{IfServed};
 ghost use Rattle.trust_desk.specs.Calls.{KeepsBook};
+ghost use Rattle.portal_http.specs.Output.{output_of};
+ghost use Rattle.cashier.specs.Calls.{CountsStore, IfSure};
+ghost use Rattle.cashier.specs.Crashes.{LeavesFirst};
 ghost use Rattle.cashier.specs.Sheet.{refusal_line};
 ghost use Rattle.cashier.specs.Statement as spec;
 ghost use Rattle.cashier.specs.Report.{refused_outcome};
 ghost use Rattle.cashier.specs.Statement.{Answers, EndsByNoFault, Sent, StatementEnds, counts_line};
-ghost use Rattle.statement_csv.specs.Items.{items};
-ghost use Rattle.trust_desk.specs.Crashes.{IsAfterFirst, MayLeave};
 
 use crate::outcome::{Outcome, outcome_of_refusal, write_answer_line, write_refusal};
 use std::alloc::Global;
@@ -31,8 +32,8 @@ pub fn is_told_longer(length: Option<u64>) -> bool
 
 // Writes the line of a refusal, which ends the run.
 fn refuse<W: Write>(writer: &mut W, refusal: &Refusal) -> Outcome
-    ensures { Sent (refusal_line refusal.now) (refused_outcome refusal.now) (W.contents writer.old)
-        (W.contents writer.new) result }
+    ensures { Sent (refusal_line refusal.now) (refused_outcome refusal.now) (output_of W.contents writer.old writer.new)
+        result }
 {
     let Ok(()) = write_refusal(writer, refusal) else {
         return Outcome::OutputFault;
@@ -62,19 +63,16 @@ pub fn run_import<R: Read + Drop, W: Write, B: Book, V: ItemWatch>(
     watch: &V,
 ) -> Outcome
     ensures began { result ≢ Outcome.CommandLine }
-    ensures ends { (B.seen desk.new).clean → (B.seen desk.old).stands
-        → StatementEnds today (B.seen desk.old).firm length (R.remaining reader) (B.seen desk.new).firm
-        (W.contents writer.old) (W.contents writer.new) result }
+    ensures ends { IfServed (B.seen desk.old) (B.seen desk.new)
+        (StatementEnds today length (R.remaining reader) (output_of W.contents writer.old writer.new) result) }
 
     // It ends with `StoreFault` only if a call of the book returned `Store`.
     ensures kept { KeepsBook (CountsStore Outcome.StoreFault result) (B.seen desk.old) (B.seen desk.new) }
 
     // A crash may leave what it might have left before, or the rows after some first items. A settled book is still
     // settled, unless the store or memory ended the import. The line is written after that.
-    ensures crash { (B.seen desk.new).sure → (B.seen desk.old).clean → (B.seen desk.old).stands
-        → MayLeave (EndsByNoFault result)
-        (IsAfterFirst today (B.seen desk.old).firm (option_map items (R.remaining reader)))
-        (B.seen desk.old).firm (B.seen desk.new).firm (B.seen desk.old) (B.seen desk.new) }
+    ensures crash { IfSure (B.seen desk.old) (B.seen desk.new)
+        (LeavesFirst today (R.remaining reader) result (B.seen desk.old) (B.seen desk.new)) }
 {
     if is_told_longer(length) {
         watch.ended(0, &ImportStop::Limit);

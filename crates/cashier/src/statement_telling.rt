@@ -1,10 +1,10 @@
 // Remarks about a statement as it is imported.
 
 use crate::applied_lines::AppliedLines;
+use crate::file_records::FileRecords;
 use crate::file_telling::{remark_on_first, tell_of_records};
 use crate::item_remark::{reference_of, remark_on_exception};
 use crate::read_bytes::{ReadBytes, ReplayReader};
-use crate::records::Records;
 use cashier_remarks::{LineRemark, Remark, Remarks, fault_of_line};
 use firm_rows::Owner;
 use std::alloc::{AllocError, Global};
@@ -21,7 +21,7 @@ pub struct StatementTelling<'a, M> {
     remarks: &'a M,
     applied: Option<&'a AppliedLines>,
     // The records in the bytes that were read so far.
-    records: RefCell<Records<ReplayReader<'a>>>,
+    records: RefCell<FileRecords<ReplayReader<'a>>>,
     // Whether nothing more is told about the lines: nobody is told anything, or memory ran out.
     is_over: Cell<bool>,
 }
@@ -43,7 +43,7 @@ impl<'a, M: Remarks> StatementTelling<'a, M> {
             today,
             remarks,
             applied,
-            records: RefCell::new(Records::new(alloc, ReplayReader::new(read))),
+            records: RefCell::new(FileRecords::new(alloc, ReplayReader::new(read))),
             is_over: Cell::new(!remarks.are_told()),
         }
     }

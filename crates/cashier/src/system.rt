@@ -26,9 +26,7 @@ struct SystemFiles<'a, R> {
 impl<R: Files> Folder for SystemFiles<'_, R> {
     type File = R::File;
 
-    ghost known = { λ f path. None };
-
-    ghost opens = { λ _ _ _. ⊤ };
+    ghost files = { λ _ _. record { bytes = None; opens = λ _. ⊤ } };
 
     fn open(&self, path: &str) -> Option<Opened<R::File>> {
         let Ok(reader) = fs::open(self.rt, path) else {

@@ -1,8 +1,9 @@
 -- Clients that are served in turn.
 use Rattle.portal_http.proofs.Names.{Seen, ◌≡◌, ◌+◌, ◌<◌, ◌≤◌, ℕ, suc, List, [], ◌∷◌, ◌++◌, Option, take, length, refl, sym, ap, ◌∙◌, subst, arith, length-append, Appends, Appends-nil, Appends-trans, take-append-add, append-nil, StreamEnd, AreServedInTurn, IsAny, IsClientServed, KeepsBook, ServedAll, ints, nat_tests}
 use Rattle.std.proofs.lemmas.List.Concat.{flat_map-append}
-use Rattle.portal_http.specs.Clients.{Comes, Refused}
+use Rattle.portal_http.specs.Clients.{Comes, Refused, clients_of}
 use Rattle.portal_http.specs.EndLines.{end_line, end_lines}
+use Rattle.portal_http.specs.Output.{Output}
 use Rattle.portal_http.specs.declared.server.ServeEnd.TheVariants as serving
 
 -- the lines of one end more
@@ -11,6 +12,10 @@ lines-push ends end = flat_map-append end_line ends (end ∷ []) ∙ ap (λ line
 
 pub length-push : (ends : List StreamEnd) (end : StreamEnd) → length (ends ++ end ∷ []) ≡ length ends + 1
 length-push ends end = length-append ends (end ∷ [])
+
+-- what was written, by the bytes before and after
+abbrev pub wrote : Option (List ℕ) → Option (List ℕ) → Output
+wrote before after = record { before = before; after = after }
 
 pub standing-still : (b : Seen) → KeepsBook IsAny b b
 standing-still b = record { was_clean = λ clean. clean; was_sure = λ sure. sure; still_stands = λ clean stands. stands; still_lasts = λ _ _ lasts. lasts; cause = λ _ _. tt }
@@ -70,12 +75,12 @@ module _ {B W : Type 0} (seen : B → Seen)
     next c may = subst (λ k. comes k c) (omega (arith, h.many)) (h.behind 0 c may)
 
     -- as many were served as were to be
-    pub served-done : (count : ℕ) → n ≡ count → ServedAll seen contents day count comes before old serving.Done mid book
+    pub served-done : (count : ℕ) → n ≡ count → ServedAll seen (clients_of count contents comes) day (wrote before mid) serving.Done old book
     served-done count same = record { ends = h.ends; served = h.served; told = (h.many ∙ same, h.told); refused = λ e. cc }
 
     -- the network refused an accept
     pub served-network_fault : (count : ℕ) → n < count → coming 0 Refused
-        → ServedAll seen contents day count comes before old serving.NetworkFault mid book
+        → ServedAll seen (clients_of count contents comes) day (wrote before mid) serving.NetworkFault old book
     served-network_fault count less refused = record { ends = h.ends; served = h.served; told = (omega (arith, h.many, less), h.told); refused = λ _. next Refused refused }
 
     module _ (end : StreamEnd) (new : B) (client : IsClientServed seen contents day (coming 0) book end new) where
@@ -102,7 +107,7 @@ module _ {B W : Type 0} (seen : B → Seen)
       -- a client more was served, and its end could not be told
       pub served-write_fault : (count : ℕ) → n + 1 ≤ count → (after : Option (List ℕ))
           → (k : ℕ) × (k < length (end_line end)) × Appends mid after (take k (end_line end))
-          → ServedAll seen contents day count comes before old serving.WriteFault after new
+          → ServedAll seen (clients_of count contents comes) day (wrote before after) serving.WriteFault old new
       served-write_fault count room after (k, less, wrote) = record {
         ends = h.ends ++ end ∷ [];
         served = in-turn-more;

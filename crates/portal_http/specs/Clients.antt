@@ -1,4 +1,4 @@
--- What an accept may return, and what is known of ports.
+-- What an accept may return, and what is known of ports and of clients.
 use Rattle.std.specs.Prelude.{ℕ, List, Option}
 use Rattle.portal_http.specs.declared.server.AcceptFault.{AcceptFault}
 use Rattle.portal_http.specs.declared.server.AcceptFault.TheVariants as fault
@@ -14,12 +14,25 @@ abbrev pub comes_of : {W : Type 0} → AcceptFault → Comes W
 comes_of fault.Aborted = Gone
 comes_of fault.Network = Refused
 
--- for ports: what was written to a client, if known; what each accept of a port may return, by how many come before
--- it; and when a port is not available
-pub record Ports (W : Type 0) : Type 1 where
-  pub contents : W → Option (List ℕ)
-  pub comes : ℕ → ℕ → Comes W → Type 0
-  pub refuses : ℕ → Type 0
+-- what is known of a port
+pub record Port (W : Type 0) : Type 1 where
+  -- what each accept may return, by how many come before it
+  pub comes : ℕ → Comes W → Type 0
+  -- it is not available
+  pub refuses : Type 0
 
-abbrev pub ports_of : {W : Type 0} → (W → Option (List ℕ)) → (ℕ → ℕ → Comes W → Type 0) → (ℕ → Type 0) → Ports W
-ports_of contents comes refuses = record { contents = contents; comes = comes; refuses = refuses }
+-- what is known of ports, by their numbers
+abbrev pub Ports : Type 0 → Type 1
+Ports W = ℕ → Port W
+
+-- clients that are to be served one after the other
+pub record Clients (W : Type 0) : Type 1 where
+  -- how many
+  pub count : ℕ
+  -- what was written to one, if it is known
+  pub contents : W → Option (List ℕ)
+  -- what each accept may return, by how many come before it
+  pub comes : ℕ → Comes W → Type 0
+
+abbrev pub clients_of : {W : Type 0} → ℕ → (W → Option (List ℕ)) → (ℕ → Comes W → Type 0) → Clients W
+clients_of count contents comes = record { count = count; contents = contents; comes = comes }

@@ -4,8 +4,9 @@ use Rattle.trust_store.specs.Seen.{Seen}
 use Rattle.portal_http.specs.Served.{Served}
 use Rattle.portal_http.specs.declared.stream.StreamEnd.{StreamEnd}
 use Rattle.portal_http.specs.declared.stream.StreamEnd.TheVariants as stream
-use Rattle.portal_http.specs.Clients.{Comes, Client, Gone, Refused}
+use Rattle.portal_http.specs.Clients.{Comes, Client, Clients, Gone, Refused}
 use Rattle.portal_http.specs.EndLines.{IsTold}
+use Rattle.portal_http.specs.Output.{Output}
 use Rattle.portal_http.specs.declared.server.ServeEnd.{ServeEnd}
 use Rattle.portal_http.specs.declared.server.ServeEnd.TheVariants as serving
 
@@ -36,11 +37,11 @@ module _ {B W : Type 0} (seen : B → Seen) (contents : W → Option (List ℕ))
   AreServedInTurn day comes old (end ∷ ends) new =
       (mid : B) × IsClientServed day (comes 0) old end mid × AreServedInTurn day (λ k. comes (suc k)) mid ends new
 
-  -- `count` clients were to be served: how each stream ended, in order, and what was written of that. It stopped
-  -- early only if a line could not be written, which the end says, or if the network refused an accept.
-  pub record ServedAll (day count : ℕ) (comes : ℕ → Comes W → Type 0) (before : Option (List ℕ)) (old : B)
-      (end : ServeEnd) (after : Option (List ℕ)) (new : B) : Type 0 where
-    pub ends : List StreamEnd
-    pub served : AreServedInTurn day comes old ends new
-    pub told : IsTold end count ends before after
-    pub refused : end ≡ serving.NetworkFault → comes (length ends) Refused
+-- Clients were to be served: how each stream ended, in order, and what was written of that. It stopped early only if a
+-- line could not be written, which the end says, or if the network refused an accept.
+pub record ServedAll {B W : Type 0} (seen : B → Seen) (clients : Clients W) (day : ℕ) (output : Output)
+    (end : ServeEnd) (old new : B) : Type 0 where
+  pub ends : List StreamEnd
+  pub served : AreServedInTurn seen clients.contents day clients.comes old ends new
+  pub told : IsTold end clients.count ends output.before output.after
+  pub refused : end ≡ serving.NetworkFault → clients.comes (length ends) Refused

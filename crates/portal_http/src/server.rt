@@ -3,7 +3,8 @@
 
 ghost use Rattle.std.specs.Prelude.{◌+◌, ◌*◌, ◌≤◌, ℕ, IfErr, IfNone, IfOk, IfSome, ⊤};
 ghost use Rattle.std.specs.Duration.{as_nanos};
-ghost use Rattle.portal_http.specs.Clients.{Client, Comes, comes_of};
+ghost use Rattle.portal_http.specs.Clients.{Client, Comes, clients_of, comes_of};
+ghost use Rattle.portal_http.specs.Output.{output_of};
 ghost use Rattle.portal_http.specs.Served.{Served};
 ghost use Rattle.portal_http.specs.ServedAll.{ServedAll};
 ghost use Rattle.trust_desk.specs.Calls.{IsAny, KeepsBook};
@@ -67,23 +68,19 @@ pub trait ClientListener {
 
 /// The ports that a command line can name.
 pub trait Network {
-    ghost use Rattle.std.specs.Prelude.{ℕ};
-    ghost use Rattle.portal_http.specs.Clients.{Comes};
+    ghost use Rattle.portal_http.specs.Clients.{Ports};
 
     /// What clients of a port connect to.
     type Listener: ClientListener + Drop;
 
-    /// What each accept of a port may return, by how many come before it.
-    ghost comes: { Self → ℕ → ℕ → Comes Self.Listener.Writer → Type 0 };
-
-    /// The port is not available.
-    ghost refuses: { Self → ℕ → Type 0 };
+    /// What is known of the ports.
+    ghost ports: { Self → Ports Self.Listener.Writer };
 
     /// Listens for clients at a port, for this machine only. Returns `None` if the port is not available.
     fn listen(&self, port: u16) -> Option<Self::Listener>
         ensures some { IfSome result (λ listener. (k : ℕ) (c : Comes Self.Listener.Writer)
-            → Self.Listener.comes listener k c → comes self.now port k c) }
-        ensures none { IfNone result (refuses self.now port) };
+            → Self.Listener.comes listener k c → (ports self.now port).comes k c) }
+        ensures none { IfNone result (ports self.now port).refuses };
 }
 
 /// The network of the system, whose behaviour is not known. Its ports are those of the loopback address.
@@ -102,9 +99,7 @@ pub struct SystemListener<L> {
 impl<R: Net> Network for SystemNetwork<'_, R> {
     type Listener = SystemListener<R::Listener>;
 
-    ghost comes = { λ _ _ _ _. ⊤ };
-
-    ghost refuses = { λ _ _. ⊤ };
+    ghost ports = { λ _ _. record { comes = λ _ _. ⊤; refuses = ⊤ } };
 
     fn listen(&self, port: u16) -> Option<SystemListener<R::Listener>> {
         match TcpListener::bind(self.rt, (Ipv4Addr::LOCALHOST, port)) {
@@ -367,8 +362,9 @@ pub fn serve_connections<C: Clock + Drop, L: ClientListener, W: Write, B: Book>(
     desk: &mut Desk<B>,
     day: Day,
 ) -> ServeEnd
-    ensures served { ServedAll B.seen L.Writer.contents day count (L.comes listener.old) (W.contents writer.old)
-        desk.old result (W.contents writer.new) desk.new }
+    ensures served { ServedAll B.seen (clients_of count L.Writer.contents (L.comes listener.old)) day
+        (output_of W.contents writer.old writer.new) result desk.old desk.new }
+
     // A firm that was sound is still sound, as it is after each message of each client. Faults of the store are not
     // counted, since no replies are given here.
     ensures kept { KeepsBook IsAny (B.seen desk.old) (B.seen desk.new) }

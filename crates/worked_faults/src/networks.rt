@@ -49,9 +49,7 @@ impl Network for NoNetwork {
 
     ghost use Rattle.std.specs.Prelude.{⊤};
 
-    ghost comes = { λ _ _ _ _. ⊤ };
-
-    ghost refuses = { λ _ _. ⊤ };
+    ghost ports = { λ _ _. record { comes = λ _ _. ⊤; refuses = ⊤ } };
 
     fn listen(&self, _port: u16) -> Option<NoClients> {
         None

@@ -17,9 +17,7 @@ impl Folder for NoFile {
 
     ghost use Rattle.std.specs.Prelude.{None, ⊤};
 
-    ghost known = { λ _ _. None };
-
-    ghost opens = { λ _ _ _. ⊤ };
+    ghost files = { λ _ _. record { bytes = None; opens = λ _. ⊤ } };
 
     fn open(&self, _path: &str) -> Option<Opened<TrialReader<'static>>> {
         None

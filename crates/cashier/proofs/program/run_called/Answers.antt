@@ -1,4 +1,4 @@
-use Rattle.cashier.proofs.Names.{◌∙◌, Result, IfOk, ap, map, refl, string_bytes, words_of, arith, ints, nat_tests}
+use Rattle.cashier.proofs.Names.{◌∙◌, Appends-nil, Result, IfOk, ap, map, refl, string_bytes, words_of, arith, ints, nat_tests}
 use Rattle.cashier.proofs.RunFacts.{by-line, by-want, over-memory, over-path}
 use Rattle.cashier.proofs.program.run_called.Goals as goal
 
@@ -6,7 +6,7 @@ if_ok : {X Y : Type 0} (o : Result X Y) (P : X → Type 0) → ((x : X) → P x)
 if_ok o x1 p = grind (arith, ints, nat_tests)
 
 pub returns-in_default-clause-ran : goal.returns-in_default-clause-ran
-returns-in_default-clause-ran g c = if_ok _ _ (λ words. by-want _ (refl, refl))
+returns-in_default-clause-ran g c = if_ok _ _ (λ words. by-want _ (Appends-nil _) (refl, refl))
 
 pub returns-in-Some-clause-ran : goal.returns-in-Some-clause-ran
 returns-in-Some-clause-ran g c = grind (arith, ints, nat_tests, words_of, map, string_bytes, over-path)
@@ -22,7 +22,7 @@ returns-in-Ok-command_of-clause-input g c =
 pub returns-in-Err-Line-clause-ran : goal.returns-in-Err-Line-clause-ran
 returns-in-Err-Line-clause-ran g c =
     let named = ap words_of c.as_slice-2.ensures.value ∙ c.in-Ok-texts_of.ensures ∙ ap (map string_bytes) c.as_slice.ensures.value in
-    rw (c.in-Ok.is, ← named) (by-line _ _ (rw c.in-Err-Line.field-0-is at c.in-Err-Line.ensures.none))
+    rw (c.in-Ok.is, ← named) (by-line _ (rw c.in-Err-Line.field-0-is at c.in-Err-Line.ensures.none))
 
 pub returns-clause-ran : goal.returns-clause-ran
-returns-clause-ran g c = if_ok _ _ (λ words. by-want _ (refl, refl))
+returns-clause-ran g c = if_ok _ _ (λ words. by-want _ (Appends-nil _) (refl, refl))

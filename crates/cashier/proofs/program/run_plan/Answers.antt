@@ -1,10 +1,14 @@
-use Rattle.cashier.proofs.Names.{◌∙◌, inl, inr, sym, arith, ints, nat_tests}
+use Rattle.cashier.proofs.Names.{◌∙◌, inl, inr, sym}
 use Rattle.cashier.proofs.CallFacts.{book-kept}
 use Rattle.cashier.proofs.StreamFacts.{stream-ends, stream-no-store}
 use Rattle.cashier.proofs.program.run_plan.Goals as goal
 
 pub returns-in-Stream-clause-ends : goal.returns-in-Stream-clause-ends
-returns-in-Stream-clause-ends g c = grind (arith, ints, nat_tests, stream-ends)
+returns-in-Stream-clause-ends g c = λ words means clean stands. inr (inr (inr (inl (record {
+  today = c.args.plan.now.today;
+  means = rw c.in-Stream.is at means;
+  ends = record { end = c.serve_stream.result; outcome = sym c.outcome_of_stream.ensures; ends = stream-ends c.serve_stream.ensures clean stands };
+}))))
 
 pub returns-in-Stream-clause-kept : goal.returns-in-Stream-clause-kept
 returns-in-Stream-clause-kept g c = λ words means.

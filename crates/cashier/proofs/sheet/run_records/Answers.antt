@@ -104,7 +104,7 @@ returns-in_default-clause-crash g c = λ sure clean stands.
     let (y, source, so_far) = c.loop-row.invariant.left in
     let going = c.loop-row.invariant.going sure clean stands in
     let (past, parts, written, is, was) = so_far going.0 stands in
-    kept-here _ _ past _ _ _ _ _ _ _ parts (λ w. absurd w) (written, is, was) going
+    kept-here _ _ past _ _ _ _ _ _ parts (λ w. absurd w) (written, is, was) going
 
 pub returns-in-Err-clause-crash : goal.returns-in-Err-clause-crash
 returns-in-Err-clause-crash g c = λ sure clean stands.
@@ -115,7 +115,7 @@ returns-in-Err-clause-crash g c = λ sure clean stands.
     let going = inv.going (c.run_record.ensures.kept.was_sure sure) clean stands in
     let (past, parts, written, is, was) = so_far going.0 stands in
     let stood = inv.kept.still_stands going.0 stands in
-    kept-stopped _ _ past _ _ _ _ _ _ _ _ _ _ _ parts first (written, is, was) going (c.in-Err.ensures.crash sure going.0 stood) (c.in-Err.ensures.told sure going.0 stood)
+    kept-stopped _ _ past _ _ _ _ _ _ _ _ _ _ parts first (written, is, was) going (c.in-Err.ensures.crash sure going.0 stood) (c.in-Err.ensures.told sure going.0 stood)
 
 pub returns-clause-crash : goal.returns-clause-crash
 returns-clause-crash g c = λ sure clean stands.
@@ -125,4 +125,4 @@ returns-clause-crash g c = λ sure clean stands.
     let (past, parts, written, is, was) = so_far going.0 stands in
     let s = rw c.in-None.is at ((c.next.ensures.steps inv.turns inv.plain).0 inv.ready) in
     let end = rows-end left_of c.loop-row.row-iterator.rdr c.next.new.self.rdr [] default_config y inv.config source s in
-    kept-here _ _ past _ _ _ _ _ _ _ parts (λ w. rest-none c.loop-row.row-iterator.rdr.state y end) (written, is, was) going
+    kept-here _ _ past _ _ _ _ _ _ parts (λ w. rest-none c.loop-row.row-iterator.rdr.state y end) (written, is, was) going

@@ -19,19 +19,19 @@ pub struct Found<'a> {
 /// The records of a statement, from its header on. They have to be asked for in order: the reader is never taken back
 /// to the start.
 #[derive(Drop)]
-pub struct Records<R> {
+pub struct FileRecords<R> {
     reader: Reader<R>,
     row: ByteRecord,
     // How many records were read, including the header.
     taken: u64,
 }
 
-impl<R: Read> Records<R> {
+impl<R: Read> FileRecords<R> {
     /// The records of what a reader gives, from the first.
-    pub fn new(alloc: Global, reader: R) -> Records<R> {
+    pub fn new(alloc: Global, reader: R) -> FileRecords<R> {
         let mut builder = ReaderBuilder::new();
         builder.has_headers(false).flexible(true);
-        Records {
+        FileRecords {
             reader: builder.from_reader(alloc, reader),
             row: ByteRecord::new(alloc),
             taken: 0,
