@@ -37,7 +37,7 @@ export function balanceOfMatter(matter, entries) {
 }
 
 // What each entry moved in its matter's ledger, held deposits included, and the ledger with it and those before it; by
-// the entries' numbers. One that moved nothing, or was undone, is not among them.
+// the entries' numbers. One that moved nothing, or was taken back, is not among them.
 export function movedBy(matter, entries) {
     const found = new Map();
     if (!balanceOfMatter(matter, entries).length) return found;

@@ -1,10 +1,15 @@
-// The matters of whoever asks, and what waits in them, as the desk lists both; and what waits in one matter, by its
-// entries.
+// The matters of whoever asks, what waits in them, and until when closed ones are kept, as the desk lists these; and
+// what waits in one matter, by its entries.
 
 import { isNothing, sumOf } from './amounts.js';
+import { readRetention } from './reports.js';
 
 export const readMatters = async (page) => (await page.desk.get('/matters')).body.matters;
 export const readWaiting = async (page) => (await page.desk.get('/waiting')).body.waiting;
+
+// What the retention list tells of each closed matter, by the matters' numbers.
+export const readKept = async (page) => new Map(readRetention((await page.desk.get('/firm/retention')).text)
+    .map((each) => [each.matter, each]));
 
 export const isProposed = ({ kind, state }) => kind === 'payment' && state === 'proposed';
 export const isOpenClaim = ({ kind, state }) => kind === 'claim' && state === 'open';

@@ -18,7 +18,7 @@ import { openMatter } from './views/opening.js';
 import { overview } from './views/overview.js';
 import { reconciliation } from './views/reconciliation.js';
 import { records } from './views/records.js';
-import { report } from './views/report.js';
+import { REPORT_NAMES, report } from './views/report.js';
 import { seats } from './views/seats.js';
 import { statement } from './views/statement.js';
 
@@ -43,7 +43,7 @@ const VIEWS = [
     [/^#\/open$/, openMatter],
     [/^#\/statement$/, statement],
     [/^#\/records$/, records],
-    [/^#\/report\/(trial-balance|journal|exceptions|retention)$/, report],
+    [new RegExp(`^#/report/(${REPORT_NAMES.join('|')})$`, 'u'), report],
     [/^#\/report\/(receipts|disbursements)(?:\/(\d{4}-\d\d-\d\d)\/(\d{4}-\d\d-\d\d))?$/, journalOf],
     [/^#\/report\/outstanding(?:\/(\d{4}-\d\d-\d\d))?$/, outstanding],
     [/^#\/month(?:\/(\d{4}-\d\d-\d\d))?$/, month],

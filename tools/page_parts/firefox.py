@@ -15,6 +15,7 @@ from . import firms
 from .checks import Checks
 from .firm import Desk, Firm, free_port, password, wait_for
 from .month import DAY, HEADINGS, SHOWN, SPITEFUL
+from .reports import ADDRESSES
 from .views import LOOKS, NARROW, WIDE
 
 PROGRAM = "firefox-esr"
@@ -166,9 +167,9 @@ def signed_on(person: str, firm: Firm, folder: pathlib.Path, checks: Checks) -> 
         browser.end()
 
 
-VIEWS = ("#/", "#/open", "#/statement", "#/records", "#/report/trial-balance", "#/report/journal",
-         "#/report/exceptions", "#/report/retention", f"#/reconciliation/{DAY}", f"#/clients/{DAY}", f"#/month/{DAY}",
-         f"#/report/receipts/2026-03-01/{DAY}", f"#/report/outstanding/{DAY}", "#/m/000001", "#/m/000001/card",
+VIEWS = ("#/", "#/open", "#/statement", "#/records", *ADDRESSES, f"#/reconciliation/{DAY}", f"#/clients/{DAY}",
+         f"#/month/{DAY}", f"#/report/receipts/2026-03-01/{DAY}", f"#/report/outstanding/{DAY}", "#/m/000001",
+         "#/m/000001/card",
          "#/m/000001/account/2026-03-01/2026-03-31", "#/m/000001/propose", "#/m/000001/e/0002", "#/m/000001/seats",
          f"#/accounts/2026-03-01/{DAY}")
 

@@ -6,6 +6,7 @@ import time
 from .browser import PHONE, WIDE, Browser
 from .checks import Checks
 from .firm import HEAD, Desk, Firm
+from .reports import REPORTS
 from .views import see
 
 DAY = "2026-03-31"
@@ -18,7 +19,7 @@ SEEN = [(person, width) for person in ("cashier", "lee", "ada") for width in (WI
 # What each is asked of the desk as the page is opened.
 LISTS = ["/matters", "/waiting"]
 FIRST_ASKED = {
-    "cashier": [*(f"/firm/{name}" for name in ("exceptions", "journal", "retention", "trial-balance")), *LISTS],
+    "cashier": sorted([*(f"/firm/{name}" for name, told in REPORTS.items() if told.is_first), *LISTS]),
     "lee": LISTS,
     "ada": ["/matters", f"/matters/{OWN}", f"/matters/{OWN}/entries", "/waiting"],
 }

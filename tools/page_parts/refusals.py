@@ -6,6 +6,7 @@ import re
 from .browser import Browser
 from .checks import Checks
 from .firm import ROOT, Desk, Fault, Firm
+from .reports import REPORTS
 
 DAY = "2024-01-10"
 
@@ -113,10 +114,10 @@ def tell_statuses(asker: Asker) -> None:
 
 def tell_empty(asker: Asker) -> None:
     """A report without a line says so."""
-    for name, words in (("exceptions", "Each line of the bank\u2019s has its entry."),
-                        ("journal", "Nothing came into the account yet."), ("retention", "No matter is closed.")):
-        asker.browser.to(f"#/report/{name}")
-        asker.checks.so(f"the empty report {name}", words in asker.browser.text(), asker.browser.text())
+    for name, told in REPORTS.items():
+        if told.empty:
+            asker.browser.to(f"#/report/{name}")
+            asker.checks.so(f"the empty report {name}", told.empty in asker.browser.text(), asker.browser.text())
 
 
 def tell_late(asker: Asker) -> None:

@@ -10,14 +10,14 @@ from . import firms
 from .browser import PHONE, WIDE, Browser
 from .checks import Checks
 from .firm import ACCOUNT, NAME, Desk, Firm
+from .reports import ADDRESSES
 
 DAY = "2026-03-31"
 NARROW = 320  # a page magnified to four times its size has this width
 WIDTHS = WIDTHS_OF_MANY = (WIDE, PHONE, NARROW)
 
-REPORTS = ["#/report/trial-balance", "#/report/journal", "#/report/exceptions", "#/report/retention",
-           "#/reconciliation", "#/reconciliation/2026-03-31", "#/clients", "#/clients/2026-03-31", "#/month",
-           "#/month/2026-03-31", "#/report/receipts", "#/report/receipts/2026-03-01/2026-03-31",
+REPORTS = [*ADDRESSES, "#/reconciliation", "#/reconciliation/2026-03-31", "#/clients", "#/clients/2026-03-31",
+           "#/month", "#/month/2026-03-31", "#/report/receipts", "#/report/receipts/2026-03-01/2026-03-31",
            "#/report/disbursements/2026-03-01/2026-03-31", "#/report/outstanding", "#/report/outstanding/2026-03-31",
            "#/accounts", "#/accounts/2026-03-01/2026-03-31"]
 FORMS = {"cashier": ["deposit", "propose", "claim", "seats"], "lee": ["propose", "fee", "claim"], "ada": ["dispute"]}

@@ -4,6 +4,7 @@ import pathlib
 from .browser import PHONE, Browser
 from .checks import Checks
 from .firm import HEAD, Desk, Fault, Firm
+from .reports import REPORTS
 
 DAY = "2024-01-10"
 STATEMENT = HEAD + """2024-01-02,OPEN,,0.00,Opening balance
@@ -364,9 +365,9 @@ def read_and_close(walk: Walk) -> None:
     cashier.to("#/")
     walk.has(cashier, "Overview", "Sunrise Reporting, LLC", "Bank lines that match nothing",
              "Not yet shown by the bank")
-    for name, words in (("trial-balance", "TOTAL"), ("journal", "M000001-0001"), ("retention", f"RETENTION {DAY}")):
+    for name, told in REPORTS.items():
         cashier.to(f"#/report/{name}")
-        walk.has(cashier, words)
+        walk.has(cashier, told.walked)
     cashier.to("#/reconciliation")
     cashier.press("Look for the last statement")
     walk.has(cashier, f"Reconciliation of {DAY}", "CLOSING", "25675.00", "Lines of the bank that match nothing come to")

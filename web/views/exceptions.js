@@ -25,7 +25,7 @@ const nameOf = ({ reference, amount }) => (isEntry(reference) ? reference : `the
 
 const wholeOf = (line) => Object.values(fieldsOf(line)).filter(Boolean).join(' ');
 
-// Asked once more, since it is not undone.
+// Asked once more, since it is not taken back.
 function confirm(page, line, place) {
     const { isKnown } = line;
     const dismiss = () => change(page,

@@ -8,9 +8,8 @@ import { chart } from '../chart.js';
 import { cardPath, entriesPath, matterPath } from '../desk.js';
 import { el, explained, facts, label, link, money, p, printed, quiet, readAgain, sums } from '../elements.js';
 import { form } from '../forms.js';
-import { waitingOf } from '../lists.js';
+import { readKept, waitingOf } from '../lists.js';
 import { shown } from '../names.js';
-import { readRetention } from '../reports.js';
 import { column, longTable } from '../tables.js';
 import { BALANCES, KINDS, meansOf, textsOf } from '../words.js';
 import { entryLink, stateOf, waitingTables } from './lists.js';
@@ -106,7 +105,7 @@ const closing = (page, no, client, place) => askFirst('Close this matter', {
 
 // Purging is offered once it may be; until then it is said when that is.
 async function purgingOf(page, no) {
-    const kept = readRetention((await page.desk.get('/firm/retention')).text).find(({ matter }) => matter === no);
+    const kept = (await readKept(page)).get(no);
     if (!kept || kept.mayGo) return purging(page, no);
     return quiet(`The records are kept until ${kept.until}.`);
 }

@@ -7,9 +7,9 @@ import { noteBox } from '../boxes.js';
 import { chart } from '../chart.js';
 import { el, link, money, number, p, quiet, readAgain, sums } from '../elements.js';
 import { findField } from '../forms.js';
-import { isProposed, readMatters, readWaiting, unshownIn } from '../lists.js';
+import { isProposed, readKept, readMatters, readWaiting, unshownIn } from '../lists.js';
 import { clockDay, fiveYearsTo } from '../names.js';
-import { countLines, dayOf, readMovements, readRetention, readTrial } from '../reports.js';
+import { countLines, dayOf, readMovements, readTrial } from '../reports.js';
 import { MOVED, STATES, textsOf } from '../words.js';
 import { atBankTable, foundTable, matterLists, waitingTables } from './lists.js';
 
@@ -104,11 +104,10 @@ function findEntries(page, waiting) {
 }
 
 export async function overview(page) {
-    const [matters, waiting, ...reports] = await Promise.all([readMatters(page), readWaiting(page),
-        ...['trial-balance', 'exceptions', 'retention', 'journal'].map((name) => page.desk.get(`/firm/${name}`))]);
-    const [trial, exceptions, retention, journal] = reports.map(({ text }) => text);
+    const [matters, waiting, kept, ...reports] = await Promise.all([readMatters(page), readWaiting(page),
+        readKept(page), ...['trial-balance', 'exceptions', 'journal'].map((name) => page.desk.get(`/firm/${name}`))]);
+    const [trial, exceptions, journal] = reports.map(({ text }) => text);
     page.desk.day = dayOf(trial);
-    const kept = new Map(readRetention(retention).map((each) => [each.matter, each]));
     const parts = [
         otherDay(page.desk.day),
         sumsOf(readTrial(trial), countLines(exceptions)),

@@ -12,19 +12,55 @@ const LAST = 1000;
 // So many rows of a table are shown at first.
 const FIRST = 100;
 
-const NAMES = {
-    'trial-balance': 'Trial balance',
-    journal: 'Journal',
-    exceptions: 'Exceptions',
-    retention: 'Retention',
+const matterLink = (matter) => link(`#/m/${matter}`, number(matter));
+
+function trialRows({ matters, firm, total }) {
+    return [...matters, { words: 'The firm\u2019s own', ledger: firm },
+        { words: 'All ledgers together', ledger: total }];
+}
+
+// Each report that takes no day: its title, what is said where it has no line, and, if it has one, its table: columns
+// and rows, in which the matters' clients are named.
+const REPORTS = {
+    'trial-balance': {
+        title: 'Trial balance',
+        table: {
+            caption: 'Whose money it is',
+            columns: [column('Matter', 'tight'), column('Client'), column('Ledger', 'right')],
+            read: (text) => trialRows(readTrial(text)),
+            cells: ({ matter, words, ledger }, nameOf) =>
+                [matter ? matterLink(matter) : words, matter && nameOf(matter), money(ledger)],
+        },
+    },
+    journal: {
+        title: 'Journal',
+        empty: 'Nothing came into the account yet.',
+        table: {
+            caption: 'The account, newest first',
+            columns: [column('Day', 'tight'), column('Reference', 'tight'), column('Client'), column('Amount', 'right'),
+                column('Account', 'right')],
+            read: (text) => readJournal(text)
+                .map((each) => ({ ...each, matter: /^M(\d{6})/.exec(each.reference)?.[1] })).reverse(),
+            cells: ({ day, reference, matter, amount, sum }, nameOf) => [number(day), referenceLink(reference),
+                matter ? nameOf(matter) : 'the firm', money(amount), money(sum)],
+        },
+    },
+    exceptions: { title: 'Exceptions', empty: 'Each line of the bank\u2019s has its entry.' },
+    retention: {
+        title: 'Retention',
+        empty: 'No matter is closed.',
+        table: {
+            caption: 'Closed matters, and until when their records are kept',
+            columns: [column('Matter', 'tight'), column('Client'), column('Closed', 'tight'),
+                column('Keep until', 'tight'), column('Records')],
+            read: readRetention,
+            cells: ({ matter, closed, until, mayGo }, nameOf) => [matterLink(matter), nameOf(matter), number(closed),
+                number(until), mayGo ? 'may be purged' : 'are kept'],
+        },
+    },
 };
 
-// What is said where a report has no line.
-const EMPTY = {
-    journal: 'Nothing came into the account yet.',
-    exceptions: 'Each line of the bank\u2019s has its entry.',
-    retention: 'No matter is closed.',
-};
+export const REPORT_NAMES = Object.keys(REPORTS);
 
 // Those of a day or of a period have views of their own.
 const PLACES = {
@@ -33,7 +69,7 @@ const PLACES = {
     disbursements: ['#/report/disbursements', 'Disbursements'],
     outstanding: ['#/report/outstanding', 'Outstanding items'],
     accounts: ['#/accounts', 'Statements of account'],
-    ...Object.fromEntries(Object.entries(NAMES).map(([name, words]) => [name, [`#/report/${name}`, words]])),
+    ...Object.fromEntries(Object.entries(REPORTS).map(([name, { title }]) => [name, [`#/report/${name}`, title]])),
 };
 
 const linkTo = ([href, words], isHere) => el('a', { href, 'aria-current': isHere ? 'page' : null }, words);
@@ -41,44 +77,8 @@ const linkTo = ([href, words], isHere) => el('a', { href, 'aria-current': isHere
 export const reportsList = (now) => el('ul', { class: 'actions', 'aria-label': 'Reports' },
     Object.keys(PLACES).map((name) => el('li', {}, linkTo(PLACES[name], name === now))));
 
-const matterLink = (matter) => link(`#/m/${matter}`, number(matter));
-
-function trialRows({ matters, firm, total }) {
-    return [...matters, { words: 'The firm\u2019s own', ledger: firm },
-        { words: 'All ledgers together', ledger: total }];
-}
-
-// What each report with a table has: its columns, and its rows, in which the matters' clients are named.
-const TABLES = {
-    'trial-balance': {
-        caption: 'Whose money it is',
-        columns: [column('Matter', 'tight'), column('Client'), column('Ledger', 'right')],
-        read: (text) => trialRows(readTrial(text)),
-        cells: ({ matter, words, ledger }, nameOf) =>
-            [matter ? matterLink(matter) : words, matter && nameOf(matter), money(ledger)],
-    },
-    journal: {
-        caption: 'The account, newest first',
-        columns: [column('Day', 'tight'), column('Reference', 'tight'), column('Client'), column('Amount', 'right'),
-            column('Account', 'right')],
-        read: (text) => readJournal(text).map((each) => ({ ...each, matter: /^M(\d{6})/.exec(each.reference)?.[1] }))
-            .reverse(),
-        cells: ({ day, reference, matter, amount, sum }, nameOf) =>
-            [number(day), referenceLink(reference), matter ? nameOf(matter) : 'the firm', money(amount), money(sum)],
-    },
-    retention: {
-        caption: 'Closed matters, and until when their records are kept',
-        columns: [column('Matter', 'tight'), column('Client'), column('Closed', 'tight'), column('Keep until', 'tight'),
-            column('Records')],
-        read: readRetention,
-        cells: ({ matter, closed, until, mayGo }, nameOf) => [matterLink(matter), nameOf(matter), number(closed),
-            number(until), mayGo ? 'may be purged' : 'are kept'],
-    },
-};
-
 // The table of a report.
-function named(name, text, matters) {
-    const { caption, columns, read, cells } = TABLES[name];
+function named(name, { caption, columns, read, cells }, text, matters) {
     const clients = new Map(matters.map(({ matter, client }) => [matter, client]));
     const nameOf = (matter) => label(clients.get(matter) ?? '');
     return el('div', { class: `named ${name}` }, longTable({ caption, columns, items: read(text),
@@ -99,11 +99,11 @@ function asPrinted(text, path, file) {
 
 export async function report(page, name) {
     const path = `/firm/${name}`;
-    const [{ text }, matters] = await Promise.all([page.desk.get(path), TABLES[name] ? readMatters(page) : []]);
+    const { title, empty, table } = REPORTS[name];
+    const [{ text }, matters] = await Promise.all([page.desk.get(path), table ? readMatters(page) : []]);
     page.desk.day = dayOf(text);
-    const table = TABLES[name] && named(name, text, matters);
+    const shown = countLines(text) === 0 ? p(empty) : table && named(name, table, text, matters);
     const more = name === 'exceptions' && await dismissal(page);
-    const empty = countLines(text) === 0 && p(EMPTY[name]);
-    const parts = [reportsList(name), empty || table, asPrinted(text, path, `${name}-${page.desk.day}.txt`), more];
-    return { title: NAMES[name], parts };
+    const parts = [reportsList(name), shown, asPrinted(text, path, `${name}-${page.desk.day}.txt`), more];
+    return { title, parts };
 }
