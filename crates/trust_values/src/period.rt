@@ -27,7 +27,7 @@ impl Model for Period {
 }
 
 // The first of a day's month.
-#[tactic(auto, using(crate::proofs::DayFacts::first_day), unfolding(crate::specs::Limits::IsDay))]
+#[tactic(auto, using(crate::proofs::DayFacts::first_day))]
 fn first_of_month(day: Day) -> Day
     ensures value { result ≡ first_of_month day }
     ensures range { IsDay result }
