@@ -7,6 +7,7 @@ ghost use Rattle.firm_figures.specs.declared.clients_sink.ClientLine.{ClientLine
 
 use crate::day_lists::EntryDays;
 use crate::figures::{added, together};
+use crate::heads::{is_head_purged_after, is_open_by};
 use firm_rows::{FirmLine, FirmLineSink, MatterRow, MatterRowSink};
 use std::alloc::{AllocError, Global};
 use std::marker::Model;
@@ -126,27 +127,18 @@ impl MatterRowSink for ClientsSink {
     fn matter_row(&mut self, matter: MatterNo, row: MatterRow<'_>) -> Result<(), AllocError> {
         match row {
             MatterRow::Head(head) => {
-                if head.opened.get() <= self.day.get() {
-                    let closed = match head.closed {
-                        Some(closed) => closed.get() <= self.day.get(),
-                        None => false,
-                    };
-                    if !closed {
-                        if let Holder::Client(client) = &head.holder {
-                            let client = client.copied()?;
-                            self.lines.push(ClientLine {
-                                matter,
-                                client,
-                                ledger: 0,
-                            })?;
-                        }
+                if is_open_by(head, self.day) {
+                    if let Holder::Client(client) = &head.holder {
+                        let client = client.copied()?;
+                        self.lines.push(ClientLine {
+                            matter,
+                            client,
+                            ledger: 0,
+                        })?;
                     }
                 }
-                match (&head.holder, head.closed) {
-                    (Holder::Purged(_), Some(closed)) if self.day.get() < closed.get() => {
-                        self.purged = true;
-                    }
-                    _ => {}
+                if is_head_purged_after(head, self.day) {
+                    self.purged = true;
                 }
             }
             MatterRow::Seat(_seat) => {}

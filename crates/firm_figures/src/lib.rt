@@ -44,6 +44,7 @@
 mod clients_sink;
 mod day_lists;
 mod figures;
+mod heads;
 mod journal_sink;
 pub mod laws;
 mod of_lists;

@@ -14,6 +14,7 @@ use crate::day_lists::{
     push_issued, push_line,
 };
 use crate::figures::{Figures, Sums, added, less, together};
+use crate::heads::is_head_purged_after;
 use firm_rows::{
     BalanceKind, BalanceRow, BalanceSink, ExceptionSink, FirmLine, FirmLineSink, MatterRow,
     MatterRowSink, Movement, MovementSink,
@@ -21,7 +22,7 @@ use firm_rows::{
 use std::alloc::{AllocError, Global};
 use std::marker::Model;
 use trust_base::{BankText, Day, EntryNo, Line, MatterNo};
-use trust_matter::{Entry, Holder};
+use trust_matter::Entry;
 
 /// The reconciliation as of a day: the ten figures, and the lists that go with them. Doubles are payments with the same
 /// instrument as another, sorted by instrument (byte by byte), matter and entry. Openings are those that differ from
@@ -246,12 +247,11 @@ impl MatterRowSink for ReconciliationSink {
 
     fn matter_row(&mut self, matter: MatterNo, row: MatterRow<'_>) -> Result<(), AllocError> {
         match row {
-            MatterRow::Head(head) => match (&head.holder, head.closed) {
-                (Holder::Purged(_), Some(closed)) if self.day.get() < closed.get() => {
+            MatterRow::Head(head) => {
+                if is_head_purged_after(head, self.day) {
                     self.purged = true;
                 }
-                _ => {}
-            },
+            }
             MatterRow::Seat(_seat) => {}
             MatterRow::Entry(number, entry) => {
                 self.list_entry(matter, number, entry)?;
