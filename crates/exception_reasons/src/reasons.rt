@@ -71,13 +71,7 @@ fn write_named_amount(
     ensures tokens { OnOk result
         (out.new.tokens ≡ out.old.tokens ++ value_tokens (named_sum key.now (amount_value cents) name.now)) }
 {
-    let amount = Dollars(cents as i128);
-    out.begin_object()?;
-    out.key(key)?;
-    out.string(format!(in alloc; "{amount}")?.as_str())?;
-    out.key("name")?;
-    out.string(name)?;
-    out.end_object()
+    write_named_sum(alloc, out, key, cents as i128, name)
 }
 
 // Writes a reason as two texts.
