@@ -121,12 +121,37 @@ sequence_place l = 5
 abbrev pub sequence_tree : Layout → ℕ
 sequence_tree l = 7
 
+-- what the tables of this version are called
+abbrev pub book_table_name : List ℕ
+book_table_name = codes "book"
+
+abbrev pub matter_table_name : List ℕ
+matter_table_name = codes "matter_v2"
+
+abbrev pub seat_table_name : List ℕ
+seat_table_name = codes "seat_v2"
+
+abbrev pub entry_table_name : List ℕ
+entry_table_name = codes "entry_v2"
+
+abbrev pub journal_table_name : List ℕ
+journal_table_name = codes "journal"
+
+abbrev pub firm_line_table_name : List ℕ
+firm_line_table_name = codes "firm_line"
+
+abbrev pub exception_table_name : List ℕ
+exception_table_name = codes "exception"
+
+abbrev pub balance_table_name : List ℕ
+balance_table_name = codes "balance"
+
 abbrev pub book_text : List ℕ
 book_text = codes "CREATE TABLE book (version INTEGER NOT NULL) STRICT"
 
 abbrev pub book_table : Layout → Table
 book_table l = record {
-  name = codes "book";
+  name = book_table_name;
   tree = book_tree l;
   columns = column (codes "version") Integer ∷ [];
   key = None;
@@ -210,7 +235,7 @@ matter_text = codes "CREATE TABLE matter_v2 (no INTEGER NOT NULL PRIMARY KEY, cl
 
 abbrev pub matter_table : Layout → Table
 matter_table l = record {
-  name = codes "matter_v2";
+  name = matter_table_name;
   tree = matter_tree l;
   columns = column (codes "no") Integer ∷ column (codes "client") Text ∷ column (codes "opened") Integer ∷
       column (codes "closed") Integer ∷ column (codes "last") Integer ∷ column (codes "entries") Integer ∷
@@ -233,7 +258,7 @@ seat_text = codes "CREATE TABLE seat_v2 (matter INTEGER NOT NULL REFERENCES matt
 
 abbrev pub seat_table : Layout → Table
 seat_table l = record {
-  name = codes "seat_v2";
+  name = seat_table_name;
   tree = seat_tree l;
   columns = column (codes "matter") Integer ∷ column (codes "person") Text ∷ column (codes "role") Integer ∷ [];
   key = None;
@@ -241,7 +266,7 @@ seat_table l = record {
   uniques = (1 ∷ 2 ∷ []) ∷ [];
   orders = plain ∷ [];
   checks = [];
-  references = reference_to (codes "matter_v2") ∷ [];
+  references = reference_to matter_table_name ∷ [];
   computed = [];
   stamps = record { places = []; terms = []; formats = [] };
   is_counted = false;
@@ -252,7 +277,7 @@ entry_text = codes "CREATE TABLE entry_v2 (matter INTEGER NOT NULL REFERENCES ma
 
 abbrev pub entry_table : Layout → Table
 entry_table l = record {
-  name = codes "entry_v2";
+  name = entry_table_name;
   tree = entry_tree l;
   columns = column (codes "matter") Integer ∷ column (codes "no") Integer ∷ column (codes "kind") Integer ∷
       column (codes "day") Integer ∷ column (codes "amount") Integer ∷ column (codes "state") Integer ∷
@@ -265,7 +290,7 @@ entry_table l = record {
   uniques = (1 ∷ 2 ∷ []) ∷ [];
   orders = plain ∷ [];
   checks = [];
-  references = reference_to (codes "matter_v2") ∷ [];
+  references = reference_to matter_table_name ∷ [];
   computed = [];
   stamps = record { places = []; terms = []; formats = [] };
   is_counted = false;
@@ -276,7 +301,7 @@ journal_text = codes "CREATE TABLE journal (seq INTEGER NOT NULL PRIMARY KEY AUT
 
 abbrev pub journal_table : Layout → Table
 journal_table l = record {
-  name = codes "journal";
+  name = journal_table_name;
   tree = journal_tree l;
   columns = column (codes "seq") Integer ∷ column (codes "matter") Integer ∷ column (codes "entry") Integer ∷
       column (codes "day") Integer ∷ column (codes "amount") Integer ∷ [];
@@ -296,7 +321,7 @@ firm_line_text = codes "CREATE TABLE firm_line (seq INTEGER NOT NULL PRIMARY KEY
 
 abbrev pub firm_line_table : Layout → Table
 firm_line_table l = record {
-  name = codes "firm_line";
+  name = firm_line_table_name;
   tree = firm_line_tree l;
   columns = column (codes "seq") Integer ∷ column (codes "day") Integer ∷ column (codes "bank_ref") Text ∷
       column (codes "amount") Integer ∷ column (codes "text") Text ∷ [];
@@ -316,7 +341,7 @@ exception_text = codes "CREATE TABLE exception (day INTEGER NOT NULL, reference 
 
 abbrev pub exception_table : Layout → Table
 exception_table l = record {
-  name = codes "exception";
+  name = exception_table_name;
   tree = exception_tree l;
   columns = column (codes "day") Integer ∷ column (codes "reference") Text ∷ column (codes "bank_ref") Text ∷
       column (codes "amount") Integer ∷ column (codes "text") Text ∷ [];
@@ -336,7 +361,7 @@ balance_text = codes "CREATE TABLE balance (kind INTEGER NOT NULL, day INTEGER N
 
 abbrev pub balance_table : Layout → Table
 balance_table l = record {
-  name = codes "balance";
+  name = balance_table_name;
   tree = balance_tree l;
   columns = column (codes "kind") Integer ∷ column (codes "day") Integer ∷ column (codes "amount") Integer ∷ [];
   key = None;
