@@ -1,6 +1,16 @@
 -- From what a call of `sqlite` says of a text to the meaning of a query that is written out.
-use Rattle.sql_tables.proofs.Names.{◌≡◌, ◌⊎◌, ℕ, Bool, false, cond, unwrap_or, List, [], None, Result, Ok, Err, IfOk, IfErr, IsOk, OnOk, IsTrue, ◌∙◌, arith, Null, Row, Trees, Query, IsAnswer, overlay, Schema, Command, Select, understood, reads_listing, Error, State, HasCleanDisk, Survives, CommitsShowing, Shown, IsUnchanged, IsRolledBack, IsNotRun, FailsToQuery, IsKept, LeavesAll, IsSelect, survives_weaker, IsPlain, command_of, reads_as, ints, nat_tests}
+use Rattle.sql_tables.proofs.Names.{◌≡◌, ◌⊎◌, ℕ, Bool, true, false, cond, unwrap_or, List, [], Option, Some, None, refl, ap, Result, Ok, Err, IfOk, IfErr, IsOk, OnOk, IsTrue, ◌∙◌, arith, Null, Row, Trees, Query, IsAnswer, overlay, Schema, Command, Select, understood, reads_listing, Error, State, HasCleanDisk, Survives, CommitsShowing, Shown, IsUnchanged, IsRolledBack, IsNotRun, FailsToQuery, IsKept, LeavesAll, IsSelect, survives_weaker, IsPlain, command_of, reads_as, ints, nat_tests}
 use Rattle.sqlite.specs.Clock.{timed}
+use Rattle.sqlite.specs.Listing.{misses_table}
+use Rattle.sqlite_syntax.specs.declared.statement.Parsed.{Parsed}
+use Rattle.sqlite_schema.specs.declared.command.Returning.{Returning}
+use Rattle.sqlite_resolve.specs.Compile.{compiled, first, planned, with_command}
+use Rattle.sqlite_resolve.specs.Lowering.{Checked, and_then}
+use Rattle.sqlite_resolve.specs.declared.compiled.Compiled.{Compiled}
+use Rattle.sql_schema.specs.declared.layout.Layout.{Layout}
+use Rattle.sql_schema.specs.declared.layout.Layout.TheVariants.{Made, Moved}
+use Rattle.sql_schema.specs.Schema.{book_schema}
+use Rattle.sql_tables.specs.Reading.{selects}
 use Rattle.sql_tables.proofs.Selects.{select_returns, select_commits}
 
 -- what is proved of the text of a write, by running its meaning
@@ -13,6 +23,70 @@ pub record IsQuery (schema : Schema) (sql : List ℕ) (q : Query) (names : List 
   pub is : command_of (understood schema sql) ≡ Select (record { lets = []; body = q }) names
   pub plain : IsPlain (understood schema sql)
   pub unlisted : reads_listing schema sql ≡ false
+
+-- What a text means is found by one run over it: it is parsed once, and compiled in each layout.
+
+abbrev pub Seen : Type 0
+Seen = Command × (Option Returning × List (List ℕ))
+
+abbrev pub Sight : Type 0
+Sight = Option Seen
+
+-- the command, and what it returns and formats
+abbrev pub sight : Checked Compiled → Sight
+sight (Ok c) = Some (c.command, (c.returning, c.formats))
+sight (Err e) = None
+
+-- the sight of a command that returns nothing and has no time in it
+abbrev pub plainly : Command → Sight
+plainly command = Some (command, (None, []))
+
+abbrev pub compiled_in : Schema → Checked Parsed → Checked Compiled
+compiled_in schema r = and_then r (λ p. and_then (planned schema p) (λ plan. Ok (with_command p plan)))
+
+-- whether a parsed text begins with a SELECT, and its sight in each layout
+abbrev pub looked_at : Checked Parsed → Bool × (Sight × Sight)
+looked_at r = (selects r, (sight (compiled_in (book_schema Made) r), sight (compiled_in (book_schema Moved) r)))
+
+abbrev pub seen_as : Bool → (Layout → Command) → Bool × (Sight × Sight)
+seen_as is_select command = (is_select, (plainly (command Made), plainly (command Moved)))
+
+abbrev pub asking : (Layout → Query) → List (List ℕ) → Layout → Command
+asking q names l = Select (record { lets = []; body = q l }) names
+
+one_sight : (a b : Seen) → Some a ≡ Some b → a ≡ b
+one_sight a b h = cc
+
+seen_command : (listed r : Checked Compiled) (command : Command) → sight r ≡ plainly command → command_of (cond (misses_table r) listed r) ≡ command
+seen_command listed (Ok c) command h = ap (λ t. t.0) (one_sight _ _ h)
+seen_command listed (Err e) command h = absurd (cc)
+
+seen_plain : (listed r : Checked Compiled) (command : Command) → sight r ≡ plainly command → IsPlain (cond (misses_table r) listed r)
+seen_plain listed (Ok c) command h = let same = one_sight _ _ h in (ap (λ t. t.1.0) same, ap (λ t. t.1.1) same)
+seen_plain listed (Err e) command h = absurd (cc)
+
+seen_unlisted : (r : Checked Compiled) (command : Command) → sight r ≡ plainly command → misses_table r ≡ false
+seen_unlisted (Ok c) command h = refl
+seen_unlisted (Err e) command h = absurd (cc)
+
+module _ (sql : List ℕ) (is_select : Bool) (command : Layout → Command) (seen : looked_at (first sql) ≡ seen_as is_select command) where
+  sight_is : (l : Layout) → sight (compiled (book_schema l) sql) ≡ plainly (command l)
+  unfolding compiled
+  sight_is Made = ap (λ s. s.1.0) seen
+  sight_is Moved = ap (λ s. s.1.1) seen
+
+  pub commands : (l : Layout) → IsCommand (book_schema l) sql (command l)
+  unfolding understood
+  commands l = record { is = seen_command _ _ (command l) (sight_is l); plain = seen_plain _ _ (command l) (sight_is l) }
+
+module _ (sql : List ℕ) (q : Layout → Query) (names : List (List ℕ)) (seen : looked_at (first sql) ≡ seen_as true (asking q names)) where
+  pub queries : (l : Layout) → IsQuery (book_schema l) sql (q l) names
+  queries l =
+      let it = commands sql true (asking q names) seen l in
+      record { is = it.is; plain = it.plain; unlisted = seen_unlisted _ _ (sight_is sql true (asking q names) seen l) }
+
+  pub begins : IsSelect sql
+  begins = ap (λ s. s.0) seen
 
 pub shown_unchanged : (sql : List ℕ) (params : Row) (old new : State) (rows : List Row) → IsSelect sql → Shown sql params old new rows → IsUnchanged old new
 unfolding Shown
