@@ -1,5 +1,5 @@
 -- The entries of a matter after what is left of one was written.
-use Rattle.sql_rows.proofs.Names.{◌≡◌, inl, inr, ℕ, ℤ, pos, nat_abs, ◌+◌, ◌<◌, Bool, false, cond, eqb, List, [], ◌∷◌, map, filter, Option, Some, None, refl, ap, ◌∙◌, arith, int_eq, AllByRecursion, cases_Bool, cond_both, nat_tests, sort_by, update_where, same_int, int_eq_apart, all_map, all_weaker, first_of_both, sort_by-map, Left, left_written, other_written, AreNumbered, entry_cmp, is_entry_at, is_entry_of, entries_of, with_left, put_left, HasHeadAt, IsWrittenEntry, kept_from, ints}
+use Rattle.sql_rows.proofs.Names.{◌≡◌, inl, inr, ℕ, ℤ, pos, nat_abs, ◌+◌, ◌<◌, Bool, true, false, cond, eqb, List, [], ◌∷◌, map, filter, Option, Some, None, refl, ap, ◌∙◌, arith, int_eq, AllByRecursion, cases_Bool, cond_both, nat_tests, sort_by, update_where, same_int, int_eq_apart, all_map, all_weaker, first_of_both, sort_by-map, Left, left_written, other_written, AreNumbered, entry_cmp, is_entry_at, is_entry_of, entries_of, with_left, put_left, HasHeadAt, IsWrittenEntry, kept_from, ints}
 use Rattle.sql_tables.specs.Rows.{Entry}
 use Rattle.sql_rows.proofs.EntryOrder.{HasNumber, have_numbers, kept_of, number_is, numbers_of, same_test}
 use Rattle.sql_rows.proofs.Placed.{EntriesPlaced}
@@ -78,18 +78,30 @@ module _ (n left : ℕ) where
 pub own_left : (m : ℕ) (o : Option Left) (es : List Entry) → AllByRecursion IsWrittenEntry es
     → AreNumbered 1 (kept_of (pos m) es)
     → kept_of (pos m) (left_put m o es) ≡ other_written (kept_of (pos m) es) o
-own_left m o es written numbered =
-    grind (arith, ints, nat_tests, map, kept_from, own_rows, sorted_rows, filter, kept_left, numbers_of, have_numbers)
+own_left m None es written numbered = refl
+own_left m (Some o) es written numbered =
+    ap (λ (xs : List Entry). map kept_from (sort_by entry_cmp xs)) (own_rows (pos m) (pos o.number) (pos o.left) es)
+    ∙ ap (map kept_from) (sorted_rows (pos o.number) (pos o.left) (filter (is_entry_of (pos m)) es))
+    ∙ kept_left o.number o.left 1 (entries_of (pos m) es) (numbers_of (pos m) es (have_numbers es written)) numbered
 
 others_left : (k : ℤ) (m : ℕ) (o : Option Left) (es : List Entry) → (k ≡ pos m → ⊥)
     → entries_of k (left_put m o es) ≡ entries_of k es
-others_left k m o es other = grind (arith, ints, nat_tests, sort_by, entry_cmp, others_rows)
+others_left k m None es other = refl
+others_left k m (Some o) es other = ap (sort_by entry_cmp) (others_rows (pos m) (pos o.number) (pos o.left) k es other)
+
+either : (P : Entry → Type 0) (b : Bool) (x y : Entry) → P x → P y → P (cond b x y)
+either P true x y p q = p
+either P false x y p q = q
 
 -- what holds of each, whatever is left of it, holds of each afterwards
 each_left : (P : Entry → Type 0) (m : ℕ) (o : Option Left) (es : List Entry)
     → ((left : ℕ) (e : Entry) → P e → P (with_left (pos left) e))
     → AllByRecursion P es → AllByRecursion P (left_put m o es)
-each_left x0 m o es still all = grind (arith, ints, nat_tests, all_map, all_weaker, cond_both, is_entry_at, with_left)
+each_left P m None es still all = all
+each_left P m (Some o) es still all =
+    let change = λ (e : Entry). cond (is_entry_at (pos m) (pos o.number) e) (with_left (pos o.left) e) e in
+    all_map P change es
+    (all_weaker P (λ e. P (change e)) (λ e h. either P (is_entry_at (pos m) (pos o.number) e) _ e (still o.left e h) h) es all)
 
 -- those of other matters stay, and each is a written one, of a matter with a head
 pub placed_left_put : (m : ℕ) (o : Option Left) (es : List Entry) → AllByRecursion IsWrittenEntry es
