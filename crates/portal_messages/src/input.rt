@@ -1,15 +1,16 @@
 // A stream that is being read, what comes next in it, and what the fields of a head say of its body.
 
-ghost use Rattle.std.specs.Prelude.{◌≡◌, ◌≤◌, ◌<◌, [], map, length, codes, All};
+ghost use Rattle.std.specs.Prelude.{◌≡◌, ◌≤◌, ◌<◌, [], map, length, codes, All, true};
 ghost use Rattle.std.specs.Prelude.{IfOk, IfErr, OnOk, MatchBool, MatchOption, None, Result, Some};
 ghost use Rattle.std.specs.List.{list_all};
 ghost use Rattle.std.specs.Str.{str_eq_ignore_ascii_case};
 ghost use Rattle.std.specs.Io.KnownBytes.{IsAtEnd, Keeps};
 ghost use Rattle.httparse.specs.Spans.{IsHeaderWithin, header_bytes, span_bytes};
 ghost use Rattle.portal_messages.specs.Heads.{front_of, is_ended, is_line_byte};
-ghost use Rattle.portal_messages.specs.Fields.{body_limit, path_of, size_of, values_of};
+ghost use Rattle.portal_messages.specs.Fields.{body_limit, body_size, path_of, size_of, values_of};
 ghost use Rattle.portal_messages.specs.FieldPlaces.{IsFirstOf, pairs_from};
 ghost use Rattle.portal_messages.specs.Inputs.{IsFramed, IsNext, stays};
+ghost use Rattle.portal_messages.specs.Messages.{is_framing};
 ghost use Rattle.portal_messages.specs.Sources.{unread};
 
 use crate::message::{Message, Texts};
@@ -138,6 +139,62 @@ fn find_limit(method: &[u8], target: &[u8]) -> u64
     } else {
         MAX_BODY_BYTES
     }
+}
+
+// Returns the size of the body behind a head, or why it is not read: the head gives no valid size or more than one, names
+// a coding, or gives a size above the limit.
+fn read_size(
+    bytes: &[u8],
+    method: &[u8],
+    target: &[u8],
+    fields: &[HeaderSpan],
+) -> Result<usize, Refusal>
+    requires { All (IsHeaderWithin (length bytes.now)) fields.now }
+    ensures value { result ≡ body_size method.now target.now (map (header_bytes bytes.now) fields.now) }
+    ensures bound { IfOk result (λ size. size ≤ 4194304) }
+    ensures framing { IfErr result (λ why. is_framing why ≡ true) }
+{
+    let Some(size) = read_length(bytes, fields) else {
+        return Err(Refusal::BadMessage);
+    };
+    if find_field(bytes, fields, 0, b"transfer-encoding").is_some() {
+        return Err(Refusal::LengthRequired);
+    }
+    if size > find_limit(method, target) {
+        return Err(Refusal::TooLarge);
+    }
+    Ok(size as usize)
+}
+
+// Copies what a head says into a message, which has no body yet.
+fn copy_head(
+    alloc: Global,
+    bytes: &[u8],
+    method: &[u8],
+    target: &[u8],
+    fields: &[HeaderSpan],
+) -> Result<Message, AllocError>
+    requires { All (IsHeaderWithin (length bytes.now)) fields.now }
+    ensures method { IfOk result (λ m. m.method ≡ method.now) }
+    ensures target { IfOk result (λ m. m.target ≡ target.now) }
+    ensures callers { IfOk result
+        (λ m. m.callers ≡ values_of (codes "x-caller") (map (header_bytes bytes.now) fields.now)) }
+{
+    let mut callers = Texts::new(alloc);
+    for field in fields {
+        if is_name(b"x-caller", field.name.of(bytes)) {
+            let value = Vec::from_slice(alloc, field.value.of(bytes))?;
+            callers.push(OwnedBytes::new(value))?;
+        }
+    }
+    let method = OwnedBytes::new(Vec::from_slice(alloc, method)?);
+    let target = OwnedBytes::new(Vec::from_slice(alloc, target)?);
+    Ok(Message {
+        method,
+        target,
+        callers,
+        body: OwnedBytes::new(Vec::new(alloc)),
+    })
 }
 
 // The most bytes of one read.
@@ -285,8 +342,7 @@ impl<R: Read> Source<R> {
         unreachable!()
     }
 
-    // Reads the next message, and no further than it must. The head is judged and copied before the body is read: it is
-    // a bad message if it gives no valid size or more than one, and has no length if it names a coding.
+    // Reads the next message, and no further than it must. The head is judged and copied before the body is read.
     fn read_next(&mut self) -> Result<Message, Last>
         ensures message { IfOk result
             (λ m. IsNext (unread R.remaining self.old) (unread R.remaining self.new) (next_message m)) }
@@ -296,26 +352,14 @@ impl<R: Read> Source<R> {
         let head = self.next_head(&mut spans)?;
         let alloc = *self.buffer.allocator();
         let first = first_bytes(self.buffer.as_slice());
+        let (method, target) = (head.method.of(first), head.path.of(first));
         let fields = &spans[..head.headers];
-        let Some(size) = read_length(first, fields) else {
-            return Err(BAD_MESSAGE);
+        let size = match read_size(first, method, target, fields) {
+            Ok(size) => size,
+            Err(why) => return Err(Last::Framing(why)),
         };
-        if find_field(first, fields, 0, b"transfer-encoding").is_some() {
-            return Err(Last::Framing(Refusal::LengthRequired));
-        }
-        if size > find_limit(head.method.of(first), head.path.of(first)) {
-            return Err(Last::Framing(Refusal::TooLarge));
-        }
-        let method = OwnedBytes::new(Vec::from_slice(alloc, head.method.of(first))?);
-        let target = OwnedBytes::new(Vec::from_slice(alloc, head.path.of(first))?);
-        let mut callers = Texts::new(alloc);
-        for field in fields {
-            if is_name(b"x-caller", field.name.of(first)) {
-                let value = Vec::from_slice(alloc, field.value.of(first))?;
-                callers.push(OwnedBytes::new(value))?;
-            }
-        }
-        let end = head.len + size as usize;
+        let mut message = copy_head(alloc, first, method, target, fields)?;
+        let end = head.len + size;
         if !self.fill_to(end)? {
             return Err(BAD_MESSAGE);
         }
@@ -323,13 +367,9 @@ impl<R: Read> Source<R> {
         let rest = Vec::from_slice(alloc, self.buffer.as_slice().split_at(end).1)?;
         let mut body = mem::replace(&mut self.buffer, rest);
         body.rotate_left(head.len);
-        body.truncate(size as usize);
-        Ok(Message {
-            method,
-            target,
-            callers,
-            body: OwnedBytes::new(body),
-        })
+        body.truncate(size);
+        message.body = OwnedBytes::new(body);
+        Ok(message)
     }
 }
 

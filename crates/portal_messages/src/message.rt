@@ -48,7 +48,6 @@ impl Texts {
 }
 
 /// The parts of an HTTP/1.1 request that matter here (RFC 9112). All other fields of its head are ignored.
-#[derive(Drop)]
 pub struct Message {
     /// The method, in the case in which it was sent.
     pub method: OwnedBytes,
@@ -58,4 +57,15 @@ pub struct Message {
     pub callers: Texts,
     /// The body, as many bytes as `Content-Length` says.
     pub body: OwnedBytes,
+}
+
+impl Drop for Message {
+    fn drop(self) {
+        let Message {
+            method: _method,
+            target: _target,
+            callers: _callers,
+            body: _body,
+        } = self;
+    }
 }
