@@ -106,8 +106,10 @@ balance_reason (Some kept) line today =
 -- The reason of an exception.
 
 abbrev pub item_reason : ℕ → Firm → Item → ExceptionReason
-item_reason today firm (item.Opening line) = balance_reason (kept_balance kind.Opening line.date firm.balances) line today
-item_reason today firm (item.Closing line) = balance_reason (kept_balance kind.Closing line.date firm.balances) line today
+item_reason today firm (item.Opening line) =
+    balance_reason (kept_balance kind.Opening line.date firm.balances) line today
+item_reason today firm (item.Closing line) =
+    balance_reason (kept_balance kind.Closing line.date firm.balances) line today
 item_reason today firm (item.OfMatter l) = matter_reason (of l.matter firm) l today
 item_reason today firm (item.OfFirm line) = own_reason firm.firm_lines line today
 item_reason today firm (item.Stray line) = Stray

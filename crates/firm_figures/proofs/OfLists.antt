@@ -7,7 +7,7 @@ use Rattle.firm_figures.specs.Lists.{TrialKept, trial_of, trial_sum}
 use Rattle.firm_figures.specs.OfLists.{SinksGiveTheSame}
 use Rattle.firm_figures.specs.Reconciliations.{ReconciliationKept, ReconciliationTold, all_kept, kept_told, reconciled, reconciliation_on, told}
 use Rattle.firm_figures.specs.Retained.{Retained}
-use Rattle.firm_figures.specs.declared.figures.Figures.{Figures}
+use Rattle.firm_figures.specs.declared.figures.ReconciliationFigures.{ReconciliationFigures}
 use Rattle.firm_figures.specs.declared.reconciliation.Reconciliation.{Reconciliation}
 use Rattle.firm_figures.proofs.Lists.{journal-kept}
 use Rattle.firm_figures.proofs.ReconciliationRows.{reconciliation-kept}
@@ -32,7 +32,7 @@ reconciled-all day firm kept result all sound is gives =
     let closings = subst (λ (s : ReconciliationKept). AreClosings s.balances.closings) (sym all) law.rising in
     subst (λ r. IfOk result (λ found. option_map told found ≡ r)) (ap kept_told all ∙ law.told) (gives closings)
 
-abbrev figures_in : Figures → Option ReconciliationTold → Figures
+abbrev figures_in : ReconciliationFigures → Option ReconciliationTold → ReconciliationFigures
 figures_in none None = none
 figures_in none (Some told) = told.figures
 

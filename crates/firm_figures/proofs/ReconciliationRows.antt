@@ -1,7 +1,7 @@
 -- What a reconciliation's sink keeps of the rows of a firm.
 use Rattle.firm_figures.proofs.Names.{arith, ◌≡◌, ℕ, List, [], ◌∷◌, Option, Some, None, refl, sym, ap, ◌∙◌, subst, ◌||◌, list_any, option_map, Line, Movement, FirmLine, BalanceRow, Row, Firm, none_listed, with_row_listed, with_exception_listed, no_issued, with_row_issued, doubles_in, AreClosings, no_balances, with_balance_kept, PeriodKept, is_period_purged, is_purged_after, whole_period, with_row_purged, with_row, with_movement, with_own, with_exception, with_balance_told, all_taken, finished}
 use Rattle.std.proofs.Common.{fold}
-use Rattle.firm_figures.specs.declared.figures.Figures.{Figures}
+use Rattle.firm_figures.specs.declared.figures.ReconciliationFigures.{ReconciliationFigures}
 use Rattle.firm_figures.specs.Reconciliations.{ReconciliationKept, nothing_kept, with_row_kept, with_movement_kept, with_own_kept, with_exception_kept, with_balance_noted, all_kept, kept_with, kept_told, reconciled, ReconciliationIsKept}
 use Rattle.firm_figures.proofs.Sizes.{figures-told}
 use Rattle.firm_figures.proofs.Listing.{lists-kept}
@@ -42,10 +42,10 @@ in-parts : (p : ℕ) (firm : Firm) → all_kept p firm ≡ parts p firm
 in-parts p firm = grind (arith, rows-kept, nothing_kept, movements-kept, own-kept, exceptions-kept, balances-kept)
 
 -- the same lists beside whatever figures
-with-lists : (p : ℕ) (firm : Firm) (figures : Figures) → kept_with (parts p firm) figures ≡ reconciled p firm figures
+with-lists : (p : ℕ) (firm : Firm) (figures : ReconciliationFigures) → kept_with (parts p firm) figures ≡ reconciled p firm figures
 with-lists p firm figures = grind (arith, lists-kept, doubles_in, issued-kept, openings-kept)
 
-beside : (p : ℕ) (firm : Firm) (found : Option Figures) → option_map (kept_with (parts p firm)) found ≡ option_map (reconciled p firm) found
+beside : (p : ℕ) (firm : Firm) (found : Option ReconciliationFigures) → option_map (kept_with (parts p firm)) found ≡ option_map (reconciled p firm) found
 beside p firm None = refl
 beside p firm (Some figures) = ap (λ r. Some r) (with-lists p firm figures)
 

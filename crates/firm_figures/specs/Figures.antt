@@ -17,7 +17,7 @@ use Rattle.firm_rows.specs.declared.ledger.FirmLine.{FirmLine}
 use Rattle.firm_rows.specs.declared.ledger.BalanceKind.{BalanceKind}
 use Rattle.firm_rows.specs.declared.ledger.BalanceKind.TheVariants as kind
 use Rattle.firm_rows.specs.declared.ledger.BalanceRow.{BalanceRow}
-use Rattle.firm_figures.specs.declared.figures.Figures.{Figures}
+use Rattle.firm_figures.specs.declared.figures.ReconciliationFigures.{ReconciliationFigures}
 use Rattle.firm_rows.specs.Sums.{sum_of}
 use Rattle.firm_rows.specs.Firm.{Row, Firm, entries_among}
 use Rattle.firm_rows.specs.FirmSound.{FirmSound}
@@ -248,7 +248,7 @@ abbrev pub early : ℕ → Firm → ℤ
 early p firm = sum_of (λ l. l.amount) (filter (is_early p) (flat_map lines_of (entries_in firm.rows)))
 
 -- the figures as of p, given the bank's closing balance of p
-abbrev pub figures : ℕ → ℤ → Firm → Figures
+abbrev pub figures : ℕ → ℤ → Firm → ReconciliationFigures
 figures p closing firm = record {
   closing = closing;
   transit = transit p firm;
@@ -275,13 +275,13 @@ abbrev pub closing_on : ℕ → List BalanceRow → Option ℤ
 closing_on p rows = option_map (λ r. r.amount) (find (is_closing_of p) rows)
 
 -- the figures as of p, if there is a closing balance of p
-abbrev pub figures_on : ℕ → Firm → Option Figures
+abbrev pub figures_on : ℕ → Firm → Option ReconciliationFigures
 figures_on p firm = option_map (λ closing. figures p closing firm) (closing_on p firm.balances)
 
 -- What is always true of them.
 
 -- the journal equals the ledgers, and the difference is explained
-pub record FiguresAgree (f : Figures) : Type 0 where
+pub record FiguresAgree (f : ReconciliationFigures) : Type 0 where
   pub journal : f.journal ≡ f.ledgers
   pub difference : f.difference ≡ (f.exceptions +ℤ f.early) +ℤ f.gap
 

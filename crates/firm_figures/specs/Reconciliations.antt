@@ -8,7 +8,7 @@ use Rattle.firm_rows.specs.declared.ledger.BalanceRow.{BalanceRow}
 use Rattle.firm_rows.specs.Countable.{IsCountable}
 use Rattle.firm_rows.specs.Firm.{Row, Firm}
 use Rattle.firm_rows.specs.FirmSound.{FirmSound}
-use Rattle.firm_figures.specs.declared.figures.Figures.{Figures}
+use Rattle.firm_figures.specs.declared.figures.ReconciliationFigures.{ReconciliationFigures}
 use Rattle.firm_figures.specs.declared.day_lists.EntryLine.{EntryLine}
 use Rattle.firm_figures.specs.declared.day_lists.Issued.{Issued}
 use Rattle.firm_figures.specs.declared.day_lists.OpeningLine.{OpeningLine}
@@ -22,7 +22,7 @@ use Rattle.firm_figures.specs.Reconciling.{Tallies, no_tallies, with_row, with_m
 
 -- the figures and the lists
 pub record ReconciliationTold : Type 0 where
-  pub figures : Figures
+  pub figures : ReconciliationFigures
   pub transit : List EntryLine
   pub out : List EntryLine
   pub exceptions : List Line
@@ -43,7 +43,7 @@ told r = record {
 }
 
 -- the reconciliation of a firm as of p, given its figures
-abbrev pub reconciled : ℕ → Firm → Figures → ReconciliationTold
+abbrev pub reconciled : ℕ → Firm → ReconciliationFigures → ReconciliationTold
 reconciled p firm figures = record {
   figures = figures;
   transit = transit_list p firm;
@@ -106,7 +106,7 @@ all_kept p firm =
     (fold with_row_kept (nothing_kept p) firm.rows) firm.movements) firm.firm_lines) firm.exceptions) firm.balances
 
 -- the stored lists, with these figures
-abbrev pub kept_with : ReconciliationKept → Figures → ReconciliationTold
+abbrev pub kept_with : ReconciliationKept → ReconciliationFigures → ReconciliationTold
 kept_with s figures = record {
   figures = figures;
   transit = s.lists.transit;

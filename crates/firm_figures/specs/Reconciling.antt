@@ -15,7 +15,7 @@ use Rattle.firm_rows.specs.Firm.{Row, HeadRow, SeatRow, EntryRow, Firm}
 use Rattle.firm_rows.specs.FirmSound.{FirmSound}
 use Rattle.firm_figures.specs.Figures.{is_by, booked_on, undone_on, returned_on, banked_on, back_on, is_banked_early, is_back_early, is_in_transit, is_outstanding, is_moved_by, is_dated_by, is_counted, is_closing_of, closing_on, figures, figures_on}
 use Rattle.firm_rows.specs.Countable.{IsCountable}
-use Rattle.firm_figures.specs.declared.figures.Figures.{Figures}
+use Rattle.firm_figures.specs.declared.figures.ReconciliationFigures.{ReconciliationFigures}
 
 -- What an entry adds to each figure.
 
@@ -112,7 +112,7 @@ with_balance_told s r = record s { closing = first_of s.closing (cond (is_closin
 unfoldable pub less : ℤ → ℤ → ℤ
 less sum amount = int_wrap w128 (sum -ℤ amount)
 
-abbrev pub figures_kept : Tallies → ℤ → Figures
+abbrev pub figures_kept : Tallies → ℤ → ReconciliationFigures
 figures_kept s closing = record {
   closing = closing;
   transit = s.transit;
@@ -126,7 +126,7 @@ figures_kept s closing = record {
   gap = less (less (less closing s.matched) s.own) s.exceptions;
 }
 
-abbrev pub finished : Tallies → Option Figures
+abbrev pub finished : Tallies → Option ReconciliationFigures
 finished s = option_map (figures_kept s) s.closing
 
 -- What is stored from a whole firm.
@@ -141,7 +141,7 @@ all_taken p firm =
     (fold with_row (no_tallies p) firm.rows) firm.movements) firm.firm_lines) firm.exceptions) firm.balances
 
 -- every figure fits 128 bits
-pub record AreInRange (f : Figures) : Type 0 where
+pub record AreInRange (f : ReconciliationFigures) : Type 0 where
   pub transit : FitsSigned w128 f.transit
   pub outstanding : FitsSigned w128 f.outstanding
   pub adjusted : FitsSigned w128 f.adjusted

@@ -33,7 +33,8 @@ pub struct ClientList {
 
 /// Lists the clients' ledgers as of a day, and adds up the firm's own lines.
 ///
-/// Contracts see it as the day, the lines, the firm's balance, and whether the records of the day are no longer complete.
+/// Contracts see it as the day, the lines, the firm's balance, and whether the records of the day are no longer
+/// complete.
 #[derive(Drop)]
 pub struct ClientsSink {
     day: Day,

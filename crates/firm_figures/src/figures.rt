@@ -5,7 +5,7 @@ ghost use Rattle.firm_figures.specs.Reconciling.{added, less};
 
 /// The firm's ten figures as of a day, in cents.
 #[derive(Clone, Copy)]
-pub struct Figures {
+pub struct ReconciliationFigures {
     pub closing: i64,
     pub transit: i128,
     pub outstanding: i128,

@@ -107,8 +107,8 @@ pub fn clients_agree()
     sound_is_covered();
 }
 
-/// What the sink of the list of clients keeps of an ordered, countable firm is the list. If the firm is sound, its lines
-/// add up to TOTAL.
+/// What the sink of the list of clients keeps of an ordered, countable firm is the list. If the firm is sound, its
+/// lines add up to TOTAL.
 pub fn clients_are_kept()
     ensures lines { ClientsAreKept }
     ensures total { ClientsTotalIsKept }

@@ -56,7 +56,7 @@ pub use clients_sink::{ClientLine, ClientList, ClientsSink};
 pub use day_lists::{
     EntryLine, Issued, OpeningLine, ReconciliationLists, is_in_transit, is_outstanding,
 };
-pub use figures::{Figures, added};
+pub use figures::{ReconciliationFigures, added};
 pub use firm_rows::Owner;
 pub use journal_sink::{JournalLine, JournalSink};
 pub use of_lists::{journal_list, reconcile_at, retention_list, trial_balance};

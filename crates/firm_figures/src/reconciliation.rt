@@ -13,7 +13,7 @@ use crate::day_lists::{
     EntryDays, Issued, OpeningLine, ReconciliationLists, Standing, doubles_of, openings_after,
     push_issued, push_line,
 };
-use crate::figures::{Figures, Sums, added, less, together};
+use crate::figures::{ReconciliationFigures, Sums, added, less, together};
 use crate::heads::is_head_purged_after;
 use firm_rows::{
     BalanceKind, BalanceRow, BalanceSink, ExceptionSink, FirmLine, FirmLineSink, MatterRow,
@@ -28,7 +28,7 @@ use trust_matter::Entry;
 /// instrument as another, sorted by instrument (byte by byte), matter and entry. Openings are those that differ from
 /// the latest closing before them, by day.
 pub struct Reconciliation {
-    pub figures: Figures,
+    pub figures: ReconciliationFigures,
     pub lists: ReconciliationLists,
     pub doubles: Vec<Issued>,
     pub openings: Vec<OpeningLine>,
@@ -219,7 +219,7 @@ impl ReconciliationSink {
         } = self;
         let adjusted = less(added(sums.transit, closing), sums.outstanding);
         let unmatched = less(closing as i128, sums.matched);
-        let figures = Figures {
+        let figures = ReconciliationFigures {
             closing,
             transit: sums.transit,
             outstanding: sums.outstanding,

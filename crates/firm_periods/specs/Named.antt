@@ -152,8 +152,8 @@ disbursements from to firm = in_order is_earlier (moves_where (is_disbursed_with
 abbrev pub sum_moved : List NamedMove → ℤ
 sum_moved vs = sum_of (λ v. v.moved.amount) vs
 
--- What waits for the bank as of a day: the booking of a deposit in transit, the issue of an outstanding payment; by day,
--- and on one day in the order of the rows.
+-- What waits for the bank as of a day: the booking of a deposit in transit, the issue of an outstanding payment; by
+-- day, and on one day in the order of the rows.
 
 abbrev pub booking_of : List Moved → List Moved
 booking_of [] = []
@@ -180,7 +180,8 @@ is_purged_from from (m, HeadRow head) = is_of_nobody head.holder && is_day_from 
 is_purged_from from (m, SeatRow seat) = false
 is_purged_from from (m, EntryRow number entry) = false
 
--- some matter that was closed on the first day of a period or later was purged, so its movements in it are no longer told
+-- some matter that was closed on the first day of a period or later was purged, so its movements in it are no longer
+-- told
 unfoldable pub is_purged_since : ℕ → Firm → Bool
 is_purged_since from firm = list_any (is_purged_from from) firm.rows
 
@@ -222,13 +223,14 @@ pub record AreListedOnce (firm : Firm) : Type 0 where
   pub entries : (m n : ℕ)
       → map event_named (filter (λ v. is_of_entry m n v.owner) (moves_where (λ v. true) firm))
       ≡ events_moved m n firm.movements
-  pub own : map event_named (filter (λ v. is_of_firm v.owner) (moves_where (λ v. true) firm)) ≡ firm_events firm.movements
+  pub own : map event_named (filter (λ v. is_of_firm v.owner) (moves_where (λ v. true) firm))
+      ≡ firm_events firm.movements
 
 abbrev pub AlwaysListedOnce : Type 0
 AlwaysListedOnce = (firm : Firm) → FirmSound firm → AreListedOnce firm
 
--- however movements are weighed, those of a period weigh what its receipts and its disbursements weigh together: so each
--- stands in one of the two journals, once, and nothing else does
+-- however movements are weighed, those of a period weigh what its receipts and its disbursements weigh together: so
+-- each stands in one of the two journals, once, and nothing else does
 abbrev pub EachStandsInOne : Type 0
 EachStandsInOne =
     (from to : ℕ) (firm : Firm) (weight : NamedMove → ℤ)

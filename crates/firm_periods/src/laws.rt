@@ -34,8 +34,8 @@ pub fn names_are_of_their_matter()
     ensures { NamesAreOfTheirMatter }
 {}
 
-/// Purging a matter of a sound firm changes nothing of a period, and of what waits as of a day, whose records are complete
-/// afterwards.
+/// Purging a matter of a sound firm changes nothing of a period, and of what waits as of a day, whose records are
+/// complete afterwards.
 pub fn purging_changes_no_period()
     ensures periods { PurgeChangesNoPeriodLeft }
     ensures waiting { PurgeChangesNoWaitingLeft }

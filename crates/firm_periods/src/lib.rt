@@ -12,11 +12,11 @@
 //!   up to the reconciliation's IN TRANSIT and to minus its OUTSTANDING (`waits`).
 //! - `laws` `listed_once`: in every sound firm each movement of the journal is named once, under its entry or as the
 //!   firm's own, and nothing else is.
-//! - `laws` `each_stands_in_one`: **each movement of a period stands in its receipts or in its disbursements, once**, and
-//!   nothing else does.
+//! - `laws` `each_stands_in_one`: **each movement of a period stands in its receipts or in its disbursements, once**,
+//!   and nothing else does.
 //! - `laws` `names_are_of_their_matter`: in every sound firm each line names the client of its matter.
-//! - `laws` `purging_changes_no_period`: in every sound firm a purge changes nothing of a period, and of what waits as of
-//!   a day, whose records are complete afterwards.
+//! - `laws` `purging_changes_no_period`: in every sound firm a purge changes nothing of a period, and of what waits as
+//!   of a day, whose records are complete afterwards.
 //! - `account_of`; `laws` `accounts_agree`: a matter's statement of account for a period. It closes with the ledger as
 //!   of its last day (`closing`), with which the next period opens (`next`), and in a sound firm no balance on it is
 //!   below zero (`covered`). Of a whole matter it is that of the rows (`whole`).

@@ -9,8 +9,8 @@
 //!   each accepted answer are `serde_json`'s compact text of its object, by definition, and read back as that object
 //!   (counts below 2^64). A refusal's JSON is a definition of its own; that it reads back is not proved.
 //! - `entries_body`: the same of all entries, in order, for all rows of which the matter has all entries loaded.
-//! - `write_listed`, `write_waiting`: the tokens of the object of a matter, or of the objects of what waits in it, after
-//!   what the writer has. For a matter in a list no entry is loaded.
+//! - `write_listed`, `write_waiting`: the tokens of the object of a matter, or of the objects of what waits in it,
+//!   after what the writer has. For a matter in a list no entry is loaded.
 //! - `nothing_waits`: of sound rows nothing waits where no payment is pending, nothing is disputed and no claim on the
 //!   general fund has anything left. So no entry is read there.
 #![tactic(auto)]

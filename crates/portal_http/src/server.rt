@@ -188,8 +188,8 @@ struct PacedReader<'p, 'h, C, R> {
 impl<C: Clock, R: Read + OpenStream> Read for PacedReader<'_, '_, C, R> {
     ghost remaining = { λ reader. R.remaining reader.half.now };
 
-    // Fails with `TimedOut` if the time for the message is over. Also fails if the clock, which is asked after the first
-    // byte of a message, cannot be read.
+    // Fails with `TimedOut` if the time for the message is over. Also fails if the clock, which is asked after the
+    // first byte of a message, cannot be read.
     fn read(&mut self, buf: &mut [u8]) -> io::Result<usize> {
         let whole = Duration::from_secs(MESSAGE_SECONDS);
         let left = match self.phase.get() {

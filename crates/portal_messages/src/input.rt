@@ -141,8 +141,8 @@ fn find_limit(method: &[u8], target: &[u8]) -> u64
     }
 }
 
-// Returns the size of the body behind a head, or why it is not read: the head gives no valid size or more than one, names
-// a coding, or gives a size above the limit.
+// Returns the size of the body behind a head, or why it is not read: the head gives no valid size or more than one,
+// names a coding, or gives a size above the limit.
 fn read_size(
     bytes: &[u8],
     method: &[u8],

@@ -34,7 +34,8 @@ AreNumbered records pairs = plain_pairs pairs ≡ numbered records.numbers 0 rec
 abbrev pub numbered_key : ℕ × Bor Line → ℕ
 numbered_key pair = amount_key pair.1.now
 
--- both sides of the rule, the entries and the exceptions belong to what is known, and the lines can be looked up by amount
+-- both sides of the rule, the entries and the exceptions belong to what is known, and the lines can be looked up by
+-- amount
 pub record AreGrounds
     (known : Known) (records : Records) (sides : Sides) (entries : List BookEntry) (exceptions : List Line)
     (pairs : List (ℕ × Bor Line)) (amounts : List (ℕ × Bor (ℕ × Bor Line))) (sums : List (ℕ × ℤ)) : Type 0 where

@@ -8,11 +8,11 @@
 //!   takes and the text of what is left are those of the definition, by the firm's rows on that day (`matched`); the
 //!   book stays as it is, after a crash too (`read`).
 //! - `laws` `what_is_sure_is_filled`: a line without a reference is filled exactly with the entry of which it is sure
-//!   (`filled`), and nothing else is written of such a line (`written`). It is sure if it is not in the book already and
-//!   not doubled; no line of the book has its day and bank reference; it fits that entry and no other; no other open
-//!   line fits the entry, and no record has the entry's reference. An entry and a line fit only if the bank's words show
-//!   a number (or the reference) that the book has for it, beside the amount and the days. That the line is an exception
-//!   under some reference plays no part.
+//!   (`filled`), and nothing else is written of such a line (`written`). It is sure if it is not in the book already
+//!   and not doubled; no line of the book has its day and bank reference; it fits that entry and no other; no other
+//!   open line fits the entry, and no record has the entry's reference. An entry and a line fit only if the bank's
+//!   words show a number (or the reference) that the book has for it, beside the amount and the days. That the line is
+//!   an exception under some reference plays no part.
 //! - `laws` `two_alike_are_left`: neither a line that two entries fit, nor one that fits an entry which another open
 //!   line fits, is ever filled.
 //! - `laws` `only_references_change`, `none_is_named_twice`: what is written are the lines with a reference as they

@@ -82,8 +82,8 @@ abbrev pub parts : List ℕ → List (List ℕ) → List ℕ
 parts text [] = text
 parts text (more ∷ rest) = text ++ (10 ∷ parts more rest)
 
--- the packet: the reconciliation, the clients and what waits as of the day, and what was received and disbursed from the
--- first of its month on
+-- the packet: the reconciliation, the clients and what waits as of the day, and what was received and disbursed from
+-- the first of its month on
 unfoldable pub month_report : ℕ → Firm → List ℕ
 month_report day firm =
     parts (reconciliation_report day firm)

@@ -46,8 +46,8 @@ pub(crate) fn tell_within(limits: Limits, text: Vec<u8>) -> Result<Reply, Refusa
     })
 }
 
-// Hands all rows of a book to the sink of a reconciliation. What the rows of matters and the firm's own lines show beside
-// it is kept in `lines`.
+// Hands all rows of a book to the sink of a reconciliation. What the rows of matters and the firm's own lines show
+// beside it is kept in `lines`.
 //
 // Returns `Store` if the book's store failed, and `Memory` if memory ran out.
 fn read_reconciliation<B: Book>(

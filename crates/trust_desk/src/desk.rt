@@ -244,8 +244,8 @@ impl<B: Book> Desk<B> {
         self.answer_beside(alloc, request, day, &mut lines)
     }
 
-    /// Answers one request as `answer` does. What the rows of a trial balance or a reconciliation show beside it is kept
-    /// in `lines`, which no other request changes. Memory that runs out for it alone does not end the report.
+    /// Answers one request as `answer` does. What the rows of a trial balance or a reconciliation show beside it is
+    /// kept in `lines`, which no other request changes. Memory that runs out for it alone does not end the report.
     pub fn answer_beside(
         &mut self,
         alloc: Global,

@@ -10,8 +10,8 @@
 //! - within the crate `answer_reconciliation`: of the cashier's request: NoStatement exactly if no closing balance of
 //!   the day is kept, else PeriodPurged exactly if a matter that was closed after the day has been purged, else the
 //!   text; nothing changes, after a crash neither (`IsAnswered`, `reconciliation_for`).
-//! - within the crate `append_day_report`, `append_period_report`: over every book: the bytes of each report as of a day
-//!   and of a period, the packet of month's end among them, are those of the definition, of one state of the book's
+//! - within the crate `append_day_report`, `append_period_report`: over every book: the bytes of each report as of a
+//!   day and of a period, the packet of month's end among them, are those of the definition, of one state of the book's
 //!   rows, and whether they may be told is found of the same rows (`told`); nothing changes, after a crash neither
 //!   (`read`).
 //!
@@ -31,10 +31,10 @@
 //!   applied.
 //! - `Desk::answer`, of reports: an ask for a matter's ledger card is answered by the card of the matter's rows, as
 //!   plain text, or by the first refusal whose condition holds. A request for a report on the firm, for one as of a
-//!   day or of a period, or for a reconciliation, is answered by exactly the text of the definition, of the firm's rows,
-//!   or by the first of NotAllowed, NoStatement (of a reconciliation and of month's end) and PeriodPurged that holds.
-//!   Store or Memory may stop each of them instead. None of them changes anything, and these requests name no matter (by the same clauses).
-//!   That the card's matter is read whole is the contract of a private function.
+//!   day or of a period, or for a reconciliation, is answered by exactly the text of the definition, of the firm's
+//!   rows, or by the first of NotAllowed, NoStatement (of a reconciliation and of month's end) and PeriodPurged that
+//!   holds. Store or Memory may stop each of them instead. None of them changes anything, and these requests name no
+//!   matter (by the same clauses). That the card's matter is read whole is the contract of a private function.
 //! - `Desk::answer_beside`: the same as `replied`. No clause says what it keeps of the rows.
 //! - `Desk::match_statement`: over every book: a statement whose references may be empty is refused as an import of it
 //!   would be, or becomes the two texts that the definition gives for the day and the firm's rows (`matched`); the firm
@@ -73,8 +73,8 @@
 //!   own machine on its own rows; two firms with the same rows of a matter, in which on the same day the same is asked
 //!   of it and the same lines name it, give it the same replies and leave it the same rows, whatever else they have and
 //!   hear**.
-//! - `Desk::answer`, of lists: a caller's matters, and what waits in them, are answered in JSON by exactly the body of the
-//!   definition, of the firm's rows. Nothing changes, and these requests name no matter (by the same clauses).
+//! - `Desk::answer`, of lists: a caller's matters, and what waits in them, are answered in JSON by exactly the body of
+//!   the definition, of the firm's rows. Nothing changes, and these requests name no matter (by the same clauses).
 //! - `laws` `each_is_told_own`: **whatever a person asks, two firms that agree on the matters in which the person has a
 //!   seat give the same reply**.
 //! - `laws` `never_below_zero`: from a sound firm, **no matter's ledger is below zero before or after any request of a

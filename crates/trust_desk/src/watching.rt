@@ -44,8 +44,8 @@ pub enum NotApplied<'a> {
 
 /// Is told of the items of a statement, or of the exceptions. Nothing depends on whether it succeeds.
 pub trait ItemWatch {
-    /// Called after a line was applied: it cleared its owner's entry or took it back, or was added to the firm's own. The
-    /// number is that of its item; the first record after the header has number 1.
+    /// Called after a line was applied: it cleared its owner's entry or took it back, or was added to the firm's own.
+    /// The number is that of its item; the first record after the header has number 1.
     fn applied(&self, number: u64, owner: Owner, line: &Line);
 
     /// Called after an item was not applied, with its number; the first record after the header has number 1. Also

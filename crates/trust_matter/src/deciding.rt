@@ -25,8 +25,8 @@ use trust_base::{Day, EntryNo, Refusal, Rule};
 /// whose condition holds. A repeat is a change that changes nothing. Allocates only if the ask is accepted. Returns
 /// `Store` if not enough is loaded, and never if it is and the matter is part of sound rows.
 pub fn decide(matter: &Matter, caller: &Caller, ask: &Ask, day: Day) -> Result<Change, Refusal>
-    // If the entry that the ask names, and the one that this names, are loaded or do not exist, then the answer is right
-    // for all sound rows that the matter is part of.
+    // If the entry that the ask names, and the one that this names, are loaded or do not exist, then the answer is
+    // right for all sound rows that the matter is part of.
     ensures decided { holds_for matter.now ask.now ≡ true → (rows : Rows) → Sound rows → IsPart matter.now rows
         → Decides rows (record { caller = caller.now; ask = ask.now; day = day }) result }
     ensures unread { holds_for matter.now ask.now ≡ false → result ≡ Err refusals.Store }

@@ -101,8 +101,8 @@ fn entry_cleared<'m>(matter: &'m Matter, line: &BankLine, today: Day) -> Result<
     Ok(kept)
 }
 
-// The edit by which the line clears the entry or takes it back, and the matter's last day after it. No line clears a fee
-// or a claim.
+// The edit by which the line clears the entry or takes it back, and the matter's last day after it. No line clears a
+// fee or a claim.
 fn edit_by_line(
     matter: &Matter,
     kept: &Kept,

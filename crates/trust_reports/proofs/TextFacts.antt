@@ -3,7 +3,7 @@ use Rattle.trust_reports.proofs.Names.{◌≡◌, ℕ, List, [], ◌∷◌, ◌+
 use Rattle.std.proofs.lemmas.Grind.{flat_map-append}
 use Rattle.std.proofs.lemmas.Str.{IsUtf8-from_is_utf8, encodes-append}
 use Rattle.std.specs.Prelude.{ℤ, neg_ℤ}
-use Rattle.firm_figures.specs.declared.figures.Figures.{Figures}
+use Rattle.firm_figures.specs.declared.figures.ReconciliationFigures.{ReconciliationFigures}
 use Rattle.trust_reports.specs.TextsOfLists.{figure_line}
 use Rattle.trust_reports.specs.TextsOfReconciliation.{bank_figures, book_figures}
 use Rattle.trust_base.specs.BankTexts.{IsLineText, is_line_text}
@@ -44,7 +44,7 @@ ten c a o d j l x e y g =
     ++ (figure_line (codes "EARLY") y ++ (figure_line (codes "GAP") g ++ [])))))))))
 
 -- the ten figures, one behind the other, are the bank's and the books'
-pub figures_told : (out t : List ℕ) (f : Figures) (c a o d j l x e y g : ℤ) → t ≡ out ++ ten c a o d j l x e y g
+pub figures_told : (out t : List ℕ) (f : ReconciliationFigures) (c a o d j l x e y g : ℤ) → t ≡ out ++ ten c a o d j l x e y g
     → c ≡ f.closing → a ≡ f.transit → o ≡ f.outstanding → d ≡ f.adjusted → j ≡ f.journal → l ≡ f.ledgers
     → x ≡ f.difference → e ≡ f.exceptions → y ≡ f.early → g ≡ f.gap → t ≡ out ++ (bank_figures f ++ book_figures f)
 unfolding bank_figures book_figures

@@ -5,13 +5,13 @@ use Rattle.trust_base.specs.declared.line.Line.{Line}
 use Rattle.firm_figures.specs.declared.day_lists.Issued.{Issued}
 use Rattle.firm_figures.specs.declared.day_lists.EntryLine.{EntryLine}
 use Rattle.firm_figures.specs.declared.day_lists.OpeningLine.{OpeningLine}
-use Rattle.firm_figures.specs.declared.figures.Figures.{Figures}
+use Rattle.firm_figures.specs.declared.figures.ReconciliationFigures.{ReconciliationFigures}
 use Rattle.firm_figures.specs.Reconciliations.{ReconciliationTold}
 use Rattle.trust_reports.specs.Texts.{heading, line, reference_text}
 use Rattle.trust_reports.specs.TextsOfLists.{exception_line, figure_line}
 
 -- the bank's side, adjusted for what is on its way
-unfoldable pub bank_figures : Figures → List ℕ
+unfoldable pub bank_figures : ReconciliationFigures → List ℕ
 bank_figures f =
     figure_line (codes "CLOSING") f.closing
     ++ (figure_line (codes "IN TRANSIT") f.transit
@@ -19,7 +19,7 @@ bank_figures f =
     ++ figure_line (codes "ADJUSTED BANK") f.adjusted))
 
 -- the books' side, and what explains the difference
-unfoldable pub book_figures : Figures → List ℕ
+unfoldable pub book_figures : ReconciliationFigures → List ℕ
 book_figures f =
     figure_line (codes "JOURNAL") f.journal
     ++ (figure_line (codes "LEDGERS") f.ledgers

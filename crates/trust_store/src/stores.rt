@@ -56,8 +56,8 @@ pub trait Stores {
     /// What became of a book that was put back, given the result.
     ghost puts: { Self → Self.AtPath → Result Unit StoreFault → Type 0 };
 
-    /// Opens the book at a path. If there is none, creates one without rows. The error says why there is no usable book;
-    /// nothing that is at the path is changed then. The rows of an existing book are not looked at.
+    /// Opens the book at a path. If there is none, creates one without rows. The error says why there is no usable
+    /// book; nothing that is at the path is changed then. The rows of an existing book are not looked at.
     fn at(&self, alloc: Global, path: &str) -> Result<Self::AtPath, NoBook>
         ensures found { IfOk result (λ book. (Self.AtPath.seen book).sure → finds self.now path.now book) }
         ensures serves { IfOk result (λ book. (Self.AtPath.seen book).sure → (Self.AtPath.seen book).clean) };

@@ -1,7 +1,7 @@
-//! Tests of what no case can show, since it takes readers, writers, books, clients or clocks of the test's own. Readers,
-//! writers and books fail at each call, under streams of messages, day sheets and statements. The store can't put back
-//! the book of a run of the cashier's program. Clients connect in virtual time. Days follow each other over one book in
-//! memory. Figures are asked of rows in memory.
+//! Tests of what no case can show, since it takes readers, writers, books, clients or clocks of the test's own.
+//! Readers, writers and books fail at each call, under streams of messages, day sheets and statements. The store can't
+//! put back the book of a run of the cashier's program. Clients connect in virtual time. Days follow each other over
+//! one book in memory. Figures are asked of rows in memory.
 #![tactic(auto)]
 
 #[cfg(test)]
