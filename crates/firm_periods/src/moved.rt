@@ -39,7 +39,6 @@ pub struct Moved {
 }
 
 /// Who and what for. The client is missing if the matter was purged.
-#[derive(Drop)]
 pub enum MoveNames {
     Deposit {
         source: Label,
@@ -56,6 +55,29 @@ pub enum MoveNames {
         bank_ref: BankText,
         text: LineText,
     },
+}
+
+// Written by hand, so that a function that holds names makes one call at each exit.
+impl Drop for MoveNames {
+    fn drop(self) {
+        match self {
+            MoveNames::Deposit {
+                source: _source,
+                description: _description,
+                client: _client,
+            } => (),
+            MoveNames::Payment {
+                payee: _payee,
+                purpose: _purpose,
+                instrument: _instrument,
+                client: _client,
+            } => (),
+            MoveNames::Own {
+                bank_ref: _bank_ref,
+                text: _text,
+            } => (),
+        }
+    }
 }
 
 /// A movement with its names.
