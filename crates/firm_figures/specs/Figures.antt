@@ -43,11 +43,10 @@ unless day None = day
 unless day (Some other) = None
 
 abbrev pub issued_on : PaymentState → Option ℕ
-issued_on payment.Proposed = None
-issued_on payment.Declined = None
 issued_on (payment.Issued day) = Some day
 issued_on (payment.Cleared c) = Some c.issued
 issued_on (payment.Voided v) = Some v.issued
+issued_on _ = None
 
 -- the day on which an entry's money was booked: a deposit made, a payment issued
 abbrev pub booked_on : Entry → Option ℕ
@@ -63,11 +62,8 @@ cancelled_on (deposit.Cancelled day) = Some day
 cancelled_on (deposit.Returned r) = None
 
 abbrev pub voided_on : PaymentState → Option ℕ
-voided_on payment.Proposed = None
-voided_on payment.Declined = None
-voided_on (payment.Issued day) = None
-voided_on (payment.Cleared c) = None
 voided_on (payment.Voided v) = Some v.undone
+voided_on _ = None
 
 -- the day on which that was undone: a deposit cancelled, a payment voided; a return undoes nothing, since the bank
 -- reported both
@@ -97,11 +93,8 @@ deposit_banked_on (deposit.Cancelled day) = None
 deposit_banked_on (deposit.Returned r) = Some r.clearing.bank_day
 
 abbrev pub payment_banked_on : PaymentState → Option ℕ
-payment_banked_on payment.Proposed = None
-payment_banked_on payment.Declined = None
-payment_banked_on (payment.Issued day) = None
 payment_banked_on (payment.Cleared c) = Some c.clearing.bank_day
-payment_banked_on (payment.Voided v) = None
+payment_banked_on _ = None
 
 -- the day of the bank line that cleared the entry
 abbrev pub banked_on : Entry → Option ℕ
@@ -172,12 +165,9 @@ deposit_lines (deposit.Returned r) book amount =
     ∷ record { bank = r.returning.bank_day; book = r.undone; amount = pos 0 -ℤ pos amount } ∷ []
 
 abbrev pub payment_lines : PaymentState → ℕ → List MatchedLine
-payment_lines payment.Proposed amount = []
-payment_lines payment.Declined amount = []
-payment_lines (payment.Issued day) amount = []
 payment_lines (payment.Cleared c) amount =
     record { bank = c.clearing.bank_day; book = c.issued; amount = pos 0 -ℤ pos amount } ∷ []
-payment_lines (payment.Voided v) amount = []
+payment_lines _ amount = []
 
 -- the bank lines that cleared an entry and took it back
 abbrev pub lines_of : Entry → List MatchedLine

@@ -153,7 +153,6 @@ impl EntryDays {
             Entry::Payment(payment) => {
                 days.amount = -(payment.amount.get() as i64);
                 match &payment.state {
-                    PaymentState::Proposed | PaymentState::Declined => {}
                     PaymentState::Issued(day) => days.booked = day_by(*day, p),
                     PaymentState::Cleared(paid) => {
                         days.booked = day_by(paid.issued, p);
@@ -163,6 +162,7 @@ impl EntryDays {
                         days.booked = day_by(voided.issued, p);
                         days.undone = day_by(voided.undone, p);
                     }
+                    _ => {}
                 }
             }
             Entry::Fee(_) | Entry::Claim(_) => {}

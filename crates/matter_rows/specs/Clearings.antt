@@ -50,11 +50,8 @@ is_deposit_returned_by (deposit.Cancelled day) line = false
 is_deposit_returned_by (deposit.Returned r) line = is_clearing_by r.returning line
 
 abbrev pub is_payment_cleared_by : PaymentState → Line → Bool
-is_payment_cleared_by payment.Proposed line = false
-is_payment_cleared_by payment.Declined line = false
-is_payment_cleared_by (payment.Issued day) line = false
 is_payment_cleared_by (payment.Cleared c) line = is_clearing_by c.clearing line
-is_payment_cleared_by (payment.Voided v) line = false
+is_payment_cleared_by _ line = false
 
 -- this line already cleared the entry, or took the deposit back: its date, bank reference and amount are on record
 abbrev pub is_line_again : Option Entry → Line → Bool

@@ -29,11 +29,10 @@ cancelling (deposit.Returned r) amount = paid_out r.undone amount ∷ []
 
 -- issuing a payment pays the amount out, voiding brings it back
 abbrev pub payments : PaymentState → ℕ → List Event
-payments payment.Proposed amount = []
-payments payment.Declined amount = []
 payments (payment.Issued day) amount = paid_out day amount ∷ []
 payments (payment.Cleared c) amount = paid_out c.issued amount ∷ []
 payments (payment.Voided v) amount = paid_out v.issued amount ∷ received v.undone amount ∷ []
+payments _ amount = []
 
 -- what an entry has moved so far, in order
 unfoldable pub events_of : Entry → List Event

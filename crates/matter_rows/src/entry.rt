@@ -65,7 +65,7 @@ impl Entry {
                     PaymentState::Proposed => (0, 1),
                     PaymentState::Issued(_) => (amount, 1),
                     PaymentState::Cleared(_) => (amount, 0),
-                    PaymentState::Declined | PaymentState::Voided(_) => (0, 0),
+                    _ => (0, 0),
                 };
                 shares.pending = pending;
                 match p.fund {
