@@ -99,90 +99,30 @@ pub(crate) fn head_in(no: i64, row: &Row) -> Result<HeadColumns<'_>, StoreFault>
     })
 }
 
-// Reads the number of an entry, its kind, its state and what is left of it.
-fn entry_place_in(row: &Row) -> Result<(i64, i64, i64, i64), StoreFault>
-    ensures ok { IfOk result (λ p. (column row.now 0 ≡ Int p.0) × (column row.now 1 ≡ Int p.1)
-        × (column row.now 4 ≡ Int p.2) × (column row.now 15 ≡ Int p.3)) }
-    ensures store { IfErr result (λ e. e ≡ StoreFault.Store) }
-    ensures none { IfErr result (λ e. (e : table.Entry) → row.now ≢ table.numbered_shown e) }
-{
-    let no = number_at(row, 0)?;
-    let kind = number_at(row, 1)?;
-    let state = number_at(row, 4)?;
-    let left_now = number_at(row, 15)?;
-    Ok((no, kind, state, left_now))
-}
-
-// Reads the amount of an entry, its part, its fund and the number of that.
-fn entry_money_in(row: &Row) -> Result<(i64, i64, i64, i64), StoreFault>
-    ensures ok { IfOk result (λ m. (column row.now 3 ≡ Int m.0) × (column row.now 14 ≡ Int m.1)
-        × (column row.now 5 ≡ Int m.2) × (column row.now 6 ≡ Int m.3)) }
-    ensures store { IfErr result (λ e. e ≡ StoreFault.Store) }
-    ensures none { IfErr result (λ e. (e : table.Entry) → row.now ≢ table.numbered_shown e) }
-{
-    let amount = number_at(row, 3)?;
-    let part = number_at(row, 14)?;
-    let fund = number_at(row, 5)?;
-    let of_no = number_at(row, 6)?;
-    Ok((amount, part, fund, of_no))
-}
-
-// Reads the day of an entry, those of its state, and the bank's.
-fn entry_days_in(row: &Row) -> Result<(i64, i64, i64, i64), StoreFault>
-    ensures ok { IfOk result (λ d. (column row.now 2 ≡ Int d.0) × (column row.now 10 ≡ Int d.1)
-        × (column row.now 11 ≡ Int d.2) × (column row.now 12 ≡ Int d.3)) }
-    ensures store { IfErr result (λ e. e ≡ StoreFault.Store) }
-    ensures none { IfErr result (λ e. (e : table.Entry) → row.now ≢ table.numbered_shown e) }
-{
-    let day = number_at(row, 2)?;
-    let day_done = number_at(row, 10)?;
-    let day_undone = number_at(row, 11)?;
-    let day_bank = number_at(row, 12)?;
-    Ok((day, day_done, day_undone, day_bank))
-}
-
-// Reads the three texts of an entry, and the bank's reference.
-fn entry_texts_in(row: &Row) -> Result<(&[u8], &[u8], &[u8], &[u8]), StoreFault>
-    ensures ok { IfOk result (λ t. (column row.now 7 ≡ Text t.0.now) × (column row.now 8 ≡ Text t.1.now)
-        × (column row.now 9 ≡ Text t.2.now) × (column row.now 13 ≡ Text t.3.now)) }
-    ensures store { IfErr result (λ e. e ≡ StoreFault.Store) }
-    ensures none { IfErr result (λ e. (e : table.Entry) → row.now ≢ table.numbered_shown e) }
-{
-    let text_a = text_at(row, 7)?;
-    let text_b = text_at(row, 8)?;
-    let text_c = text_at(row, 9)?;
-    let bank_ref = text_at(row, 13)?;
-    Ok((text_a, text_b, text_c, bank_ref))
-}
-
 /// Reads the columns of an entry of a matter, whose number comes first, borrowing its texts from the row.
 pub(crate) fn entry_in(matter: i64, row: &Row) -> Result<EntryColumns<'_>, StoreFault>
     ensures ok { IfOk result (λ c. entry_given c ≡ table.entry_in (Int (pos 0) ∷ Int matter ∷ row.now)) }
     ensures store { IfErr result (λ e. e ≡ StoreFault.Store) }
     ensures none { IfErr result (λ e. (e : table.Entry) → row.now ≢ table.numbered_shown e) }
 {
-    let (no, kind, state, left_now) = entry_place_in(row)?;
-    let (amount, part, fund, of_no) = entry_money_in(row)?;
-    let (day, day_done, day_undone, day_bank) = entry_days_in(row)?;
-    let (text_a, text_b, text_c, bank_ref) = entry_texts_in(row)?;
     Ok(EntryColumns {
         matter,
-        no,
-        kind,
-        day,
-        amount,
-        state,
-        fund,
-        of_no,
-        text_a,
-        text_b,
-        text_c,
-        day_done,
-        day_undone,
-        day_bank,
-        bank_ref,
-        part,
-        left_now,
+        no: number_at(row, 0)?,
+        kind: number_at(row, 1)?,
+        day: number_at(row, 2)?,
+        amount: number_at(row, 3)?,
+        state: number_at(row, 4)?,
+        fund: number_at(row, 5)?,
+        of_no: number_at(row, 6)?,
+        text_a: text_at(row, 7)?,
+        text_b: text_at(row, 8)?,
+        text_c: text_at(row, 9)?,
+        day_done: number_at(row, 10)?,
+        day_undone: number_at(row, 11)?,
+        day_bank: number_at(row, 12)?,
+        bank_ref: text_at(row, 13)?,
+        part: number_at(row, 14)?,
+        left_now: number_at(row, 15)?,
     })
 }
 

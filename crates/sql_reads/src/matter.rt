@@ -410,8 +410,12 @@ impl<K: RowSink> RowTaking<K> for EntryTaking {
     ghost fits = { λ _ _. Unit {0} };
 
     fn take(&self, row: &Row, sink: &mut K) -> Result<(), StoreFault> {
-        let kept = read_entry(self.alloc, self.matter, row)?;
-        sink.entry(self.matter, kept.number, &kept.entry)?;
+        // The entry ends before the answer is looked at, so that there is one exit that drops it.
+        let told = {
+            let kept = read_entry(self.alloc, self.matter, row)?;
+            sink.entry(self.matter, kept.number, &kept.entry)
+        };
+        told?;
         Ok(())
     }
 }

@@ -3,6 +3,6 @@ use Rattle.sql_reads.proofs.matter.EntryTakingRowTaking.take.Goals as goal
 
 pub returns-clause-ok : goal.returns-clause-ok
 returns-clause-ok g c =
-    c.in_ok-entry.ensures.ok
+    c.in_ok-told.ensures.ok
     ∙ ap (λ (k : Kept). g.K.RowSink.stepped c.args.sink.now (c.args.self.now.matter, EntryRow k.number k.entry))
     c.in_ok-kept.ensures
