@@ -10,7 +10,7 @@ use Rattle.trust_base.specs.declared.refusal.Refusal.{Refusal}
 use Rattle.trust_base.specs.declared.refusal.Refusal.TheVariants.{BadField, Memory}
 use Rattle.firm_rows.specs.Firm.{Firm}
 use Rattle.trust_store.specs.Seen.{Seen}
-use Rattle.trust_desk.specs.FirmStep.{KindStopped, Steps, firm_step}
+use Rattle.trust_desk.specs.FirmStep.{KindStopped, Steps}
 use Rattle.trust_desk.specs.Heard.{Asks, Dismisses, Heard, Kind, NotRead, OfItems, OfMatter, OnlyShown, OnlyTold, Unread, kind_of}
 use Rattle.trust_desk.specs.Replies.{is_fault_reply, refused}
 use Rattle.trust_desk.specs.declared.requests.Reply.{Reply}
@@ -20,13 +20,15 @@ use Rattle.trust_matter.specs.declared.ask.Ask.{Ask}
 use Rattle.ask_fields.specs.Fields.{Reads}
 use Rattle.day_sheet.specs.Records.{ask_of, asked_of, by_cashier, dismissing, dismissing_in, has_dismissal_form, heard_as, heard_of, is_dismissal, of_matter, of_verb, text_at, verb_in}
 use Rattle.day_sheet.specs.declared.record.Verb.{Verb}
-use Rattle.trust_desk.specs.Crashes.{IsMade, MayLeave}
+use Rattle.trust_desk.specs.Answered.{IsReplied}
+use Rattle.trust_desk.specs.Counts.{counted_reply}
+use Rattle.trust_desk.proofs.Calls.{kept-as, kept-still}
 use Rattle.trust_desk.proofs.Crashes.{leave-as, leave-still}
 use Rattle.trust_desk.proofs.MadeRows.{plain-step}
 
 -- ---- what the desk hears
 
-pub heard-read : (fields : List (List ℕ)) (request : Request) → asked_of fields ≡ Ok request → heard_of fields ≡ Asks request
+heard-read : (fields : List (List ℕ)) (request : Request) → asked_of fields ≡ Ok request → heard_of fields ≡ Asks request
 unfolding heard_of
 heard-read fields request e = ap (λ (o : Result Request Field). heard_as o (matter_of (text_at fields 1))) e
 
@@ -73,7 +75,7 @@ record-none fields = cases (is_dismissal fields)
     cases false = of_verb-none (verb_in fields) fields (matter_of (text_at fields 1))
 
 -- a record that could not be read is refused, and changes nothing
-pub refused-step : (day : ℕ) (firm : Firm) (fields : List (List ℕ)) (r : Refusal) → Reads (asked_of fields) (Err r) → Steps day firm (heard_of fields) (refused r) firm
+refused-step : (day : ℕ) (firm : Firm) (fields : List (List ℕ)) (r : Refusal) → Reads (asked_of fields) (Err r) → Steps day firm (heard_of fields) (refused r) firm
 refused-step day firm fields (BadField f) h = rw (heard-bad fields f h) (refl, refl)
 refused-step day firm fields Memory h = steps-stopped day firm firm (heard_of fields) Memory refl (nothing-done day firm (heard_of fields))
 refused-step day firm fields _ h = absurd h
@@ -92,17 +94,25 @@ pub steps-fault : (day : ℕ) (firm after : Firm) (fields : List (List ℕ)) (re
     → after ≡ firm
 steps-fault day firm after fields reply e steps = let stopped = rw e at steps in stopped-is day firm after (kind_of (heard_of fields)) (record-none fields) stopped.leaves
 
--- ---- what a crash leaves of a record
+-- ---- a record is answered by one step of the firm
 
-pub record-asked : (day : ℕ) (firm : Firm) (old new : Seen) (fields : List (List ℕ)) (request : Request) (reply : Reply) → asked_of fields ≡ Ok request
-    → MayLeave (is_fault_reply reply ≡ false) (IsMade day firm (Asks request)) firm (firm_step day firm (Asks request)).firm old new
-    → MayLeave (is_fault_reply reply ≡ false) (IsMade day firm (heard_of fields)) firm (firm_step day firm (heard_of fields)).firm old new
-record-asked day firm old new fields request reply e may =
-    subst (λ (h : Heard). MayLeave (is_fault_reply reply ≡ false) (IsMade day firm h) firm (firm_step day firm h).firm old new) (sym (heard-read fields request e)) may
+pub asked-replied : (day : ℕ) (fields : List (List ℕ)) (request : Request) (reply : Reply) (old new : Seen) → asked_of fields ≡ Ok request → IsReplied day (Asks request) reply old new
+    → IsReplied day (heard_of fields) reply old new
+asked-replied day fields request reply old new e replied = subst (λ (h : Heard). IsReplied day h reply old new) (sym (heard-read fields request e)) replied
+
+-- such a record counts no fault of the store
+refused-counted : (fields : List (List ℕ)) (why : Refusal) (reply : Reply) (n : ℕ) → Reads (asked_of fields) (Err why) → reply ≡ refused why → n ≡ counted_reply reply n
+refused-counted fields (BadField f) reply n h is = ap (λ (x : Reply). counted_reply x n) (sym is)
+refused-counted fields Memory reply n h is = ap (λ (x : Reply). counted_reply x n) (sym is)
+refused-counted fields _ reply n h is = absurd h
 
 -- a record that could not be read changes nothing
-pub record-refused : (day : ℕ) (firm : Firm) (b : Seen) (fields : List (List ℕ)) (why : Refusal) (reply : Reply) → Reads (asked_of fields) (Err why) → reply ≡ refused why
-    → MayLeave (is_fault_reply reply ≡ false) (IsMade day firm (heard_of fields)) firm (firm_step day firm (heard_of fields)).firm b b
-record-refused day firm b fields why reply unread is =
-    let step = subst (λ (x : Reply). Steps day firm (heard_of fields) x firm) (sym is) (refused-step day firm fields why unread) in
-    leave-as {done = ⊤} (λ fine. tt) (λ found made. made) (λ fine. sym (plain-step day firm firm (heard_of fields) reply fine step)) (leave-still firm b)
+pub refused-replied : (day : ℕ) (fields : List (List ℕ)) (why : Refusal) (reply : Reply) (b : Seen) → Reads (asked_of fields) (Err why) → reply ≡ refused why
+    → IsReplied day (heard_of fields) reply b b
+refused-replied day fields why reply b unread is =
+    let step = subst (λ (x : Reply). Steps day b.firm (heard_of fields) x b.firm) (sym is) (refused-step day b.firm fields why unread) in
+    record {
+      step = λ clean stands. step;
+      kept = kept-as (λ sure stands. refused-counted fields why reply b.refusals unread is) (kept-still b);
+      crash = λ sure stands clean. leave-as {done = ⊤} (λ fine. tt) (λ found made. made) (λ fine. sym (plain-step day b.firm b.firm (heard_of fields) reply fine step)) (leave-still b.firm b);
+    }

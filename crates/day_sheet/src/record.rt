@@ -7,11 +7,7 @@ ghost use Rattle.std.specs.Str.{is_utf8};
 ghost use Rattle.csv.specs.Records.{field_at, fields_of};
 ghost use Rattle.day_sheet.specs.Records as spec;
 ghost use Rattle.ask_fields.specs.Fields.{Reads};
-ghost use Rattle.trust_desk.specs.Calls.{Counts, KeepsBook};
-ghost use Rattle.trust_desk.specs.Counts.{counted_reply};
-ghost use Rattle.trust_desk.specs.Crashes.{IsMade, MayLeave};
-ghost use Rattle.trust_desk.specs.FirmStep.{Steps, firm_step};
-ghost use Rattle.trust_desk.specs.Replies.{is_fault_reply};
+ghost use Rattle.trust_desk.specs.Answered.{IsReplied};
 ghost use Rattle.day_sheet.specs.Records.{ask_of, asked_of, awarding_in, claiming_in, dismissing_in, form_in, form_of, has_dismissal_form, heard_of, proposing_in, text_given};
 
 use ask_fields::{
@@ -347,17 +343,7 @@ pub fn answer_record<B: Book>(
     desk: &mut Desk<B>,
     day: Day,
 ) -> Reply
-    ensures step { (B.seen desk.new).clean → (B.seen desk.old).stands
-        → Steps day (B.seen desk.old).firm (heard_of (fields_of row.now)) result (B.seen desk.new).firm }
-
-    // The reply is `Store` only if a call of the book returned `Store`.
-    ensures kept { KeepsBook (Counts (counted_reply result)) (B.seen desk.old) (B.seen desk.new) }
-
-    // A crash may leave what it might have left before, or the rows with the record's change.
-    ensures crash { (B.seen desk.new).sure → (B.seen desk.old).clean → (B.seen desk.old).stands
-        → MayLeave (is_fault_reply result ≡ false)
-        (IsMade day (B.seen desk.old).firm (heard_of (fields_of row.now))) (B.seen desk.old).firm
-        (firm_step day (B.seen desk.old).firm (heard_of (fields_of row.now))).firm (B.seen desk.old) (B.seen desk.new) }
+    ensures { IsReplied day (heard_of (fields_of row.now)) result (B.seen desk.old) (B.seen desk.new) }
 {
     match read_request(alloc, row) {
         Ok(request) => desk.answer(alloc, &request, day),

@@ -3,11 +3,11 @@ use Rattle.cashier.proofs.SheetKept.{reply-says, told-as}
 use Rattle.cashier.proofs.sheet.run_record.Goals as goal
 
 pub returns-in_default-clause-crash : goal.returns-in_default-clause-crash
-returns-in_default-clause-crash g c = λ sure clean stands. leave-failed (λ ok. cc) (λ found is. is) (c.answer_record-reply.ensures.crash sure clean stands)
+returns-in_default-clause-crash g c = λ sure clean stands. leave-failed (λ ok. cc) (λ found is. is) (c.answer_record-reply.ensures.crash sure stands (λ items. clean))
 
 pub returns-clause-crash : goal.returns-clause-crash
 returns-clause-crash g c = λ sure clean stands.
-    told-as _ _ _ _ _ (heard_of (fields_of c.args.row.now)) c.answer_record-reply.result _ (c.ran_of.ensures.is) clean (λ served. c.answer_record-reply.ensures.step served stands) (c.answer_record-reply.ensures.crash sure clean stands)
+    told-as _ _ _ _ _ (heard_of (fields_of c.args.row.now)) c.answer_record-reply.result _ (c.ran_of.ensures.is) clean (λ served. c.answer_record-reply.ensures.step served stands) (c.answer_record-reply.ensures.crash sure stands (λ items. clean))
 
 pub returns-in_default-clause-told : goal.returns-in_default-clause-told
 returns-in_default-clause-told g c = grind (arith, ints, nat_tests, reply-says, heard_of, fields_of)
