@@ -85,117 +85,149 @@ pub enum LineRemark<'a> {
     },
 }
 
-impl fmt::Display for LineRemark<'_> {
-    fn fmt<W: fmt::Write>(&self, f: &mut fmt::Formatter<W>) -> fmt::Result {
+impl LineRemark<'_> {
+    // The words before the first thing that the remark names, and those behind the last.
+    fn words(&self) -> (&'static str, &'static str) {
         match self {
-            LineRemark::AfterToday(today) => write!(f, "dated after today, {today}"),
-            LineRemark::NeverOpened(matter) => {
-                write!(f, "matter {matter} was never opened: look at the number")
-            }
-            LineRemark::Purged(matter) => write!(
-                f,
-                "matter {matter} was purged: look at the number"
+            LineRemark::AfterToday(_) => ("dated after today, ", ""),
+            LineRemark::NeverOpened(_) => ("matter ", " was never opened: look at the number"),
+            LineRemark::Purged(_) => ("matter ", " was purged: look at the number"),
+            LineRemark::NoEntry { .. } => ("matter ", ""),
+            LineRemark::Fee => ("a fee: no line of the bank clears it", ""),
+            LineRemark::Claim => ("a claim: no line of the bank clears it", ""),
+            LineRemark::NotApproved => (
+                "the payment is not approved yet: a lawyer approves it first",
+                "",
             ),
-            LineRemark::NoEntry { matter, entry } => write!(
-                f,
-                "matter {matter} has no entry {entry}"
-            ),
-            LineRemark::Fee => f.write_str("a fee: no line of the bank clears it"),
-            LineRemark::Claim => f.write_str("a claim: no line of the bank clears it"),
-            LineRemark::NotApproved => {
-                f.write_str("the payment is not approved yet: a lawyer approves it first")
-            }
-            LineRemark::Declined => f.write_str(
+            LineRemark::Declined => (
                 "the payment was declined: look at the number, or ask the bank why it was paid",
+                "",
             ),
-            LineRemark::Voided(day) => write!(
-                f,
-                "the payment was voided on {day}: look at the number, or ask the bank why it was paid"
+            LineRemark::Voided(_) => (
+                "the payment was voided on ",
+                ": look at the number, or ask the bank why it was paid",
             ),
-            LineRemark::Cancelled(day) => write!(
-                f,
-                "the deposit was cancelled on {day}: look at the number, or book it as a new entry"
+            LineRemark::Cancelled(_) => (
+                "the deposit was cancelled on ",
+                ": look at the number, or book it as a new entry",
             ),
-            LineRemark::DepositCleared(day, bank_ref) => write!(
-                f,
-                "the deposit was cleared by another line, of {day} with {bank_ref}: \
-                look at the number, or, if that line is this one mistyped, dismiss this one"
+            LineRemark::DepositCleared(_, _) => (
+                "the deposit was cleared by another line, of ",
+                ": look at the number, or, if that line is this one mistyped, dismiss this one",
             ),
-            LineRemark::PaymentCleared(day, bank_ref) => write!(
-                f,
-                "the payment was cleared by another line, of {day} with {bank_ref}: \
-                look at the number, or, if that line is this one mistyped, dismiss this one"
+            LineRemark::PaymentCleared(_, _) => (
+                "the payment was cleared by another line, of ",
+                ": look at the number, or, if that line is this one mistyped, dismiss this one",
             ),
-            LineRemark::TakenBack(day, bank_ref) => write!(
-                f,
-                "the bank took the deposit back by its line of {day} with {bank_ref}: look at the number"
+            LineRemark::TakenBack(_, _) => (
+                "the bank took the deposit back by its line of ",
+                ": look at the number",
             ),
-            LineRemark::OtherAmount { there, here } => {
-                write!(f, "the amount is {there} there, and {here} here")
-            }
-            LineRemark::Uncovered(matter) => write!(
-                f,
-                "the bank took the deposit back, and matter {matter} has less than that: \
-                put the money back in, and import the file again"
+            LineRemark::OtherAmount { .. } => ("the amount is ", " here"),
+            LineRemark::Uncovered(_) => (
+                "the bank took the deposit back, and matter ",
+                " has less than that: put the money back in, and import the file again",
             ),
-            LineRemark::WorkOf { matter, last } => write!(
-                f,
-                "matter {matter} has work of {last}: --today is that day or a later one"
-            ),
-            LineRemark::MovesNothing => f.write_str("an amount of 0.00 moves nothing"),
-            LineRemark::Beyond(sum) => write!(
-                f,
-                "the firm's own money would be {sum} with it, and stays from 0.00 to 500.00"
+            LineRemark::WorkOf { .. } => ("matter ", ": --today is that day or a later one"),
+            LineRemark::MovesNothing => ("an amount of 0.00 moves nothing", ""),
+            LineRemark::Beyond(_) => (
+                "the firm's own money would be ",
+                " with it, and stays from 0.00 to 500.00",
             ),
             LineRemark::OtherBalance {
                 kind: BalanceKind::Opening,
-                day,
-                there,
-                here,
-            } => write!(
-                f,
-                "another opening balance is kept for {day}: {there} there, and {here} here"
-            ),
+                ..
+            } => ("another opening balance is kept for ", " here"),
             LineRemark::OtherBalance {
                 kind: BalanceKind::Closing,
+                ..
+            } => ("another closing balance is kept for ", " here"),
+            LineRemark::NoReference => (
+                "it has no reference: let match fill it in, or write M and six digits, - and four, or FIRM; \
+                import that, and dismiss this one",
+                "",
+            ),
+            LineRemark::Stray => (
+                "no reference of an entry: write M and six digits, - and four, or FIRM, OPEN, CLOSE",
+                "",
+            ),
+            LineRemark::Unreadable(_) => ("", ""),
+            LineRemark::NotRun(_) => (
+                "",
+                ": this line and those after it were not applied; import the whole file again",
+            ),
+            LineRemark::WouldTakeOut => (
+                "an import would clear the payment, or take the deposit back, by it: \
+                import it again only if the bank has it so; if it was mistyped, dismiss it",
+                "",
+            ),
+            LineRemark::WouldApply => (
+                "an import would apply it now: import the statement again; if it was mistyped, dismiss it",
+                "",
+            ),
+            LineRemark::WouldRepeat => (
+                "it is in the book already: import the statement again, and it is no exception any more",
+                "",
+            ),
+            LineRemark::Earlier { .. } => (
+                "",
+                " already, by an earlier import: look whether the bank has two",
+            ),
+        }
+    }
+}
+
+impl fmt::Display for LineRemark<'_> {
+    fn fmt<W: fmt::Write>(&self, f: &mut fmt::Formatter<W>) -> fmt::Result {
+        let (before, after) = self.words();
+        match self {
+            LineRemark::Fee
+            | LineRemark::Claim
+            | LineRemark::NotApproved
+            | LineRemark::Declined
+            | LineRemark::MovesNothing
+            | LineRemark::NoReference
+            | LineRemark::Stray
+            | LineRemark::WouldTakeOut
+            | LineRemark::WouldApply
+            | LineRemark::WouldRepeat => f.write_str(before),
+            LineRemark::AfterToday(day) | LineRemark::Voided(day) | LineRemark::Cancelled(day) => {
+                write!(f, "{before}{day}{after}")
+            }
+            LineRemark::NeverOpened(matter)
+            | LineRemark::Purged(matter)
+            | LineRemark::Uncovered(matter) => write!(f, "{before}{matter}{after}"),
+            LineRemark::NoEntry { matter, entry } => {
+                write!(f, "{before}{matter} has no entry {entry}")
+            }
+            LineRemark::DepositCleared(day, bank_ref)
+            | LineRemark::PaymentCleared(day, bank_ref)
+            | LineRemark::TakenBack(day, bank_ref) => {
+                write!(f, "{before}{day} with {bank_ref}{after}")
+            }
+            LineRemark::OtherAmount { there, here } => {
+                write!(f, "{before}{there} there, and {here}{after}")
+            }
+            LineRemark::WorkOf { matter, last } => {
+                write!(f, "{before}{matter} has work of {last}{after}")
+            }
+            LineRemark::Beyond(sum) => write!(f, "{before}{sum}{after}"),
+            LineRemark::OtherBalance {
+                kind: _,
                 day,
                 there,
                 here,
-            } => write!(
-                f,
-                "another closing balance is kept for {day}: {there} there, and {here} here"
-            ),
-            LineRemark::NoReference => f.write_str(
-                "it has no reference: let match fill it in, or write M and six digits, - and four, or FIRM; \
-                import that, and dismiss this one",
-            ),
-            LineRemark::Stray => f.write_str(
-                "no reference of an entry: write M and six digits, - and four, or FIRM, OPEN, CLOSE",
-            ),
+            } => write!(f, "{before}{day}: {there} there, and {here}{after}"),
             LineRemark::Unreadable(fault) => fault.fmt(f),
-            LineRemark::NotRun(fault) => write!(
-                f,
-                "{fault}: this line and those after it were not applied; import the whole file again"
-            ),
-            LineRemark::WouldTakeOut => f.write_str(
-                "an import would clear the payment, or take the deposit back, by it: \
-                import it again only if the bank has it so; if it was mistyped, dismiss it",
-            ),
-            LineRemark::WouldApply => f.write_str(
-                "an import would apply it now: import the statement again; if it was mistyped, dismiss it",
-            ),
-            LineRemark::WouldRepeat => f.write_str(
-                "it is in the book already: import the statement again, and it is no exception any more",
-            ),
+            LineRemark::NotRun(fault) => write!(f, "{fault}{after}"),
             LineRemark::Earlier {
-                before,
+                before: earlier,
                 bank_ref,
                 day,
                 amount,
             } => write!(
                 f,
-                "{bank_ref} of {day}, {amount}, stands on {before} already, by an earlier import: \
-                look whether the bank has two"
+                "{bank_ref} of {day}, {amount}, stands on {earlier}{after}"
             ),
         }
     }

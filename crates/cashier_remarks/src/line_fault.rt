@@ -161,55 +161,64 @@ pub fn fault_of_line(row: &ByteRecord) -> LineFault<'_> {
     }
 }
 
+impl LineFault<'_> {
+    // What is said of it, behind the text or the field that it names.
+    fn words(&self) -> &'static str {
+        match self {
+            LineFault::OpenQuote => OPEN_QUOTE,
+            LineFault::OneField => "field, a line of a statement has 5:",
+            LineFault::Count(_) => "fields, a line of a statement has 5:",
+            LineFault::NotUtf8(_) => "is not UTF-8: save the file as UTF-8",
+            LineFault::EmptyDay => "the day is empty: write it as 2026-03-16",
+            LineFault::DayMeant(_, _) => "is no day: write",
+            LineFault::NoDay(_) => "is no day: write year, month and day as 2026-03-16",
+            LineFault::EmptyAmount => "the amount is empty: write dollars and cents as 1234.50",
+            LineFault::AmountMeant(_, _) => "is no amount: write",
+            LineFault::NoAmount(_) => {
+                "is no amount: write dollars and cents as 1234.50, no $ and no comma"
+            }
+            LineFault::NoReference(_) => {
+                "is no reference: write at most 64 printed characters of ASCII"
+            }
+            LineFault::NoBankReference(_) => {
+                "is no reference of the bank: write at most 64 printed characters of ASCII"
+            }
+            LineFault::EmptyBankReference => {
+                "the bank_ref is empty: write the bank's own reference of the line, as each but OPEN and CLOSE has one"
+            }
+            LineFault::BalanceMeant(_, _) => "is no balance: write",
+            LineFault::LongText => "the text has more than 1000 bytes: shorten it",
+        }
+    }
+}
+
 impl fmt::Display for LineFault<'_> {
     fn fmt<W: fmt::Write>(&self, f: &mut fmt::Formatter<W>) -> fmt::Result {
+        let words = self.words();
         match self {
-            LineFault::OpenQuote => f.write_str(OPEN_QUOTE),
-            LineFault::OneField => {
-                write!(f, "it has 1 field, a line of a statement has 5: {HEADER}")
-            }
-            LineFault::Count(count) => write!(
-                f,
-                "it has {count} fields, a line of a statement has 5: {HEADER}"
-            ),
-            LineFault::NotUtf8(number) => {
-                write!(f, "field {number} is not UTF-8: save the file as UTF-8")
-            }
-            LineFault::EmptyDay => f.write_str("the day is empty: write it as 2026-03-16"),
-            LineFault::DayMeant(text, meant) => write!(f, "{text} is no day: write {meant}"),
-            LineFault::NoDay(text) => write!(
-                f,
-                "{text} is no day: write year, month and day as 2026-03-16"
-            ),
-            LineFault::EmptyAmount => {
-                f.write_str("the amount is empty: write dollars and cents as 1234.50")
-            }
+            LineFault::OpenQuote
+            | LineFault::EmptyDay
+            | LineFault::EmptyAmount
+            | LineFault::EmptyBankReference
+            | LineFault::LongText => f.write_str(words),
+            LineFault::OneField => write!(f, "it has 1 {words} {HEADER}"),
+            LineFault::Count(count) => write!(f, "it has {count} {words} {HEADER}"),
+            LineFault::NotUtf8(number) => write!(f, "field {number} {words}"),
+            LineFault::DayMeant(text, meant) => write!(f, "{text} {words} {meant}"),
             LineFault::AmountMeant(text, meant) => {
-                write!(f, "{text} is no amount: write {meant}, no $ and no comma")
+                write!(f, "{text} {words} {meant}, no $ and no comma")
             }
-            LineFault::NoAmount(text) => write!(
-                f,
-                "{text} is no amount: write dollars and cents as 1234.50, no $ and no comma"
-            ),
-            LineFault::NoReference(text) => write!(
-                f,
-                "{text} is no reference: write at most 64 printed characters of ASCII"
-            ),
-            LineFault::NoBankReference(text) => write!(
-                f,
-                "{text} is no reference of the bank: write at most 64 printed characters of ASCII"
-            ),
-            LineFault::EmptyBankReference => f.write_str(
-                "the bank_ref is empty: write the bank's own reference of the line, as each but OPEN and CLOSE has one",
-            ),
+            LineFault::NoDay(text)
+            | LineFault::NoAmount(text)
+            | LineFault::NoReference(text)
+            | LineFault::NoBankReference(text) => write!(f, "{text} {words}"),
             LineFault::BalanceMeant(text, name) => {
                 let name = *name;
                 write!(
                     f,
-                    "{text} is no balance: write {name}; a line that is none has a bank_ref"
+                    "{text} {words} {name}; a line that is none has a bank_ref"
                 )
             }
-            LineFault::LongText => f.write_str("the text has more than 1000 bytes: shorten it"),
         }
     }
 }

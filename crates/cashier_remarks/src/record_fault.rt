@@ -212,102 +212,102 @@ pub fn fault_of(row: &ByteRecord, field: Field) -> RecordFault<'_> {
     }
 }
 
+impl RecordFault<'_> {
+    // What is said of it, behind the verb, the text or the field that it names.
+    fn words(&self) -> &'static str {
+        match self {
+            RecordFault::OpenQuote => OPEN_QUOTE,
+            RecordFault::NoText => "this is no text in UTF-8: save the sheet as CSV in UTF-8",
+            RecordFault::Statement => {
+                "this is a line of a statement, not of a sheet: import takes it"
+            }
+            RecordFault::OfClient(_) => "is no verb of a sheet: a client asks it by a message",
+            RecordFault::OfLawyer(_) => "is no verb of a sheet: a lawyer asks it by a message",
+            RecordFault::VerbMeant(_, _) => "is no verb: write",
+            RecordFault::NoCommas(_) => "is no verb: put commas between the fields",
+            RecordFault::NoVerb(_) => "is no verb:",
+            RecordFault::TooFew(_, _) => "",
+            RecordFault::TooMany(_, _) => ", and a field with a comma in double quotes",
+            RecordFault::Comma(_, _, _) => "write the amount without a comma,",
+            RecordFault::Padded(_, _) => "take the empty ones off its end",
+            RecordFault::NeedlessEntry(_) => "names no entry: its third field stays empty",
+            RecordFault::NoLine => {
+                "a line is dismissed as the list of exceptions has it: dismiss,,,DATE,REFERENCE,BANK_REF,AMOUNT,TEXT"
+            }
+            RecordFault::BadLine(_) => "",
+            RecordFault::NotUtf8(_) => "is not UTF-8: save the sheet as UTF-8",
+            RecordFault::NeedlessFund => "general is of no entry: its sixth field stays empty",
+            RecordFault::AmountMeant(_, _) => "is no amount: write",
+            RecordFault::Minus(_) => {
+                "is below zero: write it without a sign, since the verb tells which way it goes"
+            }
+            RecordFault::Empty(_) => "is empty: write",
+            RecordFault::BadField(_, _) => "is no",
+        }
+    }
+}
+
+// Writes that there are so many fields, and how many the verb takes.
+fn write_counts<W: fmt::Write>(
+    f: &mut fmt::Formatter<W>,
+    form: &VerbForm,
+    found: usize,
+) -> fmt::Result {
+    let (verb, wanted) = (form.name, form.field_count);
+    write!(f, "{verb} takes {wanted} fields, {found} are here: ")
+}
+
 impl fmt::Display for RecordFault<'_> {
     fn fmt<W: fmt::Write>(&self, f: &mut fmt::Formatter<W>) -> fmt::Result {
+        let words = self.words();
         match self {
-            RecordFault::OpenQuote => f.write_str(OPEN_QUOTE),
-            RecordFault::NoText => {
-                f.write_str("this is no text in UTF-8: save the sheet as CSV in UTF-8")
-            }
-            RecordFault::Statement => {
-                f.write_str("this is a line of a statement, not of a sheet: import takes it")
-            }
-            RecordFault::OfClient(name) => {
+            RecordFault::OpenQuote
+            | RecordFault::NoText
+            | RecordFault::Statement
+            | RecordFault::NoLine
+            | RecordFault::NeedlessFund => f.write_str(words),
+            RecordFault::OfClient(name) | RecordFault::OfLawyer(name) => {
                 let name = *name;
-                write!(
-                    f,
-                    "\"{name}\" is no verb of a sheet: a client asks it by a message"
-                )
-            }
-            RecordFault::OfLawyer(name) => {
-                let name = *name;
-                write!(
-                    f,
-                    "\"{name}\" is no verb of a sheet: a lawyer asks it by a message"
-                )
+                write!(f, "\"{name}\" {words}")
             }
             RecordFault::VerbMeant(name, verb) => {
                 let verb = *verb;
-                write!(f, "{name} is no verb: write {verb}")
+                write!(f, "{name} {words} {verb}")
             }
-            RecordFault::NoCommas(name) => write!(
-                f,
-                "{name} is no verb: put commas between the fields"
-            ),
+            RecordFault::NoCommas(text) | RecordFault::Minus(text) => write!(f, "{text} {words}"),
             RecordFault::NoVerb(name) => {
                 let verbs = VerbNames;
-                write!(f, "{name} is no verb: {verbs}")
+                write!(f, "{name} {words} {verbs}")
             }
-            RecordFault::TooFew(form, found) => {
-                let (verb, wanted, pattern) = (form.name, form.field_count, form.pattern);
-                write!(
-                    f,
-                    "{verb} takes {wanted} fields, {found} are here: {pattern}"
-                )
-            }
-            RecordFault::TooMany(form, found) => {
-                let (verb, wanted, pattern) = (form.name, form.field_count, form.pattern);
-                write!(
-                    f,
-                    "{verb} takes {wanted} fields, {found} are here: {pattern}, \
-                    and a field with a comma in double quotes"
-                )
+            RecordFault::TooFew(form, found) | RecordFault::TooMany(form, found) => {
+                let pattern = form.pattern;
+                write_counts(f, *form, *found)?;
+                write!(f, "{pattern}{words}")
             }
             RecordFault::Comma(form, found, amount) => {
-                let (verb, wanted) = (form.name, form.field_count);
-                write!(
-                    f,
-                    "{verb} takes {wanted} fields, {found} are here: write the amount without a comma, {amount}"
-                )
+                write_counts(f, *form, *found)?;
+                write!(f, "{words} {amount}")
             }
             RecordFault::Padded(form, found) => {
-                let (verb, wanted) = (form.name, form.field_count);
-                write!(
-                    f,
-                    "{verb} takes {wanted} fields, {found} are here: take the empty ones off its end"
-                )
+                write_counts(f, *form, *found)?;
+                f.write_str(words)
             }
             RecordFault::NeedlessEntry(form) => {
                 let verb = form.name;
-                write!(f, "{verb} names no entry: its third field stays empty")
+                write!(f, "{verb} {words}")
             }
-            RecordFault::NoLine => f.write_str(
-                "a line is dismissed as the list of exceptions has it: dismiss,,,DATE,REFERENCE,BANK_REF,AMOUNT,TEXT",
-            ),
             RecordFault::BadLine(fault) => fault.fmt(f),
-            RecordFault::NotUtf8(number) => {
-                write!(f, "field {number} is not UTF-8: save the sheet as UTF-8")
-            }
-            RecordFault::NeedlessFund => {
-                f.write_str("general is of no entry: its sixth field stays empty")
-            }
-            RecordFault::AmountMeant(text, meant) => write!(
-                f,
-                "{text} is no amount: write {meant}"
-            ),
-            RecordFault::Minus(text) => write!(
-                f,
-                "{text} is below zero: write it without a sign, since the verb tells which way it goes"
-            ),
+            RecordFault::NotUtf8(number) => write!(f, "field {number} {words}"),
+            RecordFault::AmountMeant(text, meant) => write!(f, "{text} {words} {meant}"),
             RecordFault::Empty(field) => {
-                let words = words_of(*field);
-                let (noun, form) = (words.noun, words.form);
-                write!(f, "the {noun} is empty: write {form}")
+                let of = words_of(*field);
+                let (noun, form) = (of.noun, of.form);
+                write!(f, "the {noun} {words} {form}")
             }
             RecordFault::BadField(field, text) => {
-                let words = words_of(*field);
-                let (noun, form) = (words.noun, words.form);
-                write!(f, "{text} is no {noun}: write {form}")
+                let of = words_of(*field);
+                let (noun, form) = (of.noun, of.form);
+                write!(f, "{text} {words} {noun}: write {form}")
             }
         }
     }
