@@ -14,6 +14,8 @@ use Rattle.trust_desk.specs.Checking.{AreCountsOf}
 use Rattle.trust_desk.specs.declared.checking.RowCounts.{RowCounts}
 use Rattle.trust_desk.specs.declared.unread.Unread.{Unread}
 use Rattle.trust_desk.specs.declared.unread.Unread.TheVariants as unread
+use Rattle.sql_schema.specs.Schema.{balance_table_name, entry_table_name, exception_table_name, firm_line_table_name}
+use Rattle.sql_schema.specs.Schema.{journal_table_name, matter_table_name, seat_table_name}
 use Rattle.portal_http.specs.Output.{Output}
 use Rattle.cashier.specs.Report.{refused_outcome}
 use Rattle.cashier.specs.Sent.{IsSent}
@@ -49,16 +51,16 @@ flaw_text (flaws.Balance n) = codes "BALANCE " ++ decimal n
 -- which row is invalid, with its table
 abbrev pub unread_text : Unread → List ℕ
 unread_text (unread.Matter m) = codes "MATTER " ++ matter_text m
-unread_text (unread.Head None) = codes "ROW matter_v2 FIRST"
-unread_text (unread.Head (Some m)) = codes "ROW matter_v2 AFTER " ++ matter_text m
-unread_text (unread.Seat m) = codes "ROW seat_v2 OF " ++ matter_text m
-unread_text (unread.Entry m None) = codes "ROW entry_v2 FIRST OF " ++ matter_text m
+unread_text (unread.Head None) = codes "ROW " ++ (matter_table_name ++ codes " FIRST")
+unread_text (unread.Head (Some m)) = codes "ROW " ++ (matter_table_name ++ (codes " AFTER " ++ matter_text m))
+unread_text (unread.Seat m) = codes "ROW " ++ (seat_table_name ++ (codes " OF " ++ matter_text m))
+unread_text (unread.Entry m None) = codes "ROW " ++ (entry_table_name ++ (codes " FIRST OF " ++ matter_text m))
 unread_text (unread.Entry m (Some n)) =
-    codes "ROW entry_v2 AFTER " ++ (matter_text m ++ (codes "-" ++ entry_text n))
-unread_text (unread.Movement n) = codes "ROW journal " ++ decimal n
-unread_text (unread.FirmLine n) = codes "ROW firm_line " ++ decimal n
-unread_text (unread.Exception n) = codes "ROW exception " ++ decimal n
-unread_text (unread.Balance n) = codes "ROW balance " ++ decimal n
+    codes "ROW " ++ (entry_table_name ++ (codes " AFTER " ++ (matter_text m ++ (codes "-" ++ entry_text n))))
+unread_text (unread.Movement n) = codes "ROW " ++ (journal_table_name ++ (codes " " ++ decimal n))
+unread_text (unread.FirmLine n) = codes "ROW " ++ (firm_line_table_name ++ (codes " " ++ decimal n))
+unread_text (unread.Exception n) = codes "ROW " ++ (exception_table_name ++ (codes " " ++ decimal n))
+unread_text (unread.Balance n) = codes "ROW " ++ (balance_table_name ++ (codes " " ++ decimal n))
 unread_text unread.Elsewhere = codes "ROW ELSEWHERE"
 
 -- the result of a check

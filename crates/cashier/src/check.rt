@@ -16,6 +16,10 @@ ghost use Rattle.trust_desk.specs.declared.checking.RowCounts.{RowCounts};
 
 use crate::outcome::{Outcome, outcome_of_refusal, write_refusal};
 use cashier_remarks::{Remark, Remarks};
+use sql_schema::{
+    BALANCE_TABLE, ENTRY_TABLE, EXCEPTION_TABLE, FIRM_LINE_TABLE, JOURNAL_TABLE, MATTER_TABLE,
+    SEAT_TABLE,
+};
 use std::alloc::Global;
 use std::fmt;
 use std::io::Write;
@@ -90,21 +94,21 @@ impl fmt::Display for RowName {
     fn fmt<W: fmt::Write>(&self, f: &mut fmt::Formatter<W>) -> fmt::Result {
         match self.row {
             Unread::Matter(matter) => write!(f, "MATTER {matter}"),
-            Unread::Head(None) => f.write_str("ROW matter_v2 FIRST"),
-            Unread::Head(Some(matter)) => write!(f, "ROW matter_v2 AFTER {matter}"),
-            Unread::Seat(matter) => write!(f, "ROW seat_v2 OF {matter}"),
+            Unread::Head(None) => write!(f, "ROW {MATTER_TABLE} FIRST"),
+            Unread::Head(Some(matter)) => write!(f, "ROW {MATTER_TABLE} AFTER {matter}"),
+            Unread::Seat(matter) => write!(f, "ROW {SEAT_TABLE} OF {matter}"),
             Unread::Entry {
                 matter,
                 after: None,
-            } => write!(f, "ROW entry_v2 FIRST OF {matter}"),
+            } => write!(f, "ROW {ENTRY_TABLE} FIRST OF {matter}"),
             Unread::Entry {
                 matter,
                 after: Some(entry),
-            } => write!(f, "ROW entry_v2 AFTER {matter}-{entry}"),
-            Unread::Movement(number) => write!(f, "ROW journal {number}"),
-            Unread::FirmLine(number) => write!(f, "ROW firm_line {number}"),
-            Unread::Exception(number) => write!(f, "ROW exception {number}"),
-            Unread::Balance(number) => write!(f, "ROW balance {number}"),
+            } => write!(f, "ROW {ENTRY_TABLE} AFTER {matter}-{entry}"),
+            Unread::Movement(number) => write!(f, "ROW {JOURNAL_TABLE} {number}"),
+            Unread::FirmLine(number) => write!(f, "ROW {FIRM_LINE_TABLE} {number}"),
+            Unread::Exception(number) => write!(f, "ROW {EXCEPTION_TABLE} {number}"),
+            Unread::Balance(number) => write!(f, "ROW {BALANCE_TABLE} {number}"),
             Unread::Elsewhere => f.write_str("ROW ELSEWHERE"),
         }
     }
