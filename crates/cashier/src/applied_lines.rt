@@ -102,7 +102,7 @@ struct EarlierTelling<'a, M> {
 }
 
 // Returns the line of the file on which the record with a number begins. These are sorted by their numbers.
-fn line_at(starts: &[Start], number: u64) -> Option<u64> {
+fn start_line(starts: &[Start], number: u64) -> Option<u64> {
     match starts.binary_search_by(|start| start.number.cmp(&number)) {
         Ok(place) => starts.get(place).map(|start| start.line),
         Err(_) => None,
@@ -111,7 +111,7 @@ fn line_at(starts: &[Start], number: u64) -> Option<u64> {
 
 impl<M: Remarks> EarlierWatch for EarlierTelling<'_, M> {
     fn stood_already(&self, line: &AppliedLine, earlier: Owner) {
-        if let Some(start) = line_at(self.starts, line.number) {
+        if let Some(start) = start_line(self.starts, line.number) {
             self.remarks.tell(&Remark::Line {
                 line: start,
                 of: Some(Reference::of_owner(line.line.owner)),

@@ -16,7 +16,7 @@ pub struct ExceptionTelling<'a, M> {
 }
 
 // Returns the line that an exception is.
-fn line_of<'a>(told: &NotApplied<'a>) -> Option<&'a Line> {
+fn exception_in<'a>(told: &NotApplied<'a>) -> Option<&'a Line> {
     match *told {
         NotApplied::OfMatter { line, .. } => Some(&line.line),
         NotApplied::OfFirm { line, .. }
@@ -32,7 +32,7 @@ impl<M: Remarks> ItemWatch for ExceptionTelling<'_, M> {
     fn applied(&self, _number: u64, _owner: Owner, _line: &Line) {}
 
     fn not_applied(&self, _number: u64, told: &NotApplied<'_>) {
-        let Some(line) = line_of(told) else {
+        let Some(line) = exception_in(told) else {
             return;
         };
         if let Some(told) = remark_on_exception(told, self.today) {

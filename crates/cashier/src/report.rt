@@ -209,7 +209,7 @@ pub fn run_report<M: Remarks, W: Write, B: Book>(
             };
             tell_payments(alloc, &telling, desk)
         }
-        ReportCommand::Firm(Report::Trial | Report::Journal | Report::Retention | Report::OwnLedger)
+        ReportCommand::Firm(_)
         | ReportCommand::AsOf(_, _)
         | ReportCommand::Within(_, _)
         | ReportCommand::Ledger(_) => {}
