@@ -20,7 +20,6 @@ pub mod Lasts
 pub mod Lists
 pub mod Open
 pub mod OfLists
-pub mod Retained
 pub mod Tidy
 pub mod Trial
 pub use Rattle.firm_figures.proofs.ReconciliationRows

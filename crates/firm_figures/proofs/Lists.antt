@@ -1,8 +1,9 @@
--- The journal's sums so far, and the trial balance.
-use Rattle.firm_figures.proofs.Names.{◌≡◌, ℕ, zero, suc, ◌+◌, ◌*◌, ◌≤◌, cond, List, [], ◌∷◌, ◌++◌, length, map, take, refl, sym, ap, ◌∙◌, arith, append_assoc, append-nil, ℤ, pos, ◌+ℤ◌, ◌≤ℤ◌, ◌==◌, is_none, fold, AllByRecursion, int_wrap, w128, FitsSigned, ints, int_wrap-add_left, int_wrap_fits, Seat, Entry, Rows, ledger, Sound, Covered, sum_of, Row, HeadRow, SeatRow, EntryRow, Firm, of, pairs, head_pairs, seat_pairs, entry_pairs, FirmSound, at, sum-append, sum-same, sum-filter, sum-agree, passing, own-put, of_row, rows-entries, shares-ledger, row-share, sound-solvent, Movement, TrialLine, ledger_share, row_share, ledger_sum, journal_sum, journal_from, last_sum, with_moved, JournalIsKept, open_matters, trial_lines, ListsAlwaysAgree, IsMovementInRange, added}
+-- The journal's sums so far, the trial balance, and the retention list.
+use Rattle.firm_figures.proofs.Names.{◌≡◌, ℕ, zero, suc, ◌+◌, ◌*◌, ◌≤◌, cond, List, [], ◌∷◌, ◌++◌, length, map, take, refl, sym, ap, ◌∙◌, arith, append_assoc, append-nil, ℤ, pos, ◌+ℤ◌, ◌≤ℤ◌, ◌==◌, is_none, fold, flat_map, AllByRecursion, int_wrap, w128, FitsSigned, ints, int_wrap-add_left, int_wrap_fits, Seat, Entry, Rows, ledger, Sound, Covered, sum_of, Row, HeadRow, SeatRow, EntryRow, Firm, of, pairs, head_pairs, seat_pairs, entry_pairs, FirmSound, at, sum-append, sum-same, sum-filter, sum-agree, passing, own-put, of_row, rows-entries, shares-ledger, row-share, sound-solvent, Movement, TrialLine, ledger_share, row_share, ledger_sum, journal_sum, journal_from, last_sum, with_moved, JournalIsKept, open_matters, trial_lines, ListsAlwaysAgree, IsMovementInRange, added}
 use Rattle.std.specs.Int.{w64}
 use Rattle.firm_figures.specs.declared.journal_sink.JournalLine.{JournalLine}
 use Rattle.firm_figures.proofs.Sizes.{IsWithin, wider, fits}
+use Rattle.firm_figures.specs.Lists.{retention_line, Retained, none_retained, with_row_retained, RetentionIsKept}
 
 -- The journal.
 
@@ -109,3 +110,13 @@ lists-agree law firm sound =
       covered = all-least (pos 0) firm.movements (λ k. omega (arith, ints, solvent.journal k));
       total = last-whole (pos 0) firm.movements ∙ omega (arith, ints, solvent.agree, trial-sum firm sound);
     }
+
+-- The retention list.
+
+rows-retained : (s : Retained) (xs : List (ℕ × Row)) → fold with_row_retained s xs ≡ record s { lines = s.lines ++ flat_map (retention_line s.today) xs }
+rows-retained s [] = λ i. record s { lines = sym (append-nil s.lines) i }
+rows-retained s (x ∷ xs) =
+    search (append_assoc, (rows-retained (record s { lines = s.lines ++ retention_line s.today x }) xs))
+
+pub retention-kept : RetentionIsKept
+retention-kept today firm = rows-retained (none_retained today) firm.rows

@@ -6,12 +6,12 @@ use Rattle.firm_figures.specs.Figures.{FiguresAgree}
 use Rattle.firm_figures.specs.Lists.{TrialKept, trial_of, trial_sum}
 use Rattle.firm_figures.specs.OfLists.{SinksGiveTheSame}
 use Rattle.firm_figures.specs.Reconciliations.{ReconciliationKept, ReconciliationTold, all_kept, kept_told, reconciled, reconciliation_on, told}
-use Rattle.firm_figures.specs.Retained.{Retained}
+use Rattle.firm_figures.specs.Lists.{Retained}
 use Rattle.firm_figures.specs.declared.figures.ReconciliationFigures.{ReconciliationFigures}
 use Rattle.firm_figures.specs.declared.reconciliation.Reconciliation.{Reconciliation}
 use Rattle.firm_figures.proofs.Lists.{journal-kept}
 use Rattle.firm_figures.proofs.ReconciliationRows.{reconciliation-kept}
-use Rattle.firm_figures.proofs.Retained.{retention-kept}
+use Rattle.firm_figures.proofs.Lists.{retention-kept}
 use Rattle.firm_figures.proofs.Trial.{trial-kept, total-kept}
 
 pub sinks-give-the-same : SinksGiveTheSame

@@ -5,7 +5,7 @@ use Rattle.firm_rows.specs.Firm.{Firm}
 use Rattle.firm_rows.specs.FirmSound.{FirmSound}
 use Rattle.firm_figures.specs.Lists.{no_journal, with_moved, journal_list, trial_kept, trial_of, trial_sum, trial_total}
 use Rattle.firm_figures.specs.Reconciliations.{all_kept, kept_told, reconciliation_on}
-use Rattle.firm_figures.specs.Retained.{none_retained, with_row_retained, retention_list}
+use Rattle.firm_figures.specs.Lists.{none_retained, with_row_retained, retention_list}
 
 -- on the left what `finish` of each sink gives once all rows of the firm have arrived, as of the day and the business
 -- day; on the right what is asked of the firm

@@ -8,7 +8,7 @@ ghost use Rattle.firm_figures.specs.Listing.{ListsKept};
 ghost use Rattle.firm_figures.specs.Purged.{PurgeChangesNoFigure, PurgeChangesNoList, PurgeChangesNoFigureLeft, PurgeChangesNoListLeft};
 ghost use Rattle.firm_figures.specs.Reconciliations.{ReconciliationIsKept};
 ghost use Rattle.firm_figures.specs.Lists.{JournalIsKept, ListedAreOpen, ListsAlwaysAgree, TrialIsKept, TotalIsKept};
-ghost use Rattle.firm_figures.specs.Retained.{RetentionIsKept};
+ghost use Rattle.firm_figures.specs.Lists.{RetentionIsKept};
 ghost use Rattle.firm_figures.specs.Clients.{ClientsAlwaysAgree, LedgersAsOfAreMoved, LedgersAsOfCovered};
 ghost use Rattle.firm_figures.specs.Clients.{ClientsAreKept, ClientsTotalIsKept, PurgeChangesNoClientLeft};
 ghost use Rattle.firm_figures.specs.OfLists.{SinksGiveTheSame};

@@ -10,7 +10,7 @@ ghost use Rattle.firm_rows.specs.Handing.{in_memory, row_pair};
 ghost use Rattle.firm_figures.specs.Figures.{FiguresAgree};
 ghost use Rattle.firm_figures.specs.Lists.{journal_of, last_sum, trial_lines, trial_total};
 ghost use Rattle.firm_figures.specs.Reconciliations.{reconciliation_on, told};
-ghost use Rattle.firm_figures.specs.Retained.{retention_list};
+ghost use Rattle.firm_figures.specs.Lists.{retention_list};
 
 use crate::journal_sink::{JournalLine, JournalSink};
 use crate::laws::{figures_agree, lists_agree};

@@ -1,7 +1,7 @@
 // How long the records of closed matters are kept, from rows that arrive one at a time.
 
 ghost use Rattle.std.specs.Prelude.{◌≡◌};
-ghost use Rattle.firm_figures.specs.Retained.{Retained, none_retained, with_row_retained};
+ghost use Rattle.firm_figures.specs.Lists.{Retained, none_retained, with_row_retained};
 
 use firm_rows::{MatterRow, MatterRowSink};
 use std::alloc::{AllocError, Global};

@@ -1,4 +1,5 @@
-// Reads the columns of a query's row, one value or all. Returns `Store` if a value does not have its column's type.
+// The columns that a query selects, and how they are read from its row, one value or all. Returns `Store` if a value
+// does not have its column's type.
 
 ghost use Rattle.std.specs.Prelude.{◌≡◌, ◌≢◌, ◌∷◌, ℤ, ℕ, pos, List, IfOk, IfErr};
 ghost use Rattle.sqlite_value.specs.declared.value.Value.TheVariants.{Int, Null, Text};
@@ -14,6 +15,31 @@ use sql_tables::{
 use sqlite::Row;
 use sqlite_value::value::ValueRef;
 use trust_base::StoreFault;
+
+// Selects the columns of a head, in the order in which `head_in` reads them; the query goes on with the text.
+macro_rules! select_head {
+    ($text:literal) => {
+        concat!(
+            "SELECT client, opened, closed, last, entries, held, available, disputed, fees, claims, pending, purged",
+            $text
+        )
+    };
+}
+
+pub(crate) use select_head;
+
+// Selects the columns of an entry, in the order in which `entry_in` reads them; the query goes on with the text.
+macro_rules! select_entry {
+    ($text:literal) => {
+        concat!(
+            "SELECT no, kind, day, amount, state, fund, of_no, text_a, text_b, text_c, ",
+            "day_done, day_undone, day_bank, bank_ref, part, left_now",
+            $text
+        )
+    };
+}
+
+pub(crate) use select_entry;
 
 /// Returns the number in a column of a row. Returns `Store` for any other value.
 pub(crate) fn number_at(row: &Row, at: usize) -> Result<i64, StoreFault>

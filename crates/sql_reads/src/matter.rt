@@ -26,7 +26,7 @@ ghost use Rattle.sql_reads.specs.Parts.{drawn_by, part_at, part_of};
 ghost use Rattle.sql_reads.specs.Parts.{with_totals_at, with_totals_from};
 ghost use Rattle.sql_reads.specs.Shown.{AreNumbersOf, kept_at, numbered_from, rows_at, seat_at};
 
-use crate::columns::{entry_in, head_in, number_at, seat_in};
+use crate::columns::{entry_in, head_in, number_at, seat_in, select_entry, select_head};
 use crate::query::{RowTaking, hand_rows, rows_of};
 use firm_rows::RowSink;
 use matter_parts::{Figures, Kept, Matter, is_sound_whole};
@@ -36,27 +36,6 @@ use sqlite::{Alter, Connection, Row};
 use sqlite_value::value::ValueRef;
 use std::alloc::Global;
 use trust_base::{EntryNo, MatterNo, StoreFault};
-
-// Selects the columns of a head, in the order in which `head_in` reads them; the query goes on with the text.
-macro_rules! select_head {
-    ($text:literal) => {
-        concat!(
-            "SELECT client, opened, closed, last, entries, held, available, disputed, fees, claims, pending, purged",
-            $text
-        )
-    };
-}
-
-// Selects the columns of an entry, in the order in which `entry_in` reads them; the query goes on with the text.
-macro_rules! select_entry {
-    ($text:literal) => {
-        concat!(
-            "SELECT no, kind, day, amount, state, fund, of_no, text_a, text_b, text_c, ",
-            "day_done, day_undone, day_bank, bank_ref, part, left_now",
-            $text
-        )
-    };
-}
 
 // The head of a matter, with its totals.
 const HEAD: &str = select_head!(" FROM matter_v2 WHERE no = ?1 ORDER BY rowid");

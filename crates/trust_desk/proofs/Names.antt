@@ -73,7 +73,7 @@ pub use Rattle.trust_matter.specs.declared.line_verdict.Reason.{Reason}
 pub use Rattle.trust_reports.specs.Clients.{ClientsKept, clients_of, clients_sum, no_clients, with_client_own, with_client_row}
 pub use Rattle.trust_reports.specs.Lists.{JournalKept, TrialKept, no_journal, trial_kept, trial_of, trial_sum, with_moved, with_trial_own, with_trial_row}
 pub use Rattle.trust_reports.specs.Reconciliations.{ReconciliationKept, kept_told, reconciled, reconciliation_on}
-pub use Rattle.trust_reports.specs.Retained.{Retained, none_retained, with_row_retained}
+pub use Rattle.trust_reports.specs.Lists.{Retained, none_retained, with_row_retained}
 pub use Rattle.trust_reports.specs.TextsOfClients.{clients_text}
 pub use Rattle.trust_reports.specs.TextsOfLedgers.{ledger_card, own_card_text}
 pub use Rattle.trust_reports.specs.TextsOfLists.{exception_line, exceptions_text, journal_text, retention_text, trial_text}

@@ -4,7 +4,7 @@ use Rattle.std.proofs.Common.{flat_map}
 use Rattle.trust_reports.proofs.ClientRows.{clients-kept}
 use Rattle.trust_reports.proofs.ClientTotal as client_total
 use Rattle.trust_reports.proofs.Lists.{journal-kept}
-use Rattle.trust_reports.proofs.Retained.{retention-kept}
+use Rattle.trust_reports.proofs.Lists.{retention-kept}
 use Rattle.trust_reports.proofs.Trial.{total-kept, trial-kept}
 use Rattle.trust_reports.specs.Texts.{heading}
 

@@ -10,7 +10,7 @@ pub use Rattle.firm_periods.specs.Named.{is_purged_since}
 use Rattle.firm_periods.specs.Named.{disbursements, out_named, receipts, sum_moved, transit_named}
 use Rattle.trust_reports.specs.Reconciliations.{ReconciliationTold, reconciliation_on}
 use Rattle.trust_reports.specs.Lists.{journal_list, trial_lines, trial_total}
-use Rattle.trust_reports.specs.Retained.{retention_list}
+use Rattle.trust_reports.specs.Lists.{retention_list}
 use Rattle.trust_reports.specs.TextsOfClients.{clients_text}
 use Rattle.trust_reports.specs.TextsOfLedgers.{own_card_text}
 use Rattle.trust_reports.specs.TextsOfLists.{exceptions_text, journal_text, retention_text, trial_text}

@@ -9,7 +9,6 @@ pub mod TextsOfPeriods
 pub mod TextsOfAccounts
 pub use Rattle.firm_figures.specs.Clients
 pub use Rattle.firm_figures.specs.Lists
-pub use Rattle.firm_figures.specs.Retained
 pub use Rattle.firm_figures.specs.Figures
 pub use Rattle.firm_figures.specs.Openings
 pub use Rattle.firm_figures.specs.Purged

@@ -1,4 +1,4 @@
-use Rattle.firm_figures.proofs.Retained.{retention-kept}
+use Rattle.firm_figures.proofs.Lists.{retention-kept}
 use Rattle.firm_figures.proofs.laws.retention_is_kept.Goals as goal
 
 pub returns : goal.returns

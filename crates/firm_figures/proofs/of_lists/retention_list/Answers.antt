@@ -1,8 +1,8 @@
 use Rattle.firm_figures.proofs.Names.{ap, ◌∙◌, fold, map}
 use Rattle.std.proofs.Common.{◌≡◌, []}
 use Rattle.firm_rows.specs.Handing.{in_memory, row_pair}
-use Rattle.firm_figures.specs.Retained.{Retained, none_retained, with_row_retained}
-use Rattle.firm_figures.proofs.Retained.{retention-kept}
+use Rattle.firm_figures.specs.Lists.{Retained, none_retained, with_row_retained}
+use Rattle.firm_figures.proofs.Lists.{retention-kept}
 use Rattle.firm_figures.proofs.of_lists.retention_list.Goals as goal
 
 pub returns : goal.returns
