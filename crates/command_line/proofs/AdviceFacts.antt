@@ -1,17 +1,17 @@
 -- What is wrong with words, by the errors of the parser on them and on their fronts.
-use Rattle.command_line.proofs.Names.{arith, ◌≡◌, ◌≢◌, ◌∙◌, ◌+◌, ◌<◌, ◌||◌, inl, ap, sym, refl, subst, Bool, ℕ, List, [], Option, Some, None, IfNone, IfSome, get_or, length, min, option_map, slice_get, take, slice_get-get_or, slice_get-map, list_any, option_or, Row, Text, fault_of, found_of, matches_of, rows_of, subcommand_of, subcommand_rows_of, ErrorKind, ArgMatches, clap_on_literals, Bor, HasCommand, HasWrongValue, IsFront, IsRepeated, IsStrayed, IsStray, IsTakenSoFar, IsWrong, IsWrongValue, LacksValue, LacksValueAt, Names, front_by, last_setting, names_day, setting_named, command_text, FailsAs, IsParse, IsRefused, db_rule, operand_rule, options_app, program, quiet_rule, report_apps, run_apps, today_rule, words_of, Front, ints, nat_tests}
+use Rattle.command_line.proofs.Names.{arith, ◌≡◌, ◌≢◌, ◌∙◌, ◌+◌, ◌<◌, ◌||◌, inl, ap, sym, refl, subst, Bool, ℕ, List, [], Option, Some, None, IfNone, IfSome, get_or, length, min, option_map, slice_get, take, slice_get-get_or, slice_get-map, list_any, option_or, Row, Text, fault_of, found_of, matches_of, rows_of, subcommand_of, subcommand_rows_of, ErrorKind, ArgMatches, clap_on_literals, Bor, HasCommand, HasWrongValue, IsFront, IsRepeated, IsStrayed, IsStray, IsTakenSoFar, IsWrong, IsWrongValue, LacksValue, LacksValueAt, Names, front_by, last_setting, names_day, setting_named, command_text, FailsAs, IsParse, IsRefused, db_rule, operand_rule, options_app, program, quiet_rule, all_commands, today_rule, words_of, Front, ints, nat_tests}
 use Rattle.std.proofs.lemmas.List.{get_or-map, length-map, take-map, take_min}
 use Rattle.std.proofs.lemmas.List.Folds.{list_any_more}
 use Rattle.std.proofs.lemmas.List.Sums.{fold_more}
 use Rattle.clap.specs.declared.error.kind.ErrorKind.TheVariants as kind
 use Rattle.command_line.specs.declared.advice.Setting.{Setting}
-use Rattle.command_line.specs.declared.advice.CommandName.{CommandName}
+use Rattle.command_line.specs.declared.table.CommandName.{CommandName}
 use Rattle.command_line.specs.declared.advice.Wrong.{Wrong}
 use Rattle.command_line.specs.declared.faults.Front.TheVariants as fronts
 
 -- without words a command is wanted
 pub none-taken : FailsAs [] kind.MissingSubcommand
-unfolding clap_on_literals program options_app today_rule db_rule quiet_rule operand_rule run_apps report_apps
+unfolding clap_on_literals program options_app today_rule db_rule quiet_rule operand_rule all_commands
 none-taken = inl refl
 
 -- a wrong value of a parse is one of the words

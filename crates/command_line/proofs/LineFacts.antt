@@ -1,5 +1,5 @@
 -- What a parse of the program's own command line says.
-use Rattle.command_line.proofs.Names.{◌≡◌, ◌≢◌, ◌∙◌, sym, refl, true, ℕ, List, Option, Some, None, IfErr, IfOk, Result, option_map, option_and_then, codes, App, Row, Text, fault_of, first_of, found_of, is_simple, is_simple_and_free, kind_of, rows_of, subcommand_name_of, subcommand_rows_of, ErrorKind, ArgMatches, first_value, Found, clap_on_literals, first_value-rows, day_of, Gives, IsParse, IsRefused, IsTask, LeavesNoPlan, MeetsTask, Means, MeansNothing, db_rule, fault_by, operand_rule, options_app, quiet_rule, report_apps, program, run_apps, today_rule, Task, arith, ints, nat_tests}
+use Rattle.command_line.proofs.Names.{◌≡◌, ◌≢◌, ◌∙◌, sym, refl, true, ℕ, List, Option, Some, None, IfErr, IfOk, Result, option_map, option_and_then, codes, App, Row, Text, fault_of, first_of, found_of, is_simple, is_simple_and_free, kind_of, rows_of, subcommand_name_of, subcommand_rows_of, ErrorKind, ArgMatches, first_value, Found, clap_on_literals, first_value-rows, day_of, Gives, IsParse, IsRefused, IsTask, LeavesNoPlan, MeetsTask, Means, MeansNothing, db_rule, fault_by, operand_rule, options_app, quiet_rule, all_commands, program, today_rule, Task, arith, ints, nat_tests}
 use Rattle.clap.specs.Kinds.{FailsBy}
 use Rattle.clap.specs.Simple.{HasMatchesOf}
 use Rattle.clap.specs.declared.error.Error.{Error}
@@ -8,11 +8,11 @@ use Rattle.std.specs.Result.{IsErrAnd}
 use Rattle.command_line.specs.declared.command.CliFault.{CliFault}
 
 pub is_simple_program : is_simple program ≡ true
-unfolding clap_on_literals program options_app today_rule db_rule quiet_rule operand_rule run_apps report_apps
+unfolding clap_on_literals program options_app today_rule db_rule quiet_rule operand_rule all_commands
 is_simple_program = refl
 
 pub is_free_program : is_simple_and_free program ≡ true
-unfolding clap_on_literals program options_app today_rule db_rule quiet_rule operand_rule run_apps report_apps
+unfolding clap_on_literals program options_app today_rule db_rule quiet_rule operand_rule all_commands
 is_free_program = refl
 
 -- words that are refused by an error other than want of memory mean nothing

@@ -6,7 +6,7 @@ pub use Rattle.clap.specs.Words.{App, Row, Rule, Text, app_of, fault_of, first_o
 pub use Rattle.clap.specs.declared.error.kind.ErrorKind.{ErrorKind}
 pub use Rattle.clap.specs.declared.parser.matches.ArgMatches.{ArgMatches}
 pub use Rattle.clap.specs.declared.parser.matches.Found.{Found}
-pub use Rattle.std.proofs.Common.{Bool, IfErr, IfNone, IfOk, IfSome, List, None, Ok, Option, Result, Some, [], add-one, ap, ap₂, arith, codes, drop, drop-cons, false, get_or, inl, inr, length, min, option_and_then, option_map, refl, rules, slice_get, subst, suc, sym, take, true, ℕ, ◌+◌, ◌<◌, ◌^◌, ◌||◌, ◌∙◌, ◌≡◌, ◌≢◌}
+pub use Rattle.std.proofs.Common.{Bool, IfErr, IfNone, IfOk, IfSome, List, None, Ok, Option, Result, Some, [], add-one, ap, ap₂, arith, codes, drop, drop-cons, false, find, get_or, inl, inr, length, map, min, option_and_then, option_map, refl, rules, slice_get, subst, suc, sym, take, true, ℕ, ◌+◌, ◌<◌, ◌^◌, ◌||◌, ◌∙◌, ◌≡◌, ◌≢◌}
 pub use Rattle.std.proofs.lemmas.Option.{slice_get-get_or, slice_get-map}
 pub use Rattle.std.proofs.lemmas.Slice.Eq.{bytes_eq-Decides}
 pub use Rattle.std.specs.Borrow.{Bor}
@@ -14,10 +14,12 @@ pub use Rattle.std.specs.List.{list_any}
 pub use Rattle.std.specs.Option.{option_or}
 pub use Rattle.std.specs.Str.{bytes_eq}
 pub use Rattle.trust_base.specs.Texts.{day_of}
-pub use Rattle.command_line.specs.Advice.{HasCommand, HasWrongValue, IsFront, IsRepeated, IsStray, IsStrayed, IsTakenSoFar, IsWrong, IsWrongValue, LacksValue, LacksValueAt, Names, front_by, last_setting, names_day, setting_named, command_text}
+pub use Rattle.command_line.specs.Advice.{HasCommand, HasWrongValue, IsFront, IsRepeated, IsStray, IsStrayed, IsTakenSoFar, IsWrong, IsWrongValue, LacksValue, LacksValueAt, Names, front_by, last_setting, names_day, setting_named}
 pub use Rattle.command_line.specs.Numerals.{IsNumberBetween}
-pub use Rattle.command_line.specs.Program.{FailsAs, Gives, IsParse, IsRefused, IsTask, LeavesNoPlan, Means, MeansCheck, MeansNothing, MeetsTask, apps_of, command_app, fault_by, task_text, with_commands, with_operands, words_of}
-unfoldable pub use Rattle.command_line.specs.Program.{db_rule, operand_rule, options_app, program, quiet_rule, report_apps, run_apps, today_rule}
+pub use Rattle.command_line.specs.Program.{FailsAs, Gives, IsParse, IsRefused, IsTask, LeavesNoPlan, Means, MeansCheck, MeansNothing, MeetsTask, app_called, command_app, fault_by, task_command, task_text, with_commands, with_operands, words_of}
+unfoldable pub use Rattle.command_line.specs.Program.{db_rule, operand_rule, options_app, program, quiet_rule, today_rule}
+pub use Rattle.command_line.specs.Table.{command_text}
+unfoldable pub use Rattle.command_line.specs.Table.{all_commands}
 pub use Rattle.command_line.specs.declared.command.Task.{Task}
 pub use Rattle.command_line.specs.declared.faults.Front.{Front}
 pub use Rattle.std.proofs.lemmas.Bool.Decides.{nat_tests}

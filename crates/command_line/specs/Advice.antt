@@ -9,84 +9,19 @@ use Rattle.clap.specs.declared.error.kind.ErrorKind.TheVariants as kind
 use Rattle.trust_base.specs.Texts.{day_of, matter_of}
 use Rattle.command_line.specs.Numerals.{IsCount, IsPort}
 use Rattle.command_line.specs.Program.{FailsAs, program}
+use Rattle.command_line.specs.Table.{command_example, command_text, command_usage}
 use Rattle.command_line.specs.declared.advice.Advice.{Advice}
 use Rattle.command_line.specs.declared.advice.Setting.{Setting}
 use Rattle.command_line.specs.declared.advice.Setting.TheVariants as settings
-use Rattle.command_line.specs.declared.advice.CommandName.{CommandName}
-use Rattle.command_line.specs.declared.advice.CommandName.TheVariants as commands
 use Rattle.command_line.specs.declared.advice.Wrong.{Wrong}
 use Rattle.command_line.specs.declared.advice.Wrong.TheVariants as wrong
 use Rattle.command_line.specs.declared.faults.Front.{Front}
 use Rattle.command_line.specs.declared.faults.Front.TheVariants as fronts
+use Rattle.command_line.specs.declared.table.CommandName.{CommandName}
+use Rattle.command_line.specs.declared.table.CommandName.TheVariants as commands
+use Rattle.trust_desk.specs.declared.requests.Report.TheVariants as reports
 
 -- ---- texts
-
--- the name of a command
-abbrev pub command_text : CommandName → Text
-command_text commands.Sheet = codes "sheet"
-command_text commands.Import = codes "import"
-command_text commands.Match = codes "match"
-command_text commands.Stream = codes "stream"
-command_text commands.Serve = codes "serve"
-command_text commands.Reconcile = codes "reconcile"
-command_text commands.Clients = codes "clients"
-command_text commands.Outstanding = codes "outstanding"
-command_text commands.Receipts = codes "receipts"
-command_text commands.Disbursements = codes "disbursements"
-command_text commands.Month = codes "month"
-command_text commands.Trial = codes "trial"
-command_text commands.Journal = codes "journal"
-command_text commands.Retention = codes "retention"
-command_text commands.Exceptions = codes "exceptions"
-command_text commands.Ledger = codes "ledger"
-command_text commands.Account = codes "account"
-command_text commands.Check = codes "check"
-
--- how a command is written after the options; without a command, all of them
-abbrev pub command_usage : Option CommandName → Text
-command_usage None = codes "(sheet | import FILE | match FILE | stream | serve PORT COUNT | reconcile DAY | "
-    ++ codes "clients DAY | outstanding DAY | receipts FROM TO | disbursements FROM TO | month DAY | "
-    ++ codes "trial | journal | retention | exceptions | ledger MATTER|FIRM | account MATTER FROM TO | check)"
-command_usage (Some commands.Sheet) = codes "sheet"
-command_usage (Some commands.Import) = codes "import FILE"
-command_usage (Some commands.Match) = codes "match FILE"
-command_usage (Some commands.Stream) = codes "stream"
-command_usage (Some commands.Serve) = codes "serve PORT COUNT"
-command_usage (Some commands.Reconcile) = codes "reconcile DAY"
-command_usage (Some commands.Clients) = codes "clients DAY"
-command_usage (Some commands.Outstanding) = codes "outstanding DAY"
-command_usage (Some commands.Receipts) = codes "receipts FROM TO"
-command_usage (Some commands.Disbursements) = codes "disbursements FROM TO"
-command_usage (Some commands.Month) = codes "month DAY"
-command_usage (Some commands.Trial) = codes "trial"
-command_usage (Some commands.Journal) = codes "journal"
-command_usage (Some commands.Retention) = codes "retention"
-command_usage (Some commands.Exceptions) = codes "exceptions"
-command_usage (Some commands.Ledger) = codes "ledger MATTER|FIRM"
-command_usage (Some commands.Account) = codes "account MATTER FROM TO"
-command_usage (Some commands.Check) = codes "check"
-
--- a command as it may be typed
-abbrev pub command_example : Option CommandName → Text
-command_example None = codes "reconcile 2026-03-31"
-command_example (Some commands.Sheet) = codes "sheet < day.csv"
-command_example (Some commands.Import) = codes "import statement.csv"
-command_example (Some commands.Match) = codes "match bank.csv > statement.csv"
-command_example (Some commands.Stream) = codes "stream < messages.http"
-command_example (Some commands.Serve) = codes "serve 8080 100"
-command_example (Some commands.Reconcile) = codes "reconcile 2026-03-31"
-command_example (Some commands.Clients) = codes "clients 2026-03-31"
-command_example (Some commands.Outstanding) = codes "outstanding 2026-03-31"
-command_example (Some commands.Receipts) = codes "receipts 2026-03-01 2026-03-31"
-command_example (Some commands.Disbursements) = codes "disbursements 2026-03-01 2026-03-31"
-command_example (Some commands.Month) = codes "month 2026-03-31"
-command_example (Some commands.Trial) = codes "trial"
-command_example (Some commands.Journal) = codes "journal"
-command_example (Some commands.Retention) = codes "retention"
-command_example (Some commands.Exceptions) = codes "exceptions"
-command_example (Some commands.Ledger) = codes "ledger 000001"
-command_example (Some commands.Account) = codes "account 000001 2026-03-01 2026-03-31"
-command_example (Some commands.Check) = codes "check"
 
 -- what is wrong
 abbrev pub wrong_text : Wrong → Text
@@ -216,15 +151,6 @@ IsWrongToday values (wrong.NoDay text) =
     (first_of (codes "today") values ≡ Some text.now) × (day_of text.now ≡ None)
 IsWrongToday values _ = ⊥
 
--- the operand of the command with this name is a day
-abbrev pub TakesDay : Text → Type 0
-TakesDay name = (name ≡ codes "reconcile") ⊎ (name ≡ codes "clients")
-    ⊎ (name ≡ codes "outstanding") ⊎ (name ≡ codes "month")
-
--- the last operands of the command with this name are the two days of a period
-abbrev pub TakesPeriod : Text → Type 0
-TakesPeriod name = (name ≡ codes "receipts") ⊎ (name ≡ codes "disbursements") ⊎ (name ≡ codes "account")
-
 -- both are days, and the second is earlier
 abbrev pub AreReversed : Option ℕ → Option ℕ → Type 0
 AreReversed (Some from) (Some to) = to < from
@@ -241,29 +167,55 @@ abbrev pub IsWrongPeriod : Option Text → Option Text → Wrong → Type 0
 IsWrongPeriod (Some from) (Some to) w = IsNoPeriod from to w
 IsWrongPeriod _ _ w = ⊥
 
--- of the values of a command with this name, this one is wrong
-abbrev pub IsWrongOperand : Text → List Row → Wrong → Type 0
-IsWrongOperand name values (wrong.NoDay text) =
-    TakesDay name × (first_of (codes "DAY") values ≡ Some text.now) × (day_of text.now ≡ None)
-    ⊎ TakesPeriod name
-    × IsWrongPeriod (first_of (codes "FROM") values) (first_of (codes "TO") values) (wrong.NoDay text)
-IsWrongOperand name values (wrong.BeforeFirst text) = TakesPeriod name
-    × IsWrongPeriod (first_of (codes "FROM") values) (first_of (codes "TO") values) (wrong.BeforeFirst text)
-IsWrongOperand name values (wrong.NoCard text) =
-    (name ≡ codes "ledger") × (first_of (codes "MATTER") values ≡ Some text.now)
+-- of the values of a command, DAY is wrong
+abbrev pub IsWrongDay : List Row → Wrong → Type 0
+IsWrongDay values (wrong.NoDay text) = (first_of (codes "DAY") values ≡ Some text.now) × (day_of text.now ≡ None)
+IsWrongDay values _ = ⊥
+
+-- FROM or TO is wrong
+abbrev pub IsWrongSpan : List Row → Wrong → Type 0
+IsWrongSpan values w = IsWrongPeriod (first_of (codes "FROM") values) (first_of (codes "TO") values) w
+
+-- MATTER is wrong, where it may be the word FIRM
+abbrev pub IsWrongCard : List Row → Wrong → Type 0
+IsWrongCard values (wrong.NoCard text) = (first_of (codes "MATTER") values ≡ Some text.now)
     × (text.now ≢ codes "FIRM") × (matter_of text.now ≡ None)
-IsWrongOperand name values (wrong.NoMatter text) =
-    (name ≡ codes "account") × (first_of (codes "MATTER") values ≡ Some text.now) × (matter_of text.now ≡ None)
-IsWrongOperand name values (wrong.NoPort text) = (name ≡ codes "serve")
-    × (first_of (codes "PORT") values ≡ Some text.now) × ((port : ℕ) → ¬ IsPort text.now port)
-IsWrongOperand name values (wrong.NoCount text) = (name ≡ codes "serve")
-    × (first_of (codes "COUNT") values ≡ Some text.now) × ((count : ℕ) → ¬ IsCount text.now count)
-IsWrongOperand name values _ = ⊥
+IsWrongCard values _ = ⊥
+
+-- MATTER is wrong
+abbrev pub IsWrongMatter : List Row → Wrong → Type 0
+IsWrongMatter values (wrong.NoMatter text) =
+    (first_of (codes "MATTER") values ≡ Some text.now) × (matter_of text.now ≡ None)
+IsWrongMatter values _ = ⊥
+
+-- PORT or COUNT is wrong
+abbrev pub IsWrongServing : List Row → Wrong → Type 0
+IsWrongServing values (wrong.NoPort text) =
+    (first_of (codes "PORT") values ≡ Some text.now) × ((port : ℕ) → ¬ IsPort text.now port)
+IsWrongServing values (wrong.NoCount text) =
+    (first_of (codes "COUNT") values ≡ Some text.now) × ((count : ℕ) → ¬ IsCount text.now count)
+IsWrongServing values _ = ⊥
+
+-- of the values of this command, this one is wrong
+abbrev pub IsWrongOperand : CommandName → List Row → Wrong → Type 0
+IsWrongOperand commands.Reconcile values w = IsWrongDay values w
+IsWrongOperand (commands.AsOf report) values w = IsWrongDay values w
+IsWrongOperand (commands.Within report) values w = IsWrongSpan values w
+IsWrongOperand (commands.Firm reports.OwnLedger) values w = IsWrongCard values w
+IsWrongOperand commands.Account values w = IsWrongMatter values w ⊎ IsWrongSpan values w
+IsWrongOperand commands.Serve values w = IsWrongServing values w
+IsWrongOperand _ values w = ⊥
+
+-- of the values of a command with this name, this one is wrong
+pub record HasWrongOperand (name : Text) (values : List Row) (w : Wrong) : Type 0 where
+  pub command : CommandName
+  pub named : name ≡ command_text command
+  pub operand : IsWrongOperand command values w
 
 -- of the parsed values and those of the command, if there is one, this one is wrong
 abbrev pub IsWrongValue : List Row → Option (Text × List Row) → Wrong → Type 0
 IsWrongValue rows None w = IsWrongToday rows w
-IsWrongValue rows (Some met) w = IsWrongToday rows w ⊎ IsWrongOperand met.0 met.1 w
+IsWrongValue rows (Some met) w = IsWrongToday rows w ⊎ HasWrongOperand met.0 met.1 w
 
 -- the command line accepts the words, but this value is wrong
 pub record HasWrongValue (words : List Text) (w : Wrong) : Type 0 where

@@ -12,17 +12,15 @@ use Rattle.clap.specs.declared.parser.matches.ArgMatches.{ArgMatches}
 use Rattle.trust_base.specs.Periods.{Span}
 use Rattle.trust_base.specs.Texts.{day_of, matter_of}
 use Rattle.command_line.specs.Numerals.{IsCount, IsPort}
+use Rattle.command_line.specs.Table.{all_commands, command_operands, command_text}
 use Rattle.command_line.specs.declared.command.CliFault.{CliFault}
 use Rattle.command_line.specs.declared.command.CliFault.TheVariants as faults
 use Rattle.command_line.specs.declared.command.Task.{Task}
 use Rattle.command_line.specs.declared.command.Task.TheVariants as tasks
 use Rattle.command_line.specs.declared.command.ReportCommand.{ReportCommand}
 use Rattle.command_line.specs.declared.command.ReportCommand.TheVariants.{Reconcile, AsOf, Within, Ledger, Account, Firm}
-use Rattle.trust_desk.specs.declared.requests.DayReport.{DayReport}
-use Rattle.trust_desk.specs.declared.requests.DayReport.TheVariants as day_reports
-use Rattle.trust_desk.specs.declared.requests.PeriodReport.{PeriodReport}
-use Rattle.trust_desk.specs.declared.requests.PeriodReport.TheVariants as period_reports
-use Rattle.trust_desk.specs.declared.requests.Report.{Report}
+use Rattle.command_line.specs.declared.table.CommandName.{CommandName}
+use Rattle.command_line.specs.declared.table.CommandName.TheVariants as commands
 use Rattle.trust_desk.specs.declared.requests.Report.TheVariants as reports
 
 -- `--today DAY`, required
@@ -57,25 +55,9 @@ with_operands app (operand ∷ rest) = with_operands (with_rule app (operand_rul
 abbrev pub command_app : Text → List Text → App
 command_app name operands = with_operands (new_app name) operands
 
--- the commands that are no reports: `sheet`, `import FILE`, `match FILE`, `stream`, `serve PORT COUNT`, `check`
-unfoldable pub run_apps : List App
-run_apps = command_app (codes "sheet") [] ∷ command_app (codes "import") (codes "FILE" ∷ [])
-    ∷ command_app (codes "match") (codes "FILE" ∷ []) ∷ command_app (codes "stream") []
-    ∷ command_app (codes "serve") (codes "PORT" ∷ codes "COUNT" ∷ []) ∷ command_app (codes "check") [] ∷ []
-
--- the commands of reports: `reconcile DAY`, `clients DAY`, `outstanding DAY`, `receipts FROM TO`,
--- `disbursements FROM TO`, `month DAY`, `trial`, `journal`, `retention`, `exceptions`, `ledger MATTER`,
--- `account MATTER FROM TO`; after `ledger` there may be the word FIRM instead of a matter's number
-unfoldable pub report_apps : List App
-report_apps = command_app (codes "reconcile") (codes "DAY" ∷ []) ∷ command_app (codes "clients") (codes "DAY" ∷ [])
-    ∷ command_app (codes "outstanding") (codes "DAY" ∷ [])
-    ∷ command_app (codes "receipts") (codes "FROM" ∷ codes "TO" ∷ [])
-    ∷ command_app (codes "disbursements") (codes "FROM" ∷ codes "TO" ∷ [])
-    ∷ command_app (codes "month") (codes "DAY" ∷ [])
-    ∷ command_app (codes "trial") []
-    ∷ command_app (codes "journal") [] ∷ command_app (codes "retention") [] ∷ command_app (codes "exceptions") []
-    ∷ command_app (codes "ledger") (codes "MATTER" ∷ [])
-    ∷ command_app (codes "account") (codes "MATTER" ∷ codes "FROM" ∷ codes "TO" ∷ []) ∷ []
+-- the command as the command line has it
+abbrev pub app_called : CommandName → App
+app_called command = command_app (command_text command) (command_operands command)
 
 -- a command line with these commands added after its own
 abbrev pub with_commands : App → List App → App
@@ -87,15 +69,11 @@ with_commands app (command ∷ rest) = with_commands (with_subcommand app comman
 unfoldable pub program : App
 program =
     on_top (λ s. record s { subcommand_required = true })
-    (with_commands (with_commands options_app run_apps) report_apps)
+    (with_commands options_app (map app_called all_commands))
 
 -- the texts of words
 abbrev pub words_of : List (Bor (List ℕ)) → List Text
 words_of = map (λ s. s.now)
-
--- the commands of a table of names and operands
-abbrev pub apps_of : List (Bor (List ℕ) × Bor (List (Bor (List ℕ)))) → List App
-apps_of = map (λ row. command_app row.0.now (words_of row.1.now))
 
 -- the command line accepts the words, with these values and this command
 pub record IsParse (words : List Text) (matches : ArgMatches) : Type 0 where
@@ -111,33 +89,24 @@ FailsAs words k = IsAmong k (fault_of program words)
 abbrev pub IsRefused : List Text → ErrorKind → Type 0
 IsRefused words k = (k ≡ kind.OutOfMemory) ⊎ FailsAs words k
 
--- the name of the command of a report on the firm
-abbrev pub firm_report_name : Report → Text
-firm_report_name reports.Exceptions = codes "exceptions"
-firm_report_name reports.Trial = codes "trial"
-firm_report_name reports.Journal = codes "journal"
-firm_report_name reports.Retention = codes "retention"
-firm_report_name reports.OwnLedger = codes "ledger"
+-- the command of what is to be printed
+abbrev pub report_command : ReportCommand → CommandName
+report_command (Reconcile day) = commands.Reconcile
+report_command (AsOf report day) = commands.AsOf report
+report_command (Within report period) = commands.Within report
+report_command (Ledger matter) = commands.Firm reports.OwnLedger
+report_command (Account matter period) = commands.Account
+report_command (Firm report) = commands.Firm report
 
--- the name of the command of a report as of a day
-abbrev pub day_report_name : DayReport → Text
-day_report_name day_reports.Clients = codes "clients"
-day_report_name day_reports.Outstanding = codes "outstanding"
-day_report_name day_reports.Month = codes "month"
-
--- the name of the command of a report of a period
-abbrev pub period_report_name : PeriodReport → Text
-period_report_name period_reports.Receipts = codes "receipts"
-period_report_name period_reports.Disbursements = codes "disbursements"
-
--- the name of the command of what is to be printed
-abbrev pub report_name : ReportCommand → Text
-report_name (Reconcile day) = codes "reconcile"
-report_name (AsOf report day) = day_report_name report
-report_name (Within report period) = period_report_name report
-report_name (Ledger matter) = codes "ledger"
-report_name (Account matter period) = codes "account"
-report_name (Firm report) = firm_report_name report
+-- the command of a task
+abbrev pub task_command : Task → CommandName
+task_command tasks.Sheet = commands.Sheet
+task_command (tasks.Import path) = commands.Import
+task_command (tasks.Match path) = commands.Match
+task_command tasks.Stream = commands.Stream
+task_command (tasks.Serve port count) = commands.Serve
+task_command (tasks.Report report) = report_command report
+task_command tasks.Check = commands.Check
 
 -- the values of the command are the two days of a period: the first, and one that is not earlier
 pub record IsPeriodGiven (values : List Row) (period : Span) : Type 0 where
@@ -163,13 +132,7 @@ HasReportOperands values (Firm report) = ⊤
 
 -- the name of a task's command
 abbrev pub task_text : Task → Text
-task_text tasks.Sheet = codes "sheet"
-task_text (tasks.Import path) = codes "import"
-task_text (tasks.Match path) = codes "match"
-task_text tasks.Stream = codes "stream"
-task_text (tasks.Serve port count) = codes "serve"
-task_text (tasks.Report report) = report_name report
-task_text tasks.Check = codes "check"
+task_text task = command_text (task_command task)
 
 -- the given text is that of this port
 abbrev pub IsPortGiven : Option Text → ℕ → Type 0

@@ -1,51 +1,10 @@
 // The advice that is printed for words that mean nothing.
 
-ghost use Rattle.std.specs.Prelude.{◌≡◌, ◌≢◌, ◌⊎◌, IfNone, IfSome, Some};
-ghost use Rattle.command_line.specs.Advice.{advice_text, command_example, command_text, command_usage, wrong_text};
-ghost use Rattle.command_line.specs.declared.advice.CommandName.{CommandName};
+ghost use Rattle.std.specs.Prelude.{Some};
+ghost use Rattle.command_line.specs.Advice.{advice_text, wrong_text};
 
+use crate::table::{CommandName, example_of, usage_of};
 use std::fmt;
-
-/// The commands.
-#[derive(Clone, Copy)]
-pub enum CommandName {
-    /// Run a day sheet.
-    Sheet,
-    /// Import a bank statement.
-    Import,
-    /// Match a bank statement against the book.
-    Match,
-    /// Serve the messages of standard input.
-    Stream,
-    /// Serve the clients of a port.
-    Serve,
-    /// Print the three-way reconciliation.
-    Reconcile,
-    /// Print the list of the clients' ledgers as of a day.
-    Clients,
-    /// Print the outstanding items as of a day.
-    Outstanding,
-    /// Print the journal of receipts of a period.
-    Receipts,
-    /// Print the journal of disbursements of a period.
-    Disbursements,
-    /// Print what is filed at month's end.
-    Month,
-    /// Print the trial balance.
-    Trial,
-    /// Print the journal.
-    Journal,
-    /// Print the retention list.
-    Retention,
-    /// Print the list of exceptions.
-    Exceptions,
-    /// Print a ledger card.
-    Ledger,
-    /// Print a client's statement of account for a period.
-    Account,
-    /// Check the book's rows.
-    Check,
-}
 
 /// The options.
 #[derive(Clone, Copy)]
@@ -95,91 +54,6 @@ pub struct Advice<'a> {
     pub command: Option<CommandName>,
     /// What is wrong, if that is known.
     pub wrong: Option<Wrong<'a>>,
-}
-
-/// Returns the command with this name.
-pub fn command_called(name: &str) -> Option<CommandName>
-    ensures some { IfSome result (λ command. name.now ≡ command_text command) }
-    ensures none { IfNone result ((command : CommandName) → name.now ≢ command_text command) }
-{
-    match name {
-        "sheet" => Some(CommandName::Sheet),
-        "import" => Some(CommandName::Import),
-        "match" => Some(CommandName::Match),
-        "stream" => Some(CommandName::Stream),
-        "serve" => Some(CommandName::Serve),
-        "reconcile" => Some(CommandName::Reconcile),
-        "clients" => Some(CommandName::Clients),
-        "outstanding" => Some(CommandName::Outstanding),
-        "receipts" => Some(CommandName::Receipts),
-        "disbursements" => Some(CommandName::Disbursements),
-        "month" => Some(CommandName::Month),
-        "trial" => Some(CommandName::Trial),
-        "journal" => Some(CommandName::Journal),
-        "retention" => Some(CommandName::Retention),
-        "exceptions" => Some(CommandName::Exceptions),
-        "ledger" => Some(CommandName::Ledger),
-        "account" => Some(CommandName::Account),
-        "check" => Some(CommandName::Check),
-        _ => None,
-    }
-}
-
-// Returns how a command is written after the options.
-fn usage_of(command: Option<CommandName>) -> &'static str
-    ensures { result.now ≡ command_usage command }
-{
-    match command {
-        None =>
-            "(sheet | import FILE | match FILE | stream | serve PORT COUNT | reconcile DAY | clients DAY | \
-            outstanding DAY | receipts FROM TO | disbursements FROM TO | month DAY | \
-            trial | journal | retention | exceptions | ledger MATTER|FIRM | \
-            account MATTER FROM TO | check)",
-        Some(CommandName::Sheet) => "sheet",
-        Some(CommandName::Import) => "import FILE",
-        Some(CommandName::Match) => "match FILE",
-        Some(CommandName::Stream) => "stream",
-        Some(CommandName::Serve) => "serve PORT COUNT",
-        Some(CommandName::Reconcile) => "reconcile DAY",
-        Some(CommandName::Clients) => "clients DAY",
-        Some(CommandName::Outstanding) => "outstanding DAY",
-        Some(CommandName::Receipts) => "receipts FROM TO",
-        Some(CommandName::Disbursements) => "disbursements FROM TO",
-        Some(CommandName::Month) => "month DAY",
-        Some(CommandName::Trial) => "trial",
-        Some(CommandName::Journal) => "journal",
-        Some(CommandName::Retention) => "retention",
-        Some(CommandName::Exceptions) => "exceptions",
-        Some(CommandName::Ledger) => "ledger MATTER|FIRM",
-        Some(CommandName::Account) => "account MATTER FROM TO",
-        Some(CommandName::Check) => "check",
-    }
-}
-
-// Returns an example of a command.
-fn example_of(command: Option<CommandName>) -> &'static str
-    ensures { result.now ≡ command_example command }
-{
-    match command {
-        None | Some(CommandName::Reconcile) => "reconcile 2026-03-31",
-        Some(CommandName::Sheet) => "sheet < day.csv",
-        Some(CommandName::Import) => "import statement.csv",
-        Some(CommandName::Match) => "match bank.csv > statement.csv",
-        Some(CommandName::Stream) => "stream < messages.http",
-        Some(CommandName::Serve) => "serve 8080 100",
-        Some(CommandName::Clients) => "clients 2026-03-31",
-        Some(CommandName::Outstanding) => "outstanding 2026-03-31",
-        Some(CommandName::Receipts) => "receipts 2026-03-01 2026-03-31",
-        Some(CommandName::Disbursements) => "disbursements 2026-03-01 2026-03-31",
-        Some(CommandName::Month) => "month 2026-03-31",
-        Some(CommandName::Trial) => "trial",
-        Some(CommandName::Journal) => "journal",
-        Some(CommandName::Retention) => "retention",
-        Some(CommandName::Exceptions) => "exceptions",
-        Some(CommandName::Ledger) => "ledger 000001",
-        Some(CommandName::Account) => "account 000001 2026-03-01 2026-03-31",
-        Some(CommandName::Check) => "check",
-    }
 }
 
 impl fmt::Display for Wrong<'_> {

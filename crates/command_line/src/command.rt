@@ -1,19 +1,20 @@
 // The plan of a run, given by the words of the command line, and the command line as clap's parser takes it.
 
-ghost use Rattle.std.specs.Prelude.{◌≡◌, ℕ, false, IfErr, IfOk, IfSome, IfNone, codes, option_and_then, option_map};
+ghost use Rattle.std.specs.Prelude.{◌≡◌, ℕ, false, IfErr, IfOk, IfSome, IfNone, codes, map};
+ghost use Rattle.std.specs.Prelude.{option_and_then, option_map};
 ghost use Rattle.std.specs.Str.{bytes_eq};
 ghost use Rattle.clap.specs.Words.{app_of, first_of, found_of, kind_of, rows_of, with_rule};
 ghost use Rattle.clap.specs.declared.builder.command.Command.TheViews.{out-Command};
 ghost use Rattle.trust_base.specs.Texts.{day_of};
-ghost use Rattle.command_line.specs.Commands.{IsTaskOf, day_report_command, option_rule, period_report_command};
+ghost use Rattle.command_line.specs.Commands.{IsTaskOf, option_rule};
 ghost use Rattle.command_line.specs.Numerals.{IsCount, IsNumberBetween, IsPort};
 ghost use Rattle.trust_base.specs.Periods.{Span};
 ghost use Rattle.command_line.specs.Program.{IsParse, IsPeriodGiven, IsRefused, IsTask, LeavesNoPlan, Means};
-ghost use Rattle.command_line.specs.Program.{apps_of, command_app, db_of, fault_by, program, quiet_of};
+ghost use Rattle.command_line.specs.Program.{app_called, command_app, db_of, fault_by, program, quiet_of};
 ghost use Rattle.command_line.specs.Program.{with_commands, words_of};
 ghost use Rattle.command_line.specs.declared.command.Task.{Task};
 
-use crate::advice::{CommandName, command_called};
+use crate::table::{COMMANDS, CommandName, command_called, form_of};
 use clap::error::{Error, ErrorKind};
 use clap::{Arg, ArgAction, ArgMatches, Command};
 use itoa::Buffer;
@@ -170,9 +171,9 @@ pub fn is_firm(text: &str) -> bool
 // Returns the task of printing a report as of the operand DAY; `None` without it, or if it is not a day.
 #[tactic(auto, using(crate::proofs::Values::values_read))]
 fn day_report<'a>(report: DayReport, values: &ArgMatches<'a>) -> Option<Task<'a>>
-    ensures some { IfSome result (IsTaskOf (day_report_command report) (rows_of (found_of values.now))) }
+    ensures some { IfSome result (IsTaskOf (CommandName.AsOf report) (rows_of (found_of values.now))) }
     ensures none { IfNone result
-        ((task : Task) → ¬ IsTaskOf (day_report_command report) (rows_of (found_of values.now)) task) }
+        ((task : Task) → ¬ IsTaskOf (CommandName.AsOf report) (rows_of (found_of values.now)) task) }
 {
     let day = day_operand(values, "DAY")?;
     Some(Task::Report(ReportCommand::AsOf(report, day)))
@@ -180,9 +181,9 @@ fn day_report<'a>(report: DayReport, values: &ArgMatches<'a>) -> Option<Task<'a>
 
 // Returns the task of printing a report of the period of the operands FROM and TO; `None` if they give none.
 fn period_report<'a>(report: PeriodReport, values: &ArgMatches<'a>) -> Option<Task<'a>>
-    ensures some { IfSome result (IsTaskOf (period_report_command report) (rows_of (found_of values.now))) }
+    ensures some { IfSome result (IsTaskOf (CommandName.Within report) (rows_of (found_of values.now))) }
     ensures none { IfNone result
-        ((task : Task) → ¬ IsTaskOf (period_report_command report) (rows_of (found_of values.now)) task) }
+        ((task : Task) → ¬ IsTaskOf (CommandName.Within report) (rows_of (found_of values.now)) task) }
 {
     let period = period_operand(values)?;
     Some(Task::Report(ReportCommand::Within(report, period)))
@@ -203,8 +204,9 @@ fn serving<'a>(values: &ArgMatches<'a>) -> Option<Task<'a>>
 // Returns the task of printing the ledger card of the operand MATTER, which may be the firm's own.
 #[tactic(auto, using(crate::proofs::Values::values_read))]
 fn ledger_card<'a>(values: &ArgMatches<'a>) -> Option<Task<'a>>
-    ensures some { IfSome result (IsTaskOf CommandName.Ledger (rows_of (found_of values.now))) }
-    ensures none { IfNone result ((task : Task) → ¬ IsTaskOf CommandName.Ledger (rows_of (found_of values.now)) task) }
+    ensures some { IfSome result (IsTaskOf (CommandName.Firm Report.OwnLedger) (rows_of (found_of values.now))) }
+    ensures none { IfNone result
+        ((task : Task) → ¬ IsTaskOf (CommandName.Firm Report.OwnLedger) (rows_of (found_of values.now)) task) }
 {
     let card = values.get_str("MATTER")?;
     if is_firm(card) {
@@ -241,16 +243,10 @@ fn task_of<'a>(command: CommandName, values: &ArgMatches<'a>) -> Option<Task<'a>
             let day = day_operand(values, "DAY")?;
             Some(Task::Report(ReportCommand::Reconcile(day)))
         }
-        CommandName::Clients => day_report(DayReport::Clients, values),
-        CommandName::Outstanding => day_report(DayReport::Outstanding, values),
-        CommandName::Receipts => period_report(PeriodReport::Receipts, values),
-        CommandName::Disbursements => period_report(PeriodReport::Disbursements, values),
-        CommandName::Month => day_report(DayReport::Month, values),
-        CommandName::Trial => Some(Task::Report(ReportCommand::Firm(Report::Trial))),
-        CommandName::Journal => Some(Task::Report(ReportCommand::Firm(Report::Journal))),
-        CommandName::Retention => Some(Task::Report(ReportCommand::Firm(Report::Retention))),
-        CommandName::Exceptions => Some(Task::Report(ReportCommand::Firm(Report::Exceptions))),
-        CommandName::Ledger => ledger_card(values),
+        CommandName::AsOf(report) => day_report(report, values),
+        CommandName::Within(report) => period_report(report, values),
+        CommandName::Firm(Report::OwnLedger) => ledger_card(values),
+        CommandName::Firm(report) => Some(Task::Report(ReportCommand::Firm(report))),
         CommandName::Account => account(values),
     }
 }
@@ -263,28 +259,6 @@ fn task_called<'a>(name: &str, values: &ArgMatches<'a>) -> Option<Task<'a>>
     let command = command_called(name)?;
     task_of(command, values)
 }
-
-// The commands, each with the names of its operands: those that print no report, and those that print one.
-const COMMANDS: &[(&str, &[&str])] = &[
-    ("sheet", &[]),
-    ("import", &["FILE"]),
-    ("match", &["FILE"]),
-    ("stream", &[]),
-    ("serve", &["PORT", "COUNT"]),
-    ("check", &[]),
-    ("reconcile", &["DAY"]),
-    ("clients", &["DAY"]),
-    ("outstanding", &["DAY"]),
-    ("receipts", &["FROM", "TO"]),
-    ("disbursements", &["FROM", "TO"]),
-    ("month", &["DAY"]),
-    ("trial", &[]),
-    ("journal", &[]),
-    ("retention", &[]),
-    ("exceptions", &[]),
-    ("ledger", &["MATTER"]),
-    ("account", &["MATTER", "FROM", "TO"]),
-];
 
 // Makes a command with required operands.
 fn make_command<'a>(
@@ -305,17 +279,18 @@ fn make_command<'a>(
     Ok(command)
 }
 
-// Adds the commands of a table of names and operands, in the table's order.
+// Adds commands, in their order.
 fn with_commands<'a>(
     alloc: Global,
     mut program: Command<'a>,
-    table: &[(&'a str, &'a [&'a str])],
+    commands: &[CommandName],
 ) -> Result<Command<'a>, AllocError>
-    ensures { IfOk result (λ c. app_of c ≡ with_commands (app_of program.entry) (apps_of table.now)) }
+    ensures { IfOk result (λ c. app_of c ≡ with_commands (app_of program.entry) (map app_called commands.now)) }
 {
-    for row in table {
-        let command = make_command(alloc, row.0, row.1)?;
-        program = program.subcommand(command)?;
+    for command in commands {
+        let form = form_of(*command);
+        let made = make_command(alloc, form.name, form.operands)?;
+        program = program.subcommand(made)?;
     }
     Ok(program)
 }
@@ -338,7 +313,7 @@ fn with_option<'a>(
     command.arg(option)
 }
 
-// Makes the command line: its options, the commands that print no report and those that print one.
+// Makes the command line: its options and its commands.
 fn make_program<'a>(alloc: Global) -> Result<Command<'a>, AllocError>
     ensures { IfOk result (λ c. app_of c ≡ program) }
 {

@@ -6,17 +6,19 @@ ghost use Rattle.std.specs.List.{list_any};
 ghost use Rattle.clap.specs.Words.{fault_of, first_of, found_of, rows_of, subcommand_rows_of};
 ghost use Rattle.trust_base.specs.Texts.{day_of, matter_of};
 ghost use Rattle.command_line.specs.Advice.{IsFront, IsNoPeriod, IsWrong, IsWrongOperand, IsWrongPeriod, IsWrongToday};
-ghost use Rattle.command_line.specs.Advice.{IsWrongValue, LacksValue, LacksValueAt, Names, command_text, front_by};
+ghost use Rattle.command_line.specs.Advice.{IsWrongValue, LacksValue, LacksValueAt, Names, front_by};
 ghost use Rattle.command_line.specs.Advice.{last_setting, names_day, setting_named};
 ghost use Rattle.command_line.specs.Numerals.{IsCount, IsPort};
 ghost use Rattle.command_line.specs.Program.{IsRefused, program, words_of};
 
-use crate::advice::{Advice, CommandName, Setting, Wrong, command_called};
+use crate::advice::{Advice, Setting, Wrong};
 use crate::command::{count_of, is_firm, parse, port_of};
+use crate::table::{CommandName, command_called};
 use clap::ArgMatches;
 use clap::error::ErrorKind;
 use std::alloc::Global;
 use trust_base::{Day, MatterNo, Period};
+use trust_desk::Report;
 
 // Returns the kind of error with which the command line refuses the words, if it does. Out of memory is one of them.
 fn failure_of<'a>(alloc: Global, words: &'a [&'a str]) -> Option<ErrorKind>
@@ -262,15 +264,12 @@ fn wrong_period<'a>(values: &ArgMatches<'a>) -> Option<Wrong<'a>>
 // Returns the wrong operand of a command with these values.
 #[tactic(auto, using(crate::proofs::Values::values_read))]
 fn wrong_operand<'a>(command: CommandName, values: &ArgMatches<'a>) -> Option<Wrong<'a>>
-    ensures { IfSome result (IsWrongOperand (command_text command) (rows_of (found_of values.now))) }
+    ensures { IfSome result (IsWrongOperand command (rows_of (found_of values.now))) }
 {
     match command {
-        CommandName::Reconcile
-        | CommandName::Clients
-        | CommandName::Outstanding
-        | CommandName::Month => no_day(values.get_str("DAY")?),
-        CommandName::Receipts | CommandName::Disbursements => wrong_period(values),
-        CommandName::Ledger => no_card(values.get_str("MATTER")?),
+        CommandName::Reconcile | CommandName::AsOf(_) => no_day(values.get_str("DAY")?),
+        CommandName::Within(_) => wrong_period(values),
+        CommandName::Firm(Report::OwnLedger) => no_card(values.get_str("MATTER")?),
         CommandName::Account => match no_matter(values.get_str("MATTER")?) {
             Some(wrong) => Some(wrong),
             None => wrong_period(values),
@@ -283,10 +282,7 @@ fn wrong_operand<'a>(command: CommandName, values: &ArgMatches<'a>) -> Option<Wr
         | CommandName::Import
         | CommandName::Match
         | CommandName::Stream
-        | CommandName::Trial
-        | CommandName::Journal
-        | CommandName::Retention
-        | CommandName::Exceptions
+        | CommandName::Firm(_)
         | CommandName::Check => None,
     }
 }

@@ -29,10 +29,12 @@ mod advice;
 mod command;
 mod faults;
 pub mod laws;
+mod table;
 
-pub use advice::{Advice, CommandName, Setting, Wrong};
+pub use advice::{Advice, Setting, Wrong};
 pub use command::{
     CliFault, MAX_COUNT, MAX_PORT, MIN_PORT, Plan, ReportCommand, Task, command_of, count_of,
     is_firm, parse, port_of,
 };
 pub use faults::advice_of;
+pub use table::CommandName;

@@ -1,5 +1,5 @@
-use Rattle.command_line.proofs.Names.{◌≡◌, drop, app_of, apps_of, with_commands}
+use Rattle.command_line.proofs.Names.{◌≡◌, drop, map, app_of, app_called, with_commands}
 use Rattle.command_line.proofs.command.with_commands.Given as goal
 
-abbrev pub invariant-loop-row : goal.invariant-loop-row
-invariant-loop-row l = with_commands (app_of l.program) (apps_of (drop l.row-index l.table)) ≡ with_commands (app_of l.fn.program) (apps_of l.table)
+abbrev pub invariant-loop-command : goal.invariant-loop-command
+invariant-loop-command l = with_commands (app_of l.program) (map app_called (drop l.command-index l.commands)) ≡ with_commands (app_of l.fn.program) (map app_called l.commands)

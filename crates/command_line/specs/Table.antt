@@ -1,0 +1,83 @@
+-- The commands, and how each is typed.
+use Rattle.std.specs.Prelude.{◌++◌, List, [], ◌∷◌, Option, Some, None, codes}
+use Rattle.clap.specs.Words.{Text}
+use Rattle.command_line.specs.declared.table.CommandName.{CommandName}
+use Rattle.command_line.specs.declared.table.CommandName.TheVariants as commands
+use Rattle.trust_desk.specs.declared.requests.DayReport.TheVariants as day_reports
+use Rattle.trust_desk.specs.declared.requests.PeriodReport.TheVariants as period_reports
+use Rattle.trust_desk.specs.declared.requests.Report.TheVariants as reports
+
+-- how a command is typed
+pub record Form : Type 0 where
+  -- its name
+  pub name : Text
+  -- the names of its operands
+  pub operands : List Text
+  -- how a usage has it
+  pub usage : Text
+  -- the command as it may be typed
+  pub example : Text
+
+abbrev form : Text → List Text → Text → Text → Form
+form name operands usage example = record { name = name; operands = operands; usage = usage; example = example }
+
+-- how each command is typed; after `ledger` there may be the word FIRM instead of a matter's number
+abbrev pub form_of : CommandName → Form
+form_of commands.Sheet = form (codes "sheet") [] (codes "sheet") (codes "sheet < day.csv")
+form_of commands.Import = form (codes "import") (codes "FILE" ∷ [])
+    (codes "import FILE") (codes "import statement.csv")
+form_of commands.Match = form (codes "match") (codes "FILE" ∷ [])
+    (codes "match FILE") (codes "match bank.csv > statement.csv")
+form_of commands.Stream = form (codes "stream") [] (codes "stream") (codes "stream < messages.http")
+form_of commands.Serve = form (codes "serve") (codes "PORT" ∷ codes "COUNT" ∷ [])
+    (codes "serve PORT COUNT") (codes "serve 8080 100")
+form_of commands.Check = form (codes "check") [] (codes "check") (codes "check")
+form_of commands.Reconcile = form (codes "reconcile") (codes "DAY" ∷ [])
+    (codes "reconcile DAY") (codes "reconcile 2026-03-31")
+form_of (commands.AsOf day_reports.Clients) = form (codes "clients") (codes "DAY" ∷ [])
+    (codes "clients DAY") (codes "clients 2026-03-31")
+form_of (commands.AsOf day_reports.Outstanding) = form (codes "outstanding") (codes "DAY" ∷ [])
+    (codes "outstanding DAY") (codes "outstanding 2026-03-31")
+form_of (commands.Within period_reports.Receipts) = form (codes "receipts") (codes "FROM" ∷ codes "TO" ∷ [])
+    (codes "receipts FROM TO") (codes "receipts 2026-03-01 2026-03-31")
+form_of (commands.Within period_reports.Disbursements) = form (codes "disbursements") (codes "FROM" ∷ codes "TO" ∷ [])
+    (codes "disbursements FROM TO") (codes "disbursements 2026-03-01 2026-03-31")
+form_of (commands.AsOf day_reports.Month) = form (codes "month") (codes "DAY" ∷ [])
+    (codes "month DAY") (codes "month 2026-03-31")
+form_of (commands.Firm reports.Trial) = form (codes "trial") [] (codes "trial") (codes "trial")
+form_of (commands.Firm reports.Journal) = form (codes "journal") [] (codes "journal") (codes "journal")
+form_of (commands.Firm reports.Retention) = form (codes "retention") [] (codes "retention") (codes "retention")
+form_of (commands.Firm reports.Exceptions) = form (codes "exceptions") [] (codes "exceptions") (codes "exceptions")
+form_of (commands.Firm reports.OwnLedger) = form (codes "ledger") (codes "MATTER" ∷ [])
+    (codes "ledger MATTER|FIRM") (codes "ledger 000001")
+form_of commands.Account = form (codes "account") (codes "MATTER" ∷ codes "FROM" ∷ codes "TO" ∷ [])
+    (codes "account MATTER FROM TO") (codes "account 000001 2026-03-01 2026-03-31")
+
+-- the commands in the order of the command line
+unfoldable pub all_commands : List CommandName
+all_commands = commands.Sheet ∷ commands.Import ∷ commands.Match ∷ commands.Stream ∷ commands.Serve
+    ∷ commands.Check ∷ commands.Reconcile ∷ commands.AsOf day_reports.Clients
+    ∷ commands.AsOf day_reports.Outstanding ∷ commands.Within period_reports.Receipts
+    ∷ commands.Within period_reports.Disbursements ∷ commands.AsOf day_reports.Month
+    ∷ commands.Firm reports.Trial ∷ commands.Firm reports.Journal ∷ commands.Firm reports.Retention
+    ∷ commands.Firm reports.Exceptions ∷ commands.Firm reports.OwnLedger ∷ commands.Account ∷ []
+
+-- the name of a command
+abbrev pub command_text : CommandName → Text
+command_text command = (form_of command).name
+
+-- the names of its operands
+abbrev pub command_operands : CommandName → List Text
+command_operands command = (form_of command).operands
+
+-- how a command is written after the options; without a command, all of them
+abbrev pub command_usage : Option CommandName → Text
+command_usage None = codes "(sheet | import FILE | match FILE | stream | serve PORT COUNT | reconcile DAY | "
+    ++ codes "clients DAY | outstanding DAY | receipts FROM TO | disbursements FROM TO | month DAY | "
+    ++ codes "trial | journal | retention | exceptions | ledger MATTER|FIRM | account MATTER FROM TO | check)"
+command_usage (Some command) = (form_of command).usage
+
+-- a command as it may be typed
+abbrev pub command_example : Option CommandName → Text
+command_example None = codes "reconcile 2026-03-31"
+command_example (Some command) = (form_of command).example
