@@ -14,8 +14,11 @@ const numbersIn = (text) => new Set((text.match(/\d+/g) ?? []).map((each) => eac
 
 const sumOf = (entries) => entries.reduce((sum, { amount }) => sum + cents(amount), 0n);
 
-// The references that a reason names.
-export const referencesIn = (reason) => [...new Set(reason.match(/M\d{6}-\d{4}(?!\d)/gu) ?? [])];
+// The entries that the desk's reason lists.
+export const listedIn = (reason) => [...reason.entries?.listed ?? [],
+    ...(reason.exceptions?.listed ?? []).map(({ entry }) => entry).filter(Boolean)];
+
+const referencesIn = (reason) => [...listedIn(reason), reason].map(({ reference }) => reference).filter(Boolean);
 
 // The entries that wait and have the line's amount.
 export const ofItsAmount = (entries, { amount }) => entries.filter((each) => each.amount === amount);
@@ -29,11 +32,11 @@ export const missingTo = ({ amount }, entries) => (isAmount(amount) ? amountOf(c
 
 const makesIt = (line, entries) => entries.length > 1 && missingTo(line, entries) === '0.00';
 
-// Several entries that are together the line's amount: those that the reason names, or those whose words have a number
+// Several entries that are together the line's amount: those that the reasons name, or those whose words have a number
 // of the line's own. Else nothing.
-export function together(entries, line, reason) {
+export function together(entries, line, reasons) {
     const side = onItsSide(entries, line);
-    const named = new Set(referencesIn(reason));
+    const named = new Set(reasons.flatMap(referencesIn));
     const numbers = numbersIn(line.text);
     const sets = [side.filter(({ reference }) => named.has(reference)),
         side.filter(({ words }) => [...numbersIn(words)].some((each) => numbers.has(each)))];

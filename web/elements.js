@@ -62,6 +62,12 @@ export const label = (text) => [
     isMixed(text) && el('span', { class: 'warning' }, ' (letters of two alphabets)'),
 ];
 
+// An entry's reference leads to it.
+export function referenceLink(reference) {
+    const at = /^M(\d{6})-(\d{4})$/.exec(reference);
+    return at ? link(`#/m/${at[1]}/e/${at[2]}`, number(reference)) : reference && label(reference);
+}
+
 // A list of names and values; a pair without a value is left out.
 export const facts = (pairs) => el('dl', { class: 'facts' }, pairs.filter((pair) => pair && isThere(pair[1])).map(
     ([name, ...value]) => el('div', {}, el('dt', {}, name), el('dd', {}, ...value)),

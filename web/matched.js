@@ -6,9 +6,6 @@ import { textOf } from './csv.js';
 const MATCH = '/firm/statements/match';
 const UNMATCHED = '/firm/statements/unmatched';
 
-const TOLD = /^record (\d+)(, |: )(.*)$/su;
-const COUNTS = /^(\d+) records? written, (\d+) in the book already, (\d+) to be looked at$/u;
-
 // Lines of equal fields are the same line twice, and told by their count alone.
 const keyOf = (line, reference) => JSON.stringify([reference, line.isWhole
     ? [line.date, line.bank_ref, line.amount, line.text] : line.whole]);
@@ -39,33 +36,14 @@ function readWritten(text, file, sent) {
     return linesOf(text).map((line) => ({ ...line, by: by(keyOf(line, line.reference)) }));
 }
 
-// A control character is told as a space.
-const plain = (words) => words.replace(/[\u0000-\u001f\u007f-\u009f]/gu, ' ');
+// Of a record that is no line only its number is told.
+const UNREADABLE = { name: 'Unreadable' };
 
-// The bank's words may look like anything, a reason too. So they are compared with the file, and the reason is what
-// stands behind them; where they are others than in the file, all of it is shown.
-function reasonOf(told, line) {
-    if (!line?.isWhole) return told;
-    const words = line.text && ` ${plain(line.text)}`;
-    const front = `${line.date} ${line.amount}${words}: `;
-    return told.startsWith(front) ? told.slice(front.length) : told;
-}
-
-// Of a record that is no line only its number is told. `line` is null where the file has none of the number; then
-// nothing can be typed into it.
-function readTold(text, sent) {
-    const [, number, mark, told] = TOLD.exec(text) ?? [null, '0', ': ', text];
-    const line = sent[Number(number) - 1] ?? null;
-    return { line, reason: mark === ': ' ? told : reasonOf(told, line) };
-}
-
-// The counts stand in the last line. Lines are split by the line feed alone: the others may stand in the bank's words.
-function readLeft(text, sent) {
-    const lines = text.trimEnd().split('\n');
-    const counts = COUNTS.exec(lines.at(-1));
-    if (!counts) throw new Error(`no counts: ${lines.at(-1)}`);
-    const [written, inBook, left] = counts.slice(1).map(Number);
-    return { written, inBook, left, told: lines.slice(0, -1).map((each) => readTold(each, sent)) };
+// What is to be looked at, each with its reason. `line` is null where the file has none of the number; then nothing can
+// be typed into it.
+function readLeft({ booked, records, written }, sent) {
+    const told = records.map(({ number, reason = UNREADABLE }) => ({ line: sent[number - 1] ?? null, reason }));
+    return { written, inBook: booked, left: records.length, told };
 }
 
 async function askBoth(page, file) {
@@ -81,7 +59,7 @@ export async function matchFile(page, file) {
         if (!unmatched.isDone) return { refused: unmatched };
         const sent = file.sent();
         const lines = readWritten(textOf(statement.bytes), file, sent);
-        const left = readLeft(unmatched.text, sent);
+        const left = readLeft(unmatched.body, sent);
         if (left.written === lines.length || tries === 0) return { bytes: statement.bytes, lines, ...left };
     }
 }
@@ -109,7 +87,7 @@ export async function areInBook(page, fields) {
     const statement = await page.desk.post(MATCH, body);
     const unmatched = await page.desk.post(UNMATCHED, body);
     if (!statement.isDone || !unmatched.isDone) return fields.map(() => false);
-    const told = readLeft(unmatched.text, linesOf(textOf(body))).told.map(({ line }) => line).filter(Boolean);
+    const told = readLeft(unmatched.body, linesOf(textOf(body))).told.map(({ line }) => line).filter(Boolean);
     const open = new Set([...linesOf(textOf(statement.bytes)), ...told].map(lineKey));
     return fields.map((each) => !open.has(lineKey(each)));
 }

@@ -300,24 +300,42 @@ def see_spiteful_words(bank: Bank) -> None:
     bank.put_away()
 
 
-# Reasons that begin alike, and the words of the advice on each.
-ALIKE = (
-    ("no entry of its amount", "Book what is missing"),
-    ("no entry of its amount; the deposits of 2026-03-12 are together its amount: M000001-0001 held 2026-03-12 Ada",
+ENTRY = {"reference": "M000001-0001", "state": "held", "day": "2026-03-12", "bank_ref": None, "party": "Ada",
+         "amount": "5.00"}
+ENTRIES = {"count": 1, "listed": [ENTRY]}
+HELD = "M000001-0001 held 2026-03-12 Ada"
+
+# Reasons as the desk has them, and the words and the advice for each; a name that the page does not know is shown.
+LEFT = (
+    ({"name": "NoneOfItsAmount"}, "no entry of its amount", "Book what is missing"),
+    ({"name": "Together", "day": "2026-03-12", "entries": ENTRIES},
+     f"no entry of its amount; the deposits of 2026-03-12 are together its amount: {HELD}",
      "If the slip has these, use them."),
-    ("it shows M000001-0001, which another record names", "The bank shows an entry once."),
-    ("it shows an entry of another amount: M000001-0001 held 2026-03-12 Ada, 5.00", "Then split the line."),
-    ("what nobody has told yet", ""),
+    ({"name": "Claimed", "reference": "M000001-0001"}, "it shows M000001-0001, which another record names",
+     "The bank shows an entry once."),
+    ({"name": "OfAnotherAmount", "entries": {"count": 7, "listed": [ENTRY]}},
+     f"it shows an entry of another amount: {HELD} 5.00; and 6 more", "Then split the line."),
+    ({"name": "Shared", "records": {"count": 2, "listed": [6, 16]}, "reference": "M000001-0001"},
+     "records 6 and 16 show M000001-0001", "The bank shows an entry once."),
+    ({"name": "IsException", "entries": {"count": 0, "listed": []}, "exceptions": {"count": 1, "listed": [
+        {"entry": {**ENTRY, "state": "cleared", "bank_ref": "B2"}, "misfit": "NotWaiting",
+         "reference": "M000001-0001"}]}},
+     "it is an exception under M000001-0001 (not waiting for the bank: cleared 2026-03-12 B2 Ada); dismiss takes an "
+     "exception away", "It was imported before"),
+    ({"name": "what nobody has told yet"}, "what nobody has told yet", ""),
 )
 
 
 def advise(bank: Bank) -> None:
     """What the page's own module says of reasons that no file here has."""
-    script = "import('/page/reasons.js').then(({ adviceOn }) => done(adviceOn(arguments[0])), String)"
-    for reason, words in ALIKE:
-        advice = bank.browser.wait(script, reason)
-        is_so = words in advice if words else not advice
-        bank.checks.so(f"the advice on {reason!r} has {words!r}, or is none", is_so, advice)
+    script = ("import('/page/reasons.js').then(({ adviceOn, whyLeft }) => done([adviceOn(arguments[0]), "
+              "whyLeft(arguments[0]).flat(Infinity).filter(Boolean).map((part) => part.textContent ?? part).join('')]), "
+              "String)")
+    for reason, words, advice in LEFT:
+        told = bank.browser.wait(script, reason)
+        bank.checks.same(f"why a line with the reason {reason} is left", told[1], words)
+        is_so = advice in told[0] if advice else not told[0]
+        bank.checks.so(f"the advice on {words!r} has {advice!r}, or is none", is_so, told[0])
 
 
 # Reasons of exceptions as the desk has them, and the words for each; a name that the page does not know is shown.

@@ -4,13 +4,12 @@
 import { grouped } from '../amounts.js';
 import { noteBox, refusedBox } from '../boxes.js';
 import { accountPath } from '../desk.js';
-import { el, label, money, number, p, printed, strong } from '../elements.js';
+import { el, label, money, number, p, printed, referenceLink, strong } from '../elements.js';
 import { clockDay, daysBetween, shown } from '../names.js';
 import { readAccount } from '../reports.js';
 import { column, longTable } from '../tables.js';
 import { MOVED } from '../words.js';
 import { knownClosings } from './closings.js';
-import { referenceLink } from './left.js';
 import { backTo, readMatterWhole } from './matter.js';
 import { periodForm } from './periods.js';
 

@@ -6,13 +6,12 @@ import { change } from '../asks.js';
 import { BankFile } from '../bank-file.js';
 import { doneBox, noteBox, refusedBox } from '../boxes.js';
 import { textOf } from '../csv.js';
-import { button, el, label, money, number, p } from '../elements.js';
+import { button, el, label, money, number, p, referenceLink } from '../elements.js';
 import { askExceptions, fieldsOf, isEntry } from '../exceptions.js';
 import { areInBook, openFile } from '../matched.js';
 import { whyException } from '../reasons.js';
 import { FILE } from '../shelf.js';
 import { column, longTable } from '../tables.js';
-import { referenceLink } from './left.js';
 
 const PATH = '/firm/exceptions/dismiss';
 const HERE = '#/report/exceptions';

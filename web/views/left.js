@@ -4,8 +4,8 @@
 import { grouped } from '../amounts.js';
 import { readReference } from '../bank-file.js';
 import { leftOfOwn, missingTo, ofItsAmount, onItsSide, together } from '../candidates.js';
-import { button, el, label, link, money, number, p, quiet, strong } from '../elements.js';
-import { adviceOn } from '../reasons.js';
+import { button, el, label, money, number, p, quiet, referenceLink, strong } from '../elements.js';
+import { adviceOn, whyLeft } from '../reasons.js';
 import { column, table } from '../tables.js';
 
 // So many lines are shown at first, and so many entries of each.
@@ -14,25 +14,9 @@ const ENTRIES = 5;
 
 const WRONG = "Write FIRM, or an entry's reference such as M000001-0001.";
 
-const entryAt = (reference) => /^M(\d{6})-(\d{4})$/.exec(reference);
-
-// A reference leads to its entry.
-export function referenceLink(reference) {
-    const at = entryAt(reference);
-    return at ? link(`#/m/${at[1]}/e/${at[2]}`, number(reference)) : reference && label(reference);
-}
-
 // As in the file, where it is no day or no amount.
 export const dayOf = (date) => (/^\d{4}-\d\d-\d\d$/.test(date) ? number(date) : label(date));
 export const amountOf = (amount) => (/^-?\d+\.\d\d$/.test(amount) ? money(amount) : label(amount));
-const amountOrDay = (part) => (/^-?\d+\.\d\d$/.test(part) ? money(part) : dayOf(part));
-
-// The parts of a reason that are not broken: references, days, and what the firm's own money would be.
-const PARTS = /(M\d{6}-\d{4}|\d{4}-\d\d-\d\d|(?<=^the firm's own money would be )-?\d+\.\d\d)/u;
-
-// The entries that a reason names can be looked at.
-const reasonWords = (reason) => reason.split(PARTS).map((part) =>
-    (entryAt(part) ? referenceLink(part) : amountOrDay(part)));
 
 const ENTRY_COLUMNS = [column('Reference', 'tight'), column('Client'), column('Day', 'tight'), column('Details'),
     column('Amount', 'right'), column('Use', 'tight')];
@@ -87,7 +71,7 @@ class Line {
         this.element.replaceChildren(...[
             el('h3', {}, amountOf(amount), ' on ', dayOf(date), ' ', el('span', { class: 'quiet' }, `record ${no}`)),
             text && p(label(text)),
-            this.reasons.map((reason) => [p(reasonWords(reason)), el('p', { class: 'hint' }, adviceOn(reason))]),
+            this.reasons.map((reason) => [p(whyLeft(reason)), el('p', { class: 'hint' }, adviceOn(reason))]),
             this.list.wasException(this.line),
             this.decided() ?? this.choices(),
         ].flat(Infinity).filter(Boolean));
@@ -142,7 +126,7 @@ class Line {
                 : 'Reading what waits for the bank\u2026');
         }
         const same = ofItsAmount(entries, this.line);
-        const set = together(entries, this.line, this.reasons.join('\n'));
+        const set = together(entries, this.line, this.reasons);
         const useOf = ({ reference }) => {
             const made = button('Use this', () => this.use(reference));
             made.setAttribute('aria-label', `Use ${reference} for record ${this.line.number}`);
@@ -213,10 +197,10 @@ class Line {
 const unreadable = ({ line, reasons }) => el('li', { class: 'line' },
     line && el('h3', {}, `Record ${line.number}`),
     line && p(label(line.whole)),
-    reasons.map((reason) => [p(reasonWords(reason)), el('p', { class: 'hint' }, adviceOn(reason))]),
+    reasons.map((reason) => [p(whyLeft(reason)), el('p', { class: 'hint' }, adviceOn(reason))]),
     quiet('It is mended in the file itself.'));
 
-const TYPED = 'Decided here. It would be imported so.';
+const DECIDED = { name: 'Decided' };
 
 // What is to be looked at, and what was decided here already, in the order of the file: each line once.
 function itemsOf(file, told) {
@@ -225,7 +209,7 @@ function itemsOf(file, told) {
     for (const { line, reason } of told.filter((each) => each.line)) {
         byNumber.set(line.number, [...(byNumber.get(line.number) ?? []), reason]);
     }
-    for (const { number: no } of file.lines) if (file.isNamed(no) && !byNumber.has(no)) byNumber.set(no, [TYPED]);
+    for (const { number: no } of file.lines) if (file.isNamed(no) && !byNumber.has(no)) byNumber.set(no, [DECIDED]);
     const items = [...byNumber].map(([no, reasons]) => ({ line: file.lines[no - 1], reasons }));
     return [...nowhere, ...items.sort((one, other) => one.line.number - other.line.number)];
 }

@@ -1,9 +1,9 @@
 // What became of the bank's file: what would be imported, and the counts.
 
 import { noteBox } from '../boxes.js';
-import { el, label, p, strong } from '../elements.js';
+import { el, label, p, referenceLink, strong } from '../elements.js';
 import { column, longTable } from '../tables.js';
-import { amountOf, dayOf, referenceLink } from './left.js';
+import { amountOf, dayOf } from './left.js';
 
 // So many lines are shown at first.
 const FIRST = 100;

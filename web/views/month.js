@@ -2,7 +2,7 @@
 
 import { sha256 } from '../bank/sha256.js';
 import { refusedBox } from '../boxes.js';
-import { button, el, explained, label, link, money, number, p, quiet, strong } from '../elements.js';
+import { button, el, explained, label, link, money, number, p, quiet, referenceLink, strong } from '../elements.js';
 import { readPrinted } from '../exceptions.js';
 import { shown } from '../names.js';
 import { readBreaks, readClients, readFigures, readMovements, readPacket, readRemarks } from '../reports.js';
@@ -10,7 +10,6 @@ import { column, table } from '../tables.js';
 import { meansOf } from '../words.js';
 import { COLUMNS as CLIENT_COLUMNS, cellsOf as clientCells } from './clients.js';
 import { closingForm, lookForLast, rememberClosing } from './closings.js';
-import { referenceLink } from './left.js';
 import { JOURNALS, movementsTable, outstandingTables } from './movements.js';
 import { EXPLAINED, breaksBox, figuresTable, resultBox } from './reconciliation.js';
 

@@ -2,13 +2,12 @@
 
 import { grouped, sumOf } from '../amounts.js';
 import { refusedBox } from '../boxes.js';
-import { el, label, link, money, number, p, printed, strong } from '../elements.js';
+import { el, label, link, money, number, p, printed, referenceLink, strong } from '../elements.js';
 import { findField, form } from '../forms.js';
 import { readMovements } from '../reports.js';
 import { column, longTable } from '../tables.js';
 import { MOVED } from '../words.js';
 import { knownClosings } from './closings.js';
-import { referenceLink } from './left.js';
 import { dayField, lastPeriod, periodForm } from './periods.js';
 import { reportsList } from './report.js';
 

@@ -1,11 +1,10 @@
 // The firm's reports: with names and grouped sums, and as the desk prints them.
 
-import { button, el, label, link, money, number, p, printed } from '../elements.js';
+import { button, el, label, link, money, number, p, printed, referenceLink } from '../elements.js';
 import { readMatters } from '../lists.js';
 import { countLines, dayOf, readJournal, readRetention, readTrial } from '../reports.js';
 import { column, longTable } from '../tables.js';
 import { dismissal } from './exceptions.js';
-import { referenceLink } from './left.js';
 
 // Of a long report the end is shown first.
 const LAST = 1000;

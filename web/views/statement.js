@@ -5,17 +5,16 @@ import { readAtBank } from '../at-bank.js';
 import { kindOf } from '../bank/file.js';
 import { BankFile } from '../bank-file.js';
 import { doneBox, failedBox, noteBox, tellRefusal, warningBox } from '../boxes.js';
-import { referencesIn } from '../candidates.js';
+import { listedIn } from '../candidates.js';
 import { textOf } from '../csv.js';
-import { entryPath } from '../desk.js';
-import { button, el, facts, link, p } from '../elements.js';
+import { button, el, facts, link, p, referenceLink } from '../elements.js';
 import { movementOf, readByMovement } from '../exceptions.js';
 import { areInBook, isSameAs, matchFile } from '../matched.js';
 import { whyException } from '../reasons.js';
 import { countLines, readTrial } from '../reports.js';
 import { rememberClosing } from './closings.js';
 import { dismissOffers } from './exceptions.js';
-import { LeftLines, referenceLink } from './left.js';
+import { LeftLines } from './left.js';
 import { BELOW_ZERO, countWrong, matchedBox, writtenTable } from './matched.js';
 import { Taking } from './taking.js';
 
@@ -112,21 +111,15 @@ async function look(page, file) {
     return { ...found, beside: await readBeside(page) };
 }
 
-// Cleared deposits that lines below zero may take back, by the lines' numbers: of the entries that the reasons name.
-async function readReturns(page, told, entries) {
-    const waiting = new Set(entries.map(({ reference }) => reference));
+// Cleared deposits that lines below zero may take back, by the lines' numbers: of the entries that the reasons list.
+function returnsIn(told) {
     const found = new Map();
     for (const { line, reason } of told) {
-        if (!line?.isWhole || !line.amount.startsWith('-')) continue;
-        const named = referencesIn(reason).filter((each) => !waiting.has(each));
-        const answers = await Promise.all(named.map((each) =>
-            page.desk.read(entryPath(each.slice(1, 7), each.slice(8)))));
-        const returned = answers.filter(({ isDone }) => isDone).map(({ body }) => body)
-            .filter(({ kind, state }) => kind === 'deposit' && state === 'cleared')
-            .filter(({ amount }) => `-${amount}` === line.amount)
-            .map(({ matter, entry, amount, source, bank_day: day }) =>
-                ({ reference: `M${matter}-${entry}`, client: '', day, words: source, amount }));
-        found.set(line.number, returned);
+        if (!line?.isWhole) continue;
+        const returned = listedIn(reason)
+            .filter(({ state, amount }) => state === 'cleared' && `-${amount}` === line.amount)
+            .map(({ reference, day, party, amount }) => ({ reference, client: '', day, words: party, amount }));
+        if (returned.length > 0) found.set(line.number, returned);
     }
     return found;
 }
@@ -286,7 +279,7 @@ class Statement {
         let known = null;
         try {
             const entries = await readAtBank(this.page);
-            known = [entries, await readReturns(this.page, told, entries)];
+            known = [entries, returnsIn(told)];
         } catch {
             known = [null, new Map()]; // references can be typed all the same
         }

@@ -6,7 +6,7 @@ use Rattle.trust_base.specs.declared.refusal.Refusal.{Refusal}
 use Rattle.trust_base.specs.declared.refusal.Refusal.TheVariants.{TooLarge}
 use Rattle.trust_matter.specs.declared.ask.Caller.TheVariants.{Cashier}
 use Rattle.firm_rows.specs.Firm.{Firm}
-use Rattle.statement_match.specs.Matched.{MatchedTexts}
+use Rattle.statement_match.specs.Matched.{Matched, is_left}
 use Rattle.trust_desk.specs.MatchStep.{IsMatched}
 use Rattle.portal_http.specs.Output.{Output}
 use Rattle.cashier.specs.Report.{refused_outcome}
@@ -16,13 +16,13 @@ use Rattle.cashier.specs.Statement.{is_told_longer}
 use Rattle.cashier.specs.declared.outcome.Outcome.{Outcome}
 use Rattle.cashier.specs.declared.outcome.Outcome.TheVariants as outcome
 
--- the result of matching a statement: both its texts, or why there is none
+-- the result of matching a statement, or why there is none
 abbrev pub Found : Type 0
-Found = Result MatchedTexts Refusal
+Found = Result Matched Refusal
 
 -- what is printed of it: the statement for the import, or the line of the refusal
 abbrev pub found_text : Found → List ℕ
-found_text (Ok texts) = texts.statement
+found_text (Ok matched) = matched.statement
 found_text (Err r) = refusal_line r
 
 -- the outcome of a match, depending on whether a record has to be looked at
@@ -32,7 +32,7 @@ left_outcome false = outcome.Done
 
 -- the outcome after that was printed: according to whether a record has to be looked at, or to the refusal
 abbrev pub found_outcome : Found → Outcome
-found_outcome (Ok texts) = left_outcome texts.is_left
+found_outcome (Ok matched) = left_outcome (is_left matched)
 found_outcome (Err r) = refused_outcome r
 
 -- the result was printed completely, and the run ended accordingly; or a write failed, and only a prefix was printed

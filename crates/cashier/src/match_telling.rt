@@ -3,17 +3,20 @@
 use crate::file_records::FileRecords;
 use crate::file_telling::{remark_on_first, tell_of_records};
 use cashier_remarks::{Remark, Remarks, UnmatchedLine};
+use statement_match::{Matched, Unmatched};
 use std::alloc::{AllocError, Global};
 use trust_base::{Field, MAX_FILE_BYTES, Refusal};
-use trust_desk::Matched;
 
-// Reports each line of what a match leaves, as one remark.
-fn tell_unmatched<M: Remarks>(remarks: &M, text: &[u8]) {
-    for line in text.split(|byte| *byte == b'\n') {
-        if !line.is_empty() {
-            remarks.tell(&Remark::Unmatched(UnmatchedLine(line)));
-        }
+// Reports each record that a match leaves, and how many there are of each kind.
+fn tell_unmatched<M: Remarks>(remarks: &M, unmatched: &Unmatched) {
+    for record in &unmatched.records {
+        remarks.tell(&Remark::Unmatched(UnmatchedLine(record)));
     }
+    remarks.tell(&Remark::MatchCounts {
+        written: unmatched.written,
+        booked: unmatched.booked,
+        left: unmatched.records.len() as u64,
+    });
 }
 
 /// Reports what in a matched statement has to be looked at, whether what was written is longer than an import takes,
@@ -22,7 +25,7 @@ pub fn tell_matched<M: Remarks>(alloc: Global, remarks: &M, file: &[u8], matched
     if !remarks.are_told() {
         return;
     }
-    tell_unmatched(remarks, matched.unmatched.as_slice());
+    tell_unmatched(remarks, &matched.unmatched);
     if MAX_FILE_BYTES < matched.statement.len() {
         remarks.tell(&Remark::MatchedTooLong);
     }

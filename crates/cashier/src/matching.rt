@@ -74,7 +74,7 @@ fn print_found<W: Write, M: Remarks>(
                 return Outcome::OutputFault;
             };
             tell_matched(alloc, remarks, bytes, matched);
-            if matched.is_left {
+            if matched.is_left() {
                 Outcome::Refused
             } else {
                 Outcome::Done

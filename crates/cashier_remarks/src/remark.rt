@@ -57,8 +57,14 @@ pub enum Remark<'a> {
     MatchTooLarge,
     /// What was written of a matched statement is above the size limit of an import.
     MatchedTooLong,
-    /// About the records of a matched statement: one that has to be looked at, or how many there are of each kind.
+    /// About a record that a match leaves.
     Unmatched(UnmatchedLine<'a>),
+    /// How many records of a matched statement were written, were in the book already, and have to be looked at.
+    MatchCounts {
+        written: u64,
+        booked: u64,
+        left: u64,
+    },
     /// About an exception: why it is one, or that an import would accept it.
     Exception(ExceptionRemark<'a>),
     /// About a report.
@@ -122,6 +128,14 @@ impl fmt::Display for Remark<'_> {
                 match the bank's file in parts, each with the first line",
             ),
             Remark::Unmatched(line) => line.fmt(f),
+            Remark::MatchCounts {
+                written,
+                booked,
+                left,
+            } => write!(
+                f,
+                "{written} records written, {booked} in the book already, {left} to be looked at"
+            ),
             Remark::Exception(told) => told.fmt(f),
             Remark::Report(told) => told.fmt(f),
             Remark::Book { path, told } => {

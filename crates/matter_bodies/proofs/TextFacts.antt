@@ -1,10 +1,10 @@
--- Persons, labels and references are UTF-8.
+-- Persons, labels, references and texts of lines are UTF-8.
 use Rattle.matter_bodies.proofs.Names.{◌≡◌, ℕ, zero, suc, List, [], ◌∷◌, Bool, true, ◌<◌, rules, arith, IsUtf8, IsAscii, is_utf8, and_parts}
 use Rattle.std.specs.List.{list_all}
 use Rattle.std.proofs.lemmas.Bool.Decides.{nat_tests}
 use Rattle.std.proofs.lemmas.Str.{IsUtf8-from_is_utf8, IsUtf8-from_ascii}
 use Rattle.trust_base.specs.Names.{IsLabel, IsPerson, is_label_text, is_person_text, is_person_byte}
-use Rattle.trust_base.specs.BankTexts.{IsBankText, is_bank_text, is_printed_byte}
+use Rattle.trust_base.specs.BankTexts.{IsBankText, IsLineText, is_bank_text, is_line_text, is_printed_byte}
 
 IsAscii-list_all : (p : ℕ → Bool) → ((b : ℕ) → p b ≡ true → b < 128) → (bs : List ℕ) → list_all p bs ≡ true → IsAscii bs
 IsAscii-list_all p low [] h i = search rules
@@ -32,3 +32,7 @@ unfolding is_bank_text
 utf8_bank_text bs h =
     let bytes : list_all is_printed_byte bs ≡ true = grind arith in
     IsUtf8-from_ascii bs (IsAscii-list_all is_printed_byte low-printed bs bytes)
+
+pub utf8_line_text : (bs : List ℕ) → IsLineText bs → IsUtf8 bs
+unfolding is_line_text
+utf8_line_text bs h = let text : is_utf8 bs ≡ true = grind arith in IsUtf8-from_is_utf8 bs text

@@ -24,15 +24,15 @@ use trust_matter::{
     Holder, Matter, Payment, PaymentState, Role, Seat, balances,
 };
 
-// A value of an answer's object.
+/// A value of an answer's object.
 #[derive(Clone, Copy)]
-pub(crate) enum Value<'a> {
+pub enum Value<'a> {
     Null,
     Text(&'a str),
     Count(u64),
-    // An amount or a sum in cents.
+    /// An amount or a sum in cents.
     Cents(u64),
-    // A sum in cents that may exceed a u64.
+    /// A sum in cents that may be negative, or exceed a u64.
     Sum(i128),
     Day(Day),
     Entry(EntryNo),
@@ -40,8 +40,8 @@ pub(crate) enum Value<'a> {
     Seats(&'a [Seat]),
 }
 
-// A key and its value.
-pub(crate) type Member<'a> = (&'a str, Value<'a>);
+/// A key and its value.
+pub type Member<'a> = (&'a str, Value<'a>);
 
 #[tactic(auto, using(crate::proofs::TextFacts::utf8_label))]
 fn label(label: &Label) -> Value<'_>
@@ -168,8 +168,8 @@ fn write_value(alloc: Global, out: &mut Writer, value: &Value<'_>) -> Result<(),
     }
 }
 
-// Writes these members of an object, in their order. The only error is out of memory.
-pub(crate) fn write_members(
+/// Writes these members of an object, in their order. The only error is out of memory.
+pub fn write_members(
     alloc: Global,
     out: &mut Writer,
     members: &[Member<'_>],
@@ -185,8 +185,8 @@ pub(crate) fn write_members(
     Ok(())
 }
 
-// Writes an object with these members, in their order. The only error is out of memory.
-pub(crate) fn write_object(
+/// Writes an object with these members, in their order. The only error is out of memory.
+pub fn write_object(
     alloc: Global,
     out: &mut Writer,
     members: &[Member<'_>],

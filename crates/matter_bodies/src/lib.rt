@@ -11,6 +11,7 @@
 //! - `entries_body`: the same of all entries, in order, for all rows of which the matter has all entries loaded.
 //! - `write_listed`, `write_waiting`: the tokens of the object of a matter, or of the objects of what waits in it,
 //!   after what the writer has. For a matter in a list no entry is loaded.
+//! - `write_members`, `write_object`: the tokens of these keys and values, in their order, after what the writer has.
 //! - `nothing_waits`: of sound rows nothing waits where no payment is pending, nothing is disputed and no claim on the
 //!   general fund has anything left. So no entry is read there.
 #![tactic(auto)]
@@ -19,5 +20,8 @@ mod bodies;
 pub mod laws;
 mod lists;
 
-pub use bodies::{ImportReply, entry_body, import_body, matter_body, purge_body, receipt_body};
+pub use bodies::{
+    ImportReply, Member, Value, entry_body, import_body, matter_body, purge_body, receipt_body,
+    write_members, write_object,
+};
 pub use lists::{entries_body, nothing_waits, write_listed, write_waiting};

@@ -9,5 +9,4 @@ pub mod RecordsRead
 pub mod RowsRead
 pub mod RowsWritten
 pub mod Shown
-pub mod WordFacts
 mod Names

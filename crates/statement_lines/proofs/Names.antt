@@ -32,7 +32,6 @@ unfoldable pub use Rattle.statement_lines.specs.Showing.{begins_with_reference, 
 pub use Rattle.statement_lines.specs.Tokens.{goes_on, tokens}
 unfoldable pub use Rattle.statement_lines.specs.Tokens.{begins, numeral_len, numeral_len as numeral_length, token_in_front, tokens_after}
 pub use Rattle.statement_lines.specs.Waiting.{Waiting}
-pub use Rattle.statement_lines.specs.Words.{shown}
 pub use Rattle.statement_lines.specs.Written.{row_as, text_of}
 unfoldable pub use Rattle.statement_lines.specs.Written.{rows_by}
 pub use Rattle.statement_lines.specs.declared.book_entry.BookEntry.{BookEntry}

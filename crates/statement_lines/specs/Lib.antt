@@ -15,5 +15,4 @@ pub mod Showing
 pub mod Sides
 pub mod Tokens
 pub mod Waiting
-pub mod Words
 pub mod Written

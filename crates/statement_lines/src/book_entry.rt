@@ -1,11 +1,11 @@
 // The deposits and payments of a book, and what lines are compared with of those that wait for the bank.
 
 ghost use Rattle.std.specs.Prelude.{◌≡◌, IfOk};
+ghost use Rattle.statement_lines.specs.EntryStates.{state_word};
 ghost use Rattle.statement_lines.specs.Waiting.{waiting_deposit, waiting_payment};
 
 use crate::booking::BookedLines;
 use crate::number::{Number, numbers_of, telling_of};
-use byte_streams::OwnedBytes;
 use std::alloc::{AllocError, Global};
 use std::marker::Model;
 use trust_base::{BankText, Cents, Day, Label};
@@ -24,6 +24,24 @@ pub enum EntryState {
     Voided,
     /// A deposit or payment that the bank cleared.
     Cleared,
+}
+
+impl EntryState {
+    /// The word for it, as answers and remarks have it.
+    pub fn word(self) -> &'static str
+        ensures { result.now ≡ state_word self }
+    {
+        match self {
+            EntryState::Held => "held",
+            EntryState::Cancelled => "cancelled",
+            EntryState::Returned => "returned",
+            EntryState::Proposed => "proposed",
+            EntryState::Declined => "declined",
+            EntryState::Issued => "issued",
+            EntryState::Voided => "voided",
+            EntryState::Cleared => "cleared",
+        }
+    }
 }
 
 /// An entry that waits for the bank: a held deposit or an issued payment.
@@ -101,8 +119,8 @@ pub struct BookEntry {
     /// The day of the state: the bank line's day if it is cleared or returned, the booked day if it is proposed or
     /// declined.
     pub day: Day,
-    /// The bank's reference of that line; otherwise empty.
-    pub bank_ref: OwnedBytes,
+    /// The bank's reference of that line, if there is one.
+    pub bank_ref: Option<BankText>,
     /// The source of a deposit, or the payee of a payment.
     pub party: Label,
     /// The bank lines that the book has for it.

@@ -16,7 +16,6 @@ mod relation;
 mod rows;
 mod statement_line;
 mod token;
-mod words;
 mod writing;
 
 pub use book_entry::{BookEntry, EntryState, WaitingEntry};
@@ -31,5 +30,4 @@ pub use mark::{Mark, line_marks_of, marks_of};
 pub use records::{Records, line_at, line_count, number_at, number_of, records_in};
 pub use relation::Relation;
 pub use statement_line::StatementLine;
-pub use words::push_line_words;
 pub use writing::write_statement;

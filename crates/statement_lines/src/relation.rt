@@ -40,47 +40,21 @@ impl EntryState {
     pub fn is_waiting(self) -> bool
         ensures { result ≡ is_waiting_state self }
     {
-        match self {
-            EntryState::Held | EntryState::Issued => true,
-            EntryState::Cancelled
-            | EntryState::Returned
-            | EntryState::Proposed
-            | EntryState::Declined
-            | EntryState::Voided
-            | EntryState::Cleared => false,
-        }
+        matches!(self, EntryState::Held | EntryState::Issued)
     }
 
     /// Whether it is the state of a waiting deposit.
     pub fn is_held(self) -> bool
         ensures { result ≡ is_held_state self }
     {
-        match self {
-            EntryState::Held => true,
-            EntryState::Cancelled
-            | EntryState::Returned
-            | EntryState::Proposed
-            | EntryState::Declined
-            | EntryState::Issued
-            | EntryState::Voided
-            | EntryState::Cleared => false,
-        }
+        matches!(self, EntryState::Held)
     }
 
     // Whether it is the state of an entry that the bank cleared.
     fn is_cleared(self) -> bool
         ensures { result ≡ is_cleared_state self }
     {
-        match self {
-            EntryState::Cleared => true,
-            EntryState::Held
-            | EntryState::Issued
-            | EntryState::Cancelled
-            | EntryState::Returned
-            | EntryState::Proposed
-            | EntryState::Declined
-            | EntryState::Voided => false,
-        }
+        matches!(self, EntryState::Cleared)
     }
 }
 

@@ -15,7 +15,7 @@ pub mod Totals
 pub mod Unfilled
 pub mod Waits
 pub mod Writing
-pub mod Candidates
+pub mod EntriesKept
 pub mod NumberedLines
 pub mod FirstDay
 pub use Rattle.statement_lines.proofs.Members

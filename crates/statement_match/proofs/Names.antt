@@ -68,13 +68,14 @@ unfoldable pub use Rattle.statement_match.specs.Grounds.{numbered}
 pub use Rattle.statement_match.specs.Laws.{AreNamedApart, AreWritten, FillsWhatIsSure, FillsWithWaiting, HasLess, IsPart, IsSure, Kept, LeftOut, MoreOnlyTakesAway, Named, NoneIsNamedTwice, NoneOf, None_left, OnlyReferencesChange, TwoEntriesAreLeft, TwoLinesAreLeft, With, Without, WritesWhatIsSure, with_reference, written, written_as, written_of}
 pub use Rattle.statement_match.specs.Misfits.{entry_of}
 pub use Rattle.statement_match.specs.OwnLines.{own_before, own_with}
-pub use Rattle.statement_match.specs.ReasonTexts.{after_comma, after_semicolon, related_entry_text, text_if}
-unfoldable pub use Rattle.statement_match.specs.ReasonTexts.{exception_text, fit_numbers}
+pub use Rattle.statement_match.specs.Candidates.{candidate_of, named_exception}
+unfoldable pub use Rattle.statement_match.specs.Candidates.{fit_numbers}
 unfoldable pub use Rattle.statement_match.specs.Reasons.{reason_for}
 pub use Rattle.statement_match.specs.Rule.{filled_with, is_beside_booked, outcomes}
 unfoldable pub use Rattle.statement_match.specs.Rule.{becomes, fill, is_doubled, is_in_book}
 pub use Rattle.statement_match.specs.StatementLaws.{HasLinesWritten, HasReferences, IsImported, IsReference, ReadsBack}
 pub use Rattle.statement_match.specs.Statements.{written_rows}
 unfoldable pub use Rattle.statement_match.specs.Statements.{statement_text}
-pub use Rattle.statement_match.specs.Unmatched.{same_text, told, told_by, told_of_line}
-unfoldable pub use Rattle.statement_match.specs.Unmatched.{told_from, told_unreadable, unreadable_line}
+pub use Rattle.statement_match.specs.Unmatched.{told, told_by, told_of_line}
+unfoldable pub use Rattle.statement_match.specs.Unmatched.{told_from, told_unreadable}
+pub use Rattle.statement_match.specs.declared.unmatched.UnmatchedRecord.{UnmatchedRecord}

@@ -1,16 +1,17 @@
 -- The steps of the loops over the records of a statement.
-use Rattle.statement_match.proofs.Names.{own_before, own_with, fold_more, ◌≡◌, ◌∙◌, sym, ap, ℕ, ◌+◌, ◌-◌, ◌<◌, ◌≤◌, List, [], ◌∷◌, ◌++◌, length, get_or, drop, append_assoc, append-nil, arith, at_drop_more, drop_all, get_or-map, Line, Records, Known, LineOutcome, becomes, outcomes, reason_for, told_by, told_from, told_of_line, told_unreadable, unreadable_line, ints, nat_tests}
+use Rattle.statement_match.proofs.Names.{own_before, own_with, fold_more, ◌≡◌, ◌∙◌, sym, ap, ℕ, ◌+◌, ◌-◌, ◌<◌, ◌≤◌, List, [], ◌∷◌, ◌++◌, length, get_or, drop, append_assoc, append-nil, arith, at_drop_more, drop_all, get_or-map, Line, Records, Known, LineOutcome, becomes, outcomes, reason_for, told_by, told_from, told_of_line, told_unreadable, UnmatchedRecord, ints, nat_tests}
 use Rattle.firm_rows.specs.declared.ledger.FirmLine.{FirmLine}
+use Rattle.statement_match.specs.declared.unmatched.UnmatchedRecord.TheVariants as looked_at
 
 -- Unreadable records.
 
-pub unreadable_more : (before last : ℕ) (told : List (List ℕ)) → before < last
+pub unreadable_more : (before last : ℕ) (told : List UnmatchedRecord) → before < last
     → told ++ told_unreadable before (last - before)
-    ≡ (told ++ unreadable_line (before + 1) ∷ []) ++ told_unreadable (before + 1) (last - (before + 1))
+    ≡ (told ++ looked_at.Unreadable (before + 1) ∷ []) ++ told_unreadable (before + 1) (last - (before + 1))
 unfolding told_unreadable
-unreadable_more before last told lt = grind (arith, ints, nat_tests, told_unreadable, append_assoc, unreadable_line)
+unreadable_more before last told lt = grind (arith, ints, nat_tests, told_unreadable, append_assoc)
 
-pub unreadable_done : (before last : ℕ) (told : List (List ℕ)) → last ≤ before
+pub unreadable_done : (before last : ℕ) (told : List UnmatchedRecord) → last ≤ before
     → told ++ told_unreadable before (last - before) ≡ told
 unfolding told_unreadable
 unreadable_done before last told past = grind (arith, ints, nat_tests, told_unreadable, append-nil)
@@ -18,7 +19,7 @@ unreadable_done before last told past = grind (arith, ints, nat_tests, told_unre
 -- The records.
 
 pub told_more : (today : ℕ) (known : Known) (own : List FirmLine) (records : Records) (before i : ℕ) (lines : List Line)
-    (d : Line) (told : List (List ℕ)) → i < length lines
+    (d : Line) (told : List UnmatchedRecord) → i < length lines
     → told ++ told_from today known own records before i (drop i lines)
     ≡ ((told ++ told_unreadable before (get_or records.numbers i 0 - 1 - before))
     ++ told_of_line today known (own_before today own records.lines i) records (get_or records.numbers i 0)
@@ -35,7 +36,7 @@ told_more today known own records before i lines d told lt =
     ∙ sym (append_assoc (told ++ gap) here rest)
 
 pub told_done : (today : ℕ) (known : Known) (own : List FirmLine) (records : Records) (before i : ℕ) (lines : List Line)
-    (told : List (List ℕ)) → length lines ≤ i
+    (told : List UnmatchedRecord) → length lines ≤ i
     → told ++ told_from today known own records before i (drop i lines)
     ≡ told ++ told_unreadable before (records.count - before)
 unfolding told_from
@@ -44,12 +45,12 @@ told_done today known own records before i lines told past =
 
 -- one record more, by what becomes of each line
 pub told_step : (today : ℕ) (known : Known) (own then : List FirmLine) (records : Records) (os : List LineOutcome)
-    (before i number : ℕ) (line : Line) (o : LineOutcome) (told new : List (List ℕ)) → i < length records.lines
+    (before i number : ℕ) (line : Line) (o : LineOutcome) (told new : List UnmatchedRecord) → i < length records.lines
     → then ≡ own_before today own records.lines i
     → os ≡ outcomes today known.held records.lines → number ≡ get_or records.numbers i 0
     → line ≡ get_or records.lines i line → o ≡ get_or os i o
     → new ≡ (told ++ told_unreadable before (number - 1 - before))
-    ++ told_by today known records number line (reason_for today known then records.lines line o)
+    ++ told_by number line (reason_for today known then records line o)
     → told ++ told_from today known own records before i (drop i records.lines)
     ≡ new ++ told_from today known own records number (i + 1) (drop (i + 1) records.lines)
 told_step today known own then records os before i number line o told new lt then_is same number_is line_is o_is new_is =

@@ -1,5 +1,5 @@
 -- The deposits and payments in a firm's rows, in any state.
-use Rattle.std.specs.Prelude.{ℕ, List, [], ◌∷◌, ◌++◌}
+use Rattle.std.specs.Prelude.{ℕ, List, [], ◌∷◌, ◌++◌, Option, Some, None}
 use Rattle.std.specs.List.{flat_map}
 use Rattle.trust_base.specs.declared.line.Line.{Line}
 use Rattle.matter_rows.specs.declared.deposit.Deposit.{Deposit}
@@ -25,7 +25,7 @@ use Rattle.statement_match.specs.Books.{with_row}
 -- An entry as lines are compared with it, with its state, the day of the state, the bank's reference of the line that
 -- reported it, its source or payee, and the bank lines that are booked for it.
 
-abbrev pub book_entry : Waiting → EntryState → ℕ → List ℕ → List ℕ → List Booking → BookEntry
+abbrev pub book_entry : Waiting → EntryState → ℕ → Option (List ℕ) → List ℕ → List Booking → BookEntry
 book_entry w s day bank_ref party bookings = record {
   entry = w;
   state = s;
@@ -36,11 +36,11 @@ book_entry w s day bank_ref party bookings = record {
 }
 
 abbrev pub deposit_in : Waiting → Deposit → DepositState → List Booking → BookEntry
-deposit_in w d deposit.Held bookings = book_entry w state.Held d.book [] d.source bookings
-deposit_in w d (deposit.Cleared c) bookings = book_entry w state.Cleared c.bank_day c.bank_ref d.source bookings
-deposit_in w d (deposit.Cancelled day) bookings = book_entry w state.Cancelled day [] d.source bookings
+deposit_in w d deposit.Held bookings = book_entry w state.Held d.book None d.source bookings
+deposit_in w d (deposit.Cleared c) bookings = book_entry w state.Cleared c.bank_day (Some c.bank_ref) d.source bookings
+deposit_in w d (deposit.Cancelled day) bookings = book_entry w state.Cancelled day None d.source bookings
 deposit_in w d (deposit.Returned r) bookings =
-    book_entry w state.Returned r.returning.bank_day r.returning.bank_ref d.source bookings
+    book_entry w state.Returned r.returning.bank_day (Some r.returning.bank_ref) d.source bookings
 
 -- the day since which a payment has waited; if it was never issued, the day on which it was booked
 abbrev pub since_of : Payment → PaymentState → ℕ
@@ -52,12 +52,12 @@ since_of p (payment.Voided v) = v.issued
 
 -- the only day of a declined payment is the one on which it was booked
 abbrev pub payment_in : Waiting → Payment → PaymentState → List Booking → BookEntry
-payment_in w p payment.Proposed bookings = book_entry w state.Proposed p.book [] p.payee bookings
-payment_in w p payment.Declined bookings = book_entry w state.Declined p.book [] p.payee bookings
-payment_in w p (payment.Issued day) bookings = book_entry w state.Issued day [] p.payee bookings
+payment_in w p payment.Proposed bookings = book_entry w state.Proposed p.book None p.payee bookings
+payment_in w p payment.Declined bookings = book_entry w state.Declined p.book None p.payee bookings
+payment_in w p (payment.Issued day) bookings = book_entry w state.Issued day None p.payee bookings
 payment_in w p (payment.Cleared c) bookings =
-    book_entry w state.Cleared c.clearing.bank_day c.clearing.bank_ref p.payee bookings
-payment_in w p (payment.Voided v) bookings = book_entry w state.Voided v.undone [] p.payee bookings
+    book_entry w state.Cleared c.clearing.bank_day (Some c.clearing.bank_ref) p.payee bookings
+payment_in w p (payment.Voided v) bookings = book_entry w state.Voided v.undone None p.payee bookings
 
 abbrev pub told_deposit : ℕ → ℕ → Deposit → BookEntry
 told_deposit m n d =

@@ -1,4 +1,5 @@
 pub mod Books
+pub mod Candidates
 pub mod DaySums
 pub mod Entries
 pub mod FirmLaws
@@ -6,8 +7,6 @@ pub mod Laws
 pub mod Matched
 pub mod Misfits
 pub mod OwnLines
-pub mod Phrases
-pub mod ReasonTexts
 pub mod Reasons
 pub mod Rule
 pub mod StatementLaws

@@ -23,7 +23,7 @@ entry_of known x = find (names x) known.entries
 unfoldable pub misfit_with : ℕ → Line → BookEntry → Misfit
 misfit_with today x e =
     if is_booked_for x e then misfit.Again
-    else if nat_lt today x.date then misfit.DatedAfter
+    else if nat_lt today x.date then misfit.DatedAfter today
     else if may_be_returned x e then misfit.TakesBack
     else if not (is_waiting e.state) then misfit.NotWaiting
     else if not (has_its_amount x e) then misfit.OfAnotherAmount
@@ -32,7 +32,7 @@ misfit_with today x e =
 -- why an exception matches nothing on a business day
 abbrev pub misfit_of : ℕ → Line → Option BookEntry → Misfit
 misfit_of today x None =
-    if nat_lt today x.date then misfit.DatedAfter
+    if nat_lt today x.date then misfit.DatedAfter today
     else if is_some (entry_named x.reference) then misfit.NoEntry
     else misfit.OfNoEntry
 misfit_of today x (Some e) = misfit_with today x e

@@ -31,7 +31,7 @@ own_before today own lines place = fold (own_with today) own (take place lines)
 -- why an import would not apply a line of the firm's own to this ledger
 abbrev pub own_misfit : ℕ → List FirmLine → Line → UnmatchedReason
 own_misfit today own line =
-    if nat_lt today line.date then reason.DatedAfter
+    if nat_lt today line.date then reason.DatedAfter today
     else if int_eq line.amount (pos 0) then reason.MovesNothing
     else reason.OwnMoney (balance_of own +ℤ line.amount)
 

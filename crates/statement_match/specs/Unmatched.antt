@@ -1,65 +1,48 @@
--- The report on the records of a statement that a person has to look at.
-use Rattle.std.specs.Prelude.{ℕ, Bool, true, false, ◌+◌, ◌-◌, zero, suc, List, [], ◌∷◌, ◌++◌, codes, length}
-use Rattle.std.specs.Prelude.{flat_map, slice_index, Option, Some, None}
+-- The records of a statement that a person has to look at, and how many others there are.
+use Rattle.std.specs.Prelude.{ℕ, Bool, true, false, ◌+◌, ◌-◌, zero, suc, List, [], ◌∷◌, ◌++◌, length, slice_index}
+use Rattle.std.specs.Prelude.{Option, Some, None}
 use Rattle.std.specs.List.{count_by}
-use Rattle.std.specs.Fmt.{decimal}
-use Rattle.trust_base.specs.Texts.{day_text, signed_text}
 use Rattle.trust_base.specs.declared.line.Line.{Line}
 use Rattle.firm_rows.specs.declared.ledger.FirmLine.{FirmLine}
 use Rattle.statement_lines.specs.Records.{Records}
 use Rattle.statement_lines.specs.Known.{Known}
-use Rattle.statement_lines.specs.Words.{further, words_part}
 use Rattle.statement_lines.specs.declared.line_outcome.LineOutcome.{LineOutcome}
 use Rattle.statement_lines.specs.declared.line_outcome.LineOutcome.TheVariants as outcome
 use Rattle.statement_match.specs.Rule.{becomes, outcomes}
 use Rattle.statement_match.specs.OwnLines.{own_before}
 use Rattle.statement_match.specs.Reasons.{reason_for}
-use Rattle.statement_match.specs.ReasonTexts.{reason_text}
 use Rattle.statement_match.specs.declared.reason.UnmatchedReason.{UnmatchedReason}
+use Rattle.statement_match.specs.declared.unmatched.UnmatchedRecord.{UnmatchedRecord}
+use Rattle.statement_match.specs.declared.unmatched.UnmatchedRecord.TheVariants as looked_at
 
 pub record Unmatched : Type 0 where
-  -- a line for each record that has to be looked at, in order, and the counts in the last line
-  pub text : List ℕ
-  -- how many records have to be looked at
-  pub left : ℕ
+  -- the records that have to be looked at, in order
+  pub records : List UnmatchedRecord
+  -- how many records are written
+  pub written : ℕ
+  -- how many records are left out because they are in the book already
+  pub booked : ℕ
 
--- A line for a record.
+-- The records, in order, and among them those that are no line.
 
-abbrev pub record_text : ℕ → List ℕ
-record_text number = codes "record " ++ decimal number
-
-unfoldable pub unreadable_line : ℕ → List ℕ
-unreadable_line number = record_text number ++ (codes ": no line of a statement" ++ 10 ∷ [])
-
--- the record's number, its date, its amount and the bank's words
-unfoldable pub line_head : ℕ → Line → List ℕ
-line_head number line =
-    record_text number
-    ++ (codes ", " ++ (day_text line.date ++ (further (signed_text line.amount) ++ words_part line.text)))
-
-unfoldable pub record_line : ℕ → Line → List ℕ → List ℕ
-record_line number line reason = line_head number line ++ (codes ": " ++ (reason ++ 10 ∷ []))
-
--- the line for a record of this number, if it has to be looked at
-abbrev pub told_by : ℕ → Known → Records → ℕ → Line → Option UnmatchedReason → List (List ℕ)
-told_by today known records number line None = []
-told_by today known records number line (Some why) =
-    record_line number line (reason_text today known records line why) ∷ []
+-- the record with this number, if it has to be looked at
+abbrev pub told_by : ℕ → Line → Option UnmatchedReason → List UnmatchedRecord
+told_by number line None = []
+told_by number line (Some why) = looked_at.OfLine number line why ∷ []
 
 -- `own` is the firm's own ledger after an import of the lines before
-abbrev pub told_of_line : ℕ → Known → List FirmLine → Records → ℕ → Line → List (List ℕ)
+abbrev pub told_of_line : ℕ → Known → List FirmLine → Records → ℕ → Line → List UnmatchedRecord
 told_of_line today known own records number line =
-    told_by today known records number line
-    (reason_for today known own records.lines line (becomes today known.held records.lines line))
+    told_by number line (reason_for today known own records line (becomes today known.held records.lines line))
 
 -- this many unreadable records, after the record with this number
-unfoldable pub told_unreadable : ℕ → ℕ → List (List ℕ)
+unfoldable pub told_unreadable : ℕ → ℕ → List UnmatchedRecord
 told_unreadable before zero = []
-told_unreadable before (suc k) = unreadable_line (before + 1) ∷ told_unreadable (before + 1) k
+told_unreadable before (suc k) = looked_at.Unreadable (before + 1) ∷ told_unreadable (before + 1) k
 
 -- The records after number `before`, in order: these lines, the first of which has this place, and between them the
 -- unreadable records, whose numbers belong to no line. `own` is the firm's own ledger in the book.
-unfoldable pub told_from : ℕ → Known → List FirmLine → Records → ℕ → ℕ → List Line → List (List ℕ)
+unfoldable pub told_from : ℕ → Known → List FirmLine → Records → ℕ → ℕ → List Line → List UnmatchedRecord
 told_from today known own records before place [] = told_unreadable before (records.count - before)
 told_from today known own records before place (line ∷ lines) =
     told_unreadable before (slice_index records.numbers place - 1 - before)
@@ -67,7 +50,7 @@ told_from today known own records before place (line ∷ lines) =
     line
     ++ told_from today known own records (slice_index records.numbers place) (place + 1) lines)
 
-abbrev pub told : ℕ → Known → List FirmLine → Records → List (List ℕ)
+abbrev pub told : ℕ → Known → List FirmLine → Records → List UnmatchedRecord
 told today known own records = told_from today known own records 0 0 records.lines
 
 -- The counts.
@@ -92,20 +75,11 @@ is_left_out outcome.Left = false
 abbrev pub written_count : Records → List LineOutcome → ℕ
 written_count records os = (records.count - length records.lines) + count_by is_written os
 
-unfoldable pub counts_line : ℕ → ℕ → ℕ → List ℕ
-counts_line written booked left =
-    decimal written ++ (codes " records written, " ++ (decimal booked ++ (codes " in the book already, "
-    ++ (decimal left ++ (codes " to be looked at" ++ 10 ∷ [])))))
-
--- The whole report. A record has to be looked at if there is a line for it.
-
-abbrev pub same_text : List ℕ → List ℕ
-same_text text = text
+-- All of it.
 
 unfoldable pub unmatched : ℕ → Known → List FirmLine → Records → Unmatched
 unmatched today known own records = record {
-  text = flat_map same_text (told today known own records)
-      ++ counts_line (written_count records (outcomes today known.held records.lines))
-      (count_by is_left_out (outcomes today known.held records.lines)) (length (told today known own records));
-  left = length (told today known own records);
+  records = told today known own records;
+  written = written_count records (outcomes today known.held records.lines);
+  booked = count_by is_left_out (outcomes today known.held records.lines);
 }

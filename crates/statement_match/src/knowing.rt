@@ -1,6 +1,6 @@
 // Collects what is known of a book, row by row.
 
-ghost use Rattle.std.specs.Prelude.{◌≡◌, ◌++◌, ◌∷◌, List, IfOk, OnOk, OnErr, option_copied, unwrap_or, []};
+ghost use Rattle.std.specs.Prelude.{◌≡◌, ◌++◌, ◌∷◌, List, IfOk, OnOk, OnErr, option_copied, []};
 ghost use Rattle.firm_rows.specs.Firm.{EntryRow};
 ghost use Rattle.trust_store.specs.Calls.{IsRead};
 ghost use Rattle.statement_csv.specs.References.{reference_text};
@@ -11,7 +11,6 @@ ghost use Rattle.statement_match.specs.Entries.{book_entry, deposit_in, know_exc
 ghost use Rattle.statement_match.specs.Entries.{known_of, none_known, payment_in, since_of as since_day};
 ghost use Rattle.statement_match.specs.Entries.{told_entries as entries_told};
 
-use byte_streams::OwnedBytes;
 use firm_rows::{ExceptionSink, FirmLine, FirmLineSink, MatterRow, MatterRowSink};
 use matter_rows::{Clearing, Deposit, DepositState, Entry, Payment, PaymentState};
 use statement_lines::{BookEntry, BookedLines, Booking, EntryState, Held, Known, WaitingEntry};
@@ -160,7 +159,7 @@ type StateOf<'a> = (EntryState, Day, Option<&'a BankText>);
 
 fn deposit_state(d: &Deposit) -> StateOf<'_>
     ensures { (w : Waiting) (bookings : List Booking)
-        → book_entry w result.0 result.1 (unwrap_or (option_copied result.2) []) d.now.source bookings
+        → book_entry w result.0 result.1 (option_copied result.2) d.now.source bookings
         ≡ deposit_in w d.now d.now.state bookings }
 {
     match &d.state {
@@ -188,7 +187,7 @@ fn since_of(p: &Payment) -> Day
 
 fn payment_state(p: &Payment) -> StateOf<'_>
     ensures { (w : Waiting) (bookings : List Booking)
-        → book_entry w result.0 result.1 (unwrap_or (option_copied result.2) []) p.now.payee bookings
+        → book_entry w result.0 result.1 (option_copied result.2) p.now.payee bookings
         ≡ payment_in w p.now p.now.state bookings }
 {
     match &p.state {
@@ -205,25 +204,24 @@ fn payment_state(p: &Payment) -> StateOf<'_>
 
 // Returns an entry with its state, its source or payee, and the bank lines that are booked for it.
 fn told(
-    alloc: Global,
     entry: WaitingEntry,
     now: StateOf<'_>,
     party: &Label,
     bookings: BookedLines,
 ) -> Result<BookEntry, AllocError>
     ensures { IfOk result (λ e. e
-        ≡ book_entry entry now.entry.0 now.entry.1 (unwrap_or (option_copied now.entry.2) []) party.now bookings) }
+        ≡ book_entry entry now.entry.0 now.entry.1 (option_copied now.entry.2) party.now bookings) }
 {
     let (state, day, reported) = now;
     let bank_ref = match reported {
-        Some(bank_ref) => bank_ref.copied()?.into_vec(),
-        None => Vec::new(alloc),
+        Some(bank_ref) => Some(bank_ref.copied()?),
+        None => None,
     };
     Ok(BookEntry {
         entry,
         state,
         day,
-        bank_ref: OwnedBytes::new(bank_ref),
+        bank_ref,
         party: party.copied()?,
         bookings,
     })
@@ -244,11 +242,11 @@ fn told_entries(
         Entry::Fee(_) | Entry::Claim(_) => {}
         Entry::Deposit(d) => {
             let waiting = deposit_waiting(alloc, d, matter, number)?;
-            found.push(told(alloc, waiting, deposit_state(d), &d.source, bookings)?)?;
+            found.push(told(waiting, deposit_state(d), &d.source, bookings)?)?;
         }
         Entry::Payment(p) => {
             let waiting = payment_waiting(alloc, p, since_of(p), matter, number)?;
-            found.push(told(alloc, waiting, payment_state(p), &p.payee, bookings)?)?;
+            found.push(told(waiting, payment_state(p), &p.payee, bookings)?)?;
         }
     }
     Ok(found)

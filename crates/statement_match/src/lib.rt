@@ -5,8 +5,8 @@
 //! By public call, with the clauses of its contract in brackets.
 //!
 //! - `match_statement`: over every book: of a statement whose references may be empty, the statement that an import
-//!   takes and the text of what is left are those of the definition, by the firm's rows on that day (`matched`); the
-//!   book stays as it is, after a crash too (`read`).
+//!   takes, and the records that are left with their reasons and candidates, are those of the definition, by the firm's
+//!   rows on that day (`matched`); the book stays as it is, after a crash too (`read`).
 //! - `laws` `what_is_sure_is_filled`: a line without a reference is filled exactly with the entry of which it is sure
 //!   (`filled`), and nothing else is written of such a line (`written`). It is sure if it is not in the book already
 //!   and not doubled; no line of the book has its day and bank reference; it fits that entry and no other; no other
@@ -28,6 +28,7 @@
 //!   are those that the rule writes, if the reference of each entry that waits is one that a record can have.
 #![tactic(auto)]
 
+mod candidate;
 mod day_sums;
 mod entry_index;
 mod grounds;
@@ -35,12 +36,20 @@ mod knowing;
 pub mod laws;
 mod matched;
 mod misfit;
+mod named_exception;
 mod own_lines;
-mod phrase;
 mod reason;
-mod reason_text;
 mod rule;
+mod sharers;
 mod unmatched;
 
+pub use candidate::{Candidate, Candidates};
 pub use matched::{Matched, match_statement};
-pub use statement_lines::{Booking, Held, LineOutcome, StatementLine, WaitingEntry};
+pub use misfit::Misfit;
+pub use named_exception::{NamedException, NamedExceptions};
+pub use reason::UnmatchedReason;
+pub use sharers::Sharers;
+pub use statement_lines::{
+    Booking, EntryState, Held, LineOutcome, Relation, StatementLine, WaitingEntry,
+};
+pub use unmatched::{Unmatched, UnmatchedRecord};

@@ -4,13 +4,13 @@ ghost use Rattle.std.specs.Prelude.{◌≡◌, ℕ, IfOk};
 ghost use Rattle.trust_store.specs.Calls.{IsRead};
 ghost use Rattle.statement_lines.specs.Held.{Held};
 ghost use Rattle.statement_lines.specs.Records.{records_of};
-ghost use Rattle.statement_match.specs.Matched.{matched, matched_by as matched_by_known};
+ghost use Rattle.statement_match.specs.Matched.{is_left as has_left, matched, matched_by as matched_by_known};
 ghost use Rattle.statement_match.specs.Rule.{outcomes as outcomes_told};
 ghost use Rattle.statement_match.specs.Statements.{statement_text};
 
 use crate::knowing::known_in;
 use crate::rule::outcomes_by;
-use crate::unmatched::unmatched_of;
+use crate::unmatched::{Unmatched, unmatched_of};
 use firm_rows::FirmLedger;
 use statement_lines::{Index, Known, LineOutcome, Records, records_in, write_statement};
 use std::alloc::{AllocError, Global};
@@ -20,24 +20,31 @@ use trust_store::Book;
 
 /// The result of matching a statement whose references may be empty.
 ///
-/// Contracts see it as its two texts, and whether a person has to look at something.
+/// Contracts see it as the text and what is left.
 #[derive(Drop)]
 pub struct Matched {
-    /// Whether a person has to look at a record.
-    pub is_left: bool,
     /// The statement for the import, in CSV: records with a reference unchanged, and records without one that are sure,
     /// with the reference of their entry.
     pub statement: Vec<u8>,
-    /// The report on the records: a line for each that a person has to look at, and the counts in the last line.
-    pub unmatched: Vec<u8>,
+    /// The records that a person has to look at, each with its reason, and the counts.
+    pub unmatched: Unmatched,
 }
 
 impl Model for Matched {
-    ghost use Rattle.statement_match.specs.Matched.{MatchedTexts};
+    ghost use Rattle.statement_match.specs.Matched.{Matched};
 
-    ghost Value = { MatchedTexts };
+    ghost Value = { Matched };
 
-    ghost view = { λ m. record { statement = m.statement.items; unmatched = m.unmatched.items; is_left = m.is_left } };
+    ghost view = { λ m. record { statement = m.statement.items; unmatched = m.unmatched } };
+}
+
+impl Matched {
+    /// Whether a person has to look at a record.
+    pub fn is_left(&self) -> bool
+        ensures { result ≡ has_left self.now }
+    {
+        !self.unmatched.records.is_empty()
+    }
 }
 
 // Returns the statement for the import. `records` are those of a statement whose references may be empty, and each line
@@ -70,11 +77,10 @@ fn matched_by(
     let index = Index::of(alloc, &known.held, &records.lines)?;
     let outcomes = outcomes_by(alloc, today, &index)?;
     let text = statement_of(alloc, records, &outcomes, statement)?;
-    let told = unmatched_of(alloc, today, known, own, records, index, &outcomes)?;
+    let unmatched = unmatched_of(alloc, today, known, own, records, index, &outcomes)?;
     Ok(Matched {
         statement: text,
-        is_left: 0 < told.left,
-        unmatched: told.text,
+        unmatched,
     })
 }
 

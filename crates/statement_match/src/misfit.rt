@@ -9,15 +9,15 @@ use trust_base::{Day, Line};
 
 /// Why an exception matches nothing, as an import would find now. Reasons are tried in the order of `misfit_with`.
 #[derive(Clone, Copy)]
-pub(crate) enum Misfit {
+pub enum Misfit {
     /// No deposit or payment has its reference.
     NoEntry,
     /// Its reference is not of an entry's form.
     OfNoEntry,
     /// The book has it for the entry of its reference already.
     Again,
-    /// It is dated after the business day.
-    DatedAfter,
+    /// It is dated after the business day, which is this.
+    DatedAfter(Day),
     /// It would take back a cleared deposit, for which the matter may have too little.
     TakesBack,
     /// The entry of its reference does not wait for the bank.
@@ -37,7 +37,7 @@ fn misfit_with(today: Day, exception: &Line, entry: &BookEntry) -> Misfit
         return Misfit::Again;
     }
     if today.get() < exception.date.get() {
-        return Misfit::DatedAfter;
+        return Misfit::DatedAfter(today);
     }
     if entry.may_be_returned_by(exception) {
         return Misfit::TakesBack;
@@ -57,7 +57,7 @@ pub(crate) fn misfit_of(today: Day, exception: &Line, entry: Option<&BookEntry>)
 {
     match entry {
         Some(entry) => misfit_with(today, exception, entry),
-        None if today.get() < exception.date.get() => Misfit::DatedAfter,
+        None if today.get() < exception.date.get() => Misfit::DatedAfter(today),
         None if names_entry(exception.reference.as_slice()) => Misfit::NoEntry,
         None => Misfit::OfNoEntry,
     }

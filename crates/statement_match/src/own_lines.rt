@@ -36,7 +36,7 @@ fn own_misfit(today: Day, own: &FirmLedger, line: &Line) -> UnmatchedReason
 {
     let amount = line.amount.get();
     if today.get() < line.date.get() {
-        return UnmatchedReason::DatedAfter;
+        return UnmatchedReason::DatedAfter(today);
     }
     if amount == 0 {
         return UnmatchedReason::MovesNothing;

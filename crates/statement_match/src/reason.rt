@@ -1,51 +1,60 @@
 // Why records of a statement have to be looked at.
 
-ghost use Rattle.std.specs.Prelude.{◌≡◌, find, is_some, nat_lt, option_copied, option_map};
+ghost use Rattle.std.specs.Prelude.{◌≡◌, find, is_some, nat_lt, option_copied, option_map, IfOk};
 ghost use Rattle.std.specs.List.{count_by};
 ghost use Rattle.statement_csv.specs.References.{entry_named};
 ghost use Rattle.statement_lines.specs.OpenLines.{is_named_like, is_open_fit};
 ghost use Rattle.statement_lines.specs.Relations.{count_related as count_of_related, fitted as fitted_entry};
 ghost use Rattle.statement_lines.specs.Relations.{is_related as is_related_so, stands};
 ghost use Rattle.statement_lines.specs.declared.relation.Relation.TheVariants.{Fitted};
-ghost use Rattle.statement_match.specs.Reasons.{entry_reason as entry_reason_told};
-ghost use Rattle.statement_match.specs.Reasons.{is_claimed_fit as is_claimed_fit_of, is_doubled_outcome};
+ghost use Rattle.statement_match.specs.Reasons.{doubled_reason as doubled_reason_told, entry_reason as entry_reason_told};
+ghost use Rattle.statement_match.specs.Reasons.{fit_reason as fit_reason_told, is_doubled_outcome};
 ghost use Rattle.statement_match.specs.Reasons.{is_exception as is_exception_so};
-ghost use Rattle.statement_match.specs.Reasons.{is_shared_fit as is_shared_fit_of, left_reason as left_reason_told};
-ghost use Rattle.statement_match.specs.Reasons.{kept_reason as kept_reason_told};
+ghost use Rattle.statement_match.specs.Reasons.{left_reason as left_reason_told};
 ghost use Rattle.statement_match.specs.Reasons.{named_reason as named_reason_told, reason_for as reason_told};
+ghost use Rattle.statement_match.specs.Reasons.{related_reason as related_reason_told};
 
+use crate::candidate::{Candidates, candidates_of};
 use crate::grounds::LineGrounds;
+use crate::named_exception::{NamedExceptions, exceptions_of};
 use crate::own_lines::{is_own, own_reason};
-use crate::rule::is_beside_booked;
+use crate::rule::{booked_like, count_open_like, is_beside_booked};
+use crate::sharers::{Sharers, sharers_of};
 use firm_rows::FirmLedger;
 use statement_lines::{BookEntry, Index, LineOutcome, Relation, StatementLine, WaitingEntry};
-use trust_base::{Day, EntryNo, Line, MatterNo};
+use std::alloc::{AllocError, Global};
+use trust_base::{BankText, Day, EntryNo, Line, MatterNo};
 
-/// Why a record has to be looked at.
-#[derive(Clone, Copy)]
-pub(crate) enum UnmatchedReason {
-    /// It was imported under references, and is an exception under them.
-    IsException,
-    /// It is dated after the business day.
-    DatedAfter,
+/// Why a record has to be looked at, with what it may be.
+#[derive(Drop)]
+pub enum UnmatchedReason {
+    /// It was imported under references, and is an exception under them: these, and the waiting entries of its amount.
+    IsException(NamedExceptions, Candidates),
+    /// It is dated after the business day, which is this.
+    DatedAfter(Day),
     /// Another open line, or a line of the book, has its date, bank reference and amount.
-    Doubled,
+    Doubled {
+        /// How many open lines have these, itself included.
+        records: u64,
+        /// How many lines of the book have them.
+        booked: u64,
+    },
     /// A line of the book has its date and bank reference.
     BesideBooked,
-    /// It fits several entries.
-    FitsSeveral,
-    /// It fits an entry that another record names.
-    Claimed,
-    /// It fits an entry that other open lines fit too.
-    Shared,
-    /// Its words speak of a charge, a return or a correction.
-    OtherBusiness,
-    /// Entries of the book are in this relation to it.
-    Related(Relation),
+    /// It fits several entries: these.
+    FitsSeveral(Candidates),
+    /// It fits the entry with this reference, which another record has.
+    Claimed(BankText),
+    /// These records, itself included, fit the entry with this reference.
+    Shared(Sharers, BankText),
+    /// Its words speak of a charge, a return or a correction. It may be a return of these.
+    OtherBusiness(Candidates),
+    /// Entries of the book are in this relation to it: these.
+    Related(Relation, Candidates),
     /// The book has no entry of its amount.
     NoneOfItsAmount,
-    /// The book has no entry of its amount, but the waiting deposits that were booked on this day add up to it.
-    Together(Day),
+    /// The book has no entry of its amount, but the waiting deposits that were booked on this day add up to it: these.
+    Together(Day, Candidates),
     /// It is a line of the firm's own with which the firm's own money would be this much, in cents: too little, or too
     /// much.
     OwnMoney(i64),
@@ -129,28 +138,6 @@ fn is_shared(today: Day, index: &Index, entry: &WaitingEntry) -> bool
     is_shared_among(today, index.lines_of_amount(entry), entry)
 }
 
-// Whether the line fits an entry whose reference a record claims.
-fn is_claimed_fit(today: Day, grounds: &LineGrounds) -> bool
-    ensures { result ≡ is_claimed_fit_of grounds.now.records.lines
-        (fitted_entry today grounds.now.known grounds.now.line) }
-{
-    match fitted(today, grounds) {
-        Some(entry) => grounds.index().is_claimed(&entry.entry.reference),
-        None => false,
-    }
-}
-
-// Whether the line fits an entry that other open lines fit too.
-fn is_shared_fit(today: Day, grounds: &LineGrounds) -> bool
-    ensures { result ≡ is_shared_fit_of today grounds.now.records.lines
-        (fitted_entry today grounds.now.known grounds.now.line) }
-{
-    match fitted(today, grounds) {
-        Some(entry) => is_shared(today, grounds.index(), &entry.entry),
-        None => false,
-    }
-}
-
 // How many of the given exceptions are the line with a reference.
 fn count_exceptions_among(found: &[(u64, &Line)], line: &StatementLine) -> usize
     ensures { result ≡ count_by (λ e. is_named_like line.now e.1.now) found.now }
@@ -185,63 +172,125 @@ fn is_doubled(outcome: &LineOutcome) -> bool
     }
 }
 
+// The reason that counts the lines that have the date, bank reference and amount of the line.
+fn doubled_reason(grounds: &LineGrounds) -> UnmatchedReason
+    ensures { result
+        ≡ doubled_reason_told grounds.now.known grounds.now.records.lines grounds.now.line }
+{
+    let line = grounds.line();
+    UnmatchedReason::Doubled {
+        records: count_open_like(grounds.index(), line) as u64,
+        booked: booked_like(grounds.index(), line.line()) as u64,
+    }
+}
+
+// The reason that tells the entries that are in this relation to the line.
+fn related_reason(
+    alloc: Global,
+    relation: Relation,
+    today: Day,
+    grounds: &LineGrounds,
+) -> Result<UnmatchedReason, AllocError>
+    ensures { IfOk result
+        (λ reason. reason ≡ related_reason_told relation today grounds.now.known grounds.now.line) }
+{
+    let found = candidates_of(alloc, relation, today, grounds)?;
+    Ok(UnmatchedReason::Related(relation, found))
+}
+
 // Why a line that fits no entry is left, according to its words and the entries of the book.
 #[tactic(auto, unfolding(crate::specs::Reasons::entry_reason))]
-fn entry_reason(today: Day, grounds: &LineGrounds) -> UnmatchedReason
-    ensures { result ≡ entry_reason_told today grounds.now.known grounds.now.line }
+fn entry_reason(
+    alloc: Global,
+    today: Day,
+    grounds: &LineGrounds,
+) -> Result<UnmatchedReason, AllocError>
+    ensures { IfOk result (λ reason. reason ≡ entry_reason_told today grounds.now.known grounds.now.line) }
 {
     if grounds.line().is_of_other_business() {
-        return UnmatchedReason::OtherBusiness;
+        let found = candidates_of(alloc, Relation::MaybeReturned, today, grounds)?;
+        return Ok(UnmatchedReason::OtherBusiness(found));
     }
     if is_related(Relation::NotWaiting, today, grounds) {
-        return UnmatchedReason::Related(Relation::NotWaiting);
+        return related_reason(alloc, Relation::NotWaiting, today, grounds);
     }
     if is_related(Relation::IssuedAfter, today, grounds) {
-        return UnmatchedReason::Related(Relation::IssuedAfter);
+        return related_reason(alloc, Relation::IssuedAfter, today, grounds);
     }
     if is_related(Relation::OfAnotherAmount, today, grounds) {
-        return UnmatchedReason::Related(Relation::OfAnotherAmount);
+        return related_reason(alloc, Relation::OfAnotherAmount, today, grounds);
     }
     if is_related(Relation::OfItsAmount, today, grounds) {
-        return UnmatchedReason::Related(Relation::OfItsAmount);
+        return related_reason(alloc, Relation::OfItsAmount, today, grounds);
     }
     if is_related(Relation::MaybeReturned, today, grounds) {
-        return UnmatchedReason::Related(Relation::MaybeReturned);
+        return related_reason(alloc, Relation::MaybeReturned, today, grounds);
     }
     match grounds.first_day() {
-        Some(day) => UnmatchedReason::Together(day),
-        None => UnmatchedReason::NoneOfItsAmount,
+        Some(day) => {
+            let found = candidates_of(alloc, Relation::HeldOn(day.get()), today, grounds)?;
+            Ok(UnmatchedReason::Together(day, found))
+        }
+        None => Ok(UnmatchedReason::NoneOfItsAmount),
     }
+}
+
+// Why a line is left that fits at most one entry: this one, if any.
+#[tactic(auto, unfolding(crate::specs::Reasons::fit_reason))]
+fn fit_reason(
+    alloc: Global,
+    today: Day,
+    grounds: &LineGrounds,
+    fit: Option<&BookEntry>,
+) -> Result<UnmatchedReason, AllocError>
+    ensures { IfOk result (λ reason. reason ≡ fit_reason_told today grounds.now.known grounds.now.records
+        grounds.now.line (option_copied fit.entry)) }
+{
+    let Some(fit) = fit else {
+        return entry_reason(alloc, today, grounds);
+    };
+    let reference = &fit.entry.reference;
+    if grounds.index().is_claimed(reference) {
+        return Ok(UnmatchedReason::Claimed(reference.copied()?));
+    }
+    if is_shared(today, grounds.index(), &fit.entry) {
+        let found = sharers_of(alloc, today, &fit.entry, grounds)?;
+        return Ok(UnmatchedReason::Shared(found, reference.copied()?));
+    }
+    entry_reason(alloc, today, grounds)
 }
 
 // Why a line is left.
 #[tactic(auto, unfolding(crate::specs::Reasons::left_reason))]
-fn left_reason(today: Day, grounds: &LineGrounds, outcome: &LineOutcome) -> UnmatchedReason
-    ensures { result ≡ left_reason_told today grounds.now.known grounds.now.records.lines grounds.now.line outcome.now }
+fn left_reason(
+    alloc: Global,
+    today: Day,
+    grounds: &LineGrounds,
+    outcome: &LineOutcome,
+) -> Result<UnmatchedReason, AllocError>
+    ensures { IfOk result (λ reason. reason
+        ≡ left_reason_told today grounds.now.known grounds.now.records grounds.now.line outcome.now) }
 {
     let line = grounds.line().line();
     if is_exception(grounds) {
-        return UnmatchedReason::IsException;
+        let found = exceptions_of(alloc, today, grounds)?;
+        let waiting = candidates_of(alloc, Relation::OfItsAmount, today, grounds)?;
+        return Ok(UnmatchedReason::IsException(found, waiting));
     }
     if today.get() < line.date.get() {
-        return UnmatchedReason::DatedAfter;
+        return Ok(UnmatchedReason::DatedAfter(today));
     }
     if is_doubled(outcome) {
-        return UnmatchedReason::Doubled;
+        return Ok(doubled_reason(grounds));
     }
     if is_beside_booked(grounds.index(), line) {
-        return UnmatchedReason::BesideBooked;
+        return Ok(UnmatchedReason::BesideBooked);
     }
     if 1 < count_related(Relation::Fitted, today, grounds) {
-        return UnmatchedReason::FitsSeveral;
+        let found = candidates_of(alloc, Relation::Fitted, today, grounds)?;
+        return Ok(UnmatchedReason::FitsSeveral(found));
     }
-    if is_claimed_fit(today, grounds) {
-        return UnmatchedReason::Claimed;
-    }
-    if is_shared_fit(today, grounds) {
-        return UnmatchedReason::Shared;
-    }
-    entry_reason(today, grounds)
+    fit_reason(alloc, today, grounds, fitted(today, grounds))
 }
 
 /// Whether a reference has the form of an entry's.
@@ -260,51 +309,54 @@ pub(crate) fn names_entry(reference: &[u8]) -> bool
 
 // Why a line with a reference has to be looked at.
 #[tactic(auto, unfolding(crate::specs::Reasons::named_reason))]
-fn named_reason(today: Day, grounds: &LineGrounds) -> Option<UnmatchedReason>
-    ensures { result ≡ named_reason_told today grounds.now.known grounds.now.line }
+fn named_reason(
+    alloc: Global,
+    today: Day,
+    grounds: &LineGrounds,
+) -> Result<Option<UnmatchedReason>, AllocError>
+    ensures { IfOk result (λ reason. reason ≡ named_reason_told today grounds.now.known grounds.now.line) }
 {
     let line = grounds.line().line();
     if !names_entry(line.reference.as_slice()) || is_related(Relation::NamedAgain, today, grounds) {
-        return None;
+        return Ok(None);
     }
     if today.get() < line.date.get() {
-        return Some(UnmatchedReason::DatedAfter);
+        return Ok(Some(UnmatchedReason::DatedAfter(today)));
     }
     if !is_related(Relation::Named, today, grounds) {
-        return Some(UnmatchedReason::NamesNone);
+        return Ok(Some(UnmatchedReason::NamesNone));
     }
-    if is_related(Relation::NamedOfAnotherAmount, today, grounds) {
-        return Some(UnmatchedReason::Related(Relation::NamedOfAnotherAmount));
+    if !is_related(Relation::NamedOfAnotherAmount, today, grounds) {
+        return Ok(None);
     }
-    None
-}
-
-// Why a line with a reference has to be looked at. `own` is the firm's own ledger as it is then.
-fn kept_reason(today: Day, grounds: &LineGrounds, own: &FirmLedger) -> Option<UnmatchedReason>
-    ensures { result ≡ kept_reason_told today grounds.now.known own.now grounds.now.line }
-{
-    let line = grounds.line().line();
-    if is_own(line) {
-        return own_reason(today, own, line);
-    }
-    named_reason(today, grounds)
+    let reason = related_reason(alloc, Relation::NamedOfAnotherAmount, today, grounds)?;
+    Ok(Some(reason))
 }
 
 /// Why a line with this outcome has to be looked at; `None` if it does not. `own` is the firm's own ledger after an
-/// import of the lines before.
+/// import of the lines before. The only error is out of memory.
 #[tactic(auto, unfolding(crate::specs::Reasons::reason_for))]
 pub(crate) fn reason_for(
+    alloc: Global,
     today: Day,
     grounds: &LineGrounds,
     own: &FirmLedger,
     outcome: &LineOutcome,
-) -> Option<UnmatchedReason>
-    ensures { result
-        ≡ reason_told today grounds.now.known own.now grounds.now.records.lines grounds.now.line outcome.now }
+) -> Result<Option<UnmatchedReason>, AllocError>
+    ensures { IfOk result (λ reason. reason
+        ≡ reason_told today grounds.now.known own.now grounds.now.records grounds.now.line outcome.now) }
 {
     match outcome {
-        LineOutcome::AsItIs => kept_reason(today, grounds, own),
-        LineOutcome::InBook | LineOutcome::Filled(_) => None,
-        LineOutcome::Doubled | LineOutcome::Left => Some(left_reason(today, grounds, outcome)),
+        LineOutcome::AsItIs if is_own(grounds.line().line()) => Ok(own_reason(
+            today,
+            own,
+            grounds.line().line(),
+        )),
+        LineOutcome::AsItIs => named_reason(alloc, today, grounds),
+        LineOutcome::InBook | LineOutcome::Filled(_) => Ok(None),
+        LineOutcome::Doubled | LineOutcome::Left => {
+            let reason = left_reason(alloc, today, grounds, outcome)?;
+            Ok(Some(reason))
+        }
     }
 }

@@ -8,6 +8,8 @@ use Rattle.firm_rows.specs.FirmSound.{IsInOrder}
 use Rattle.firm_lists.specs.Laws.{AgreeFor, AreListedAlike, has_seat}
 use Rattle.firm_lists.proofs.Own.{persons-own}
 use Rattle.trust_desk.specs.declared.requests.Request.{Request}
+use Rattle.trust_desk.specs.declared.requests.MatchText.{MatchText}
+use Rattle.trust_desk.specs.declared.requests.MatchText.TheVariants as part
 use Rattle.trust_desk.specs.declared.requests.Request.TheVariants.{Matter, Import, Match, Dismiss, Report, Reconcile, AsOf, Within, Listed, Reasons}
 use Rattle.trust_desk.specs.declared.requests.CallerList.TheVariants.{Matters, Waiting}
 use Rattle.trust_desk.specs.ToldOwn.{EachIsToldOwn}
@@ -39,8 +41,9 @@ told day person f g agree m ask = cases (has_seat person (of m f) || has_seat pe
 imports : (day : ℕ) (person bytes : List ℕ) (f g : Firm) → (firm_step day f (Asks (Import (Person person) bytes))).reply ≡ (firm_step day g (Asks (Import (Person person) bytes))).reply
 imports day person bytes f g = grind (arith, nat_tests, no-import)
 
-matches : (day : ℕ) (person bytes : List ℕ) (text : _) (f g : Firm) → (firm_step day f (Asks (Match (Person person) bytes text))).reply ≡ (firm_step day g (Asks (Match (Person person) bytes text))).reply
-matches day person bytes text f g = grind (arith, nat_tests, no-import)
+matches : (day : ℕ) (person bytes : List ℕ) (text : MatchText) (f g : Firm) → (firm_step day f (Asks (Match (Person person) bytes text))).reply ≡ (firm_step day g (Asks (Match (Person person) bytes text))).reply
+matches day person bytes part.Statement f g = grind (arith, nat_tests, no-import)
+matches day person bytes part.Unmatched f g = grind (arith, nat_tests, no-import)
 
 -- the replies are alike for the caller that the person is
 alike : (day : ℕ) (person : List ℕ) (f g : Firm) (made : Caller → Request) (caller : Caller) → caller ≡ Person person

@@ -12,11 +12,13 @@ use Rattle.statement_csv.specs.declared.item.Item.{Item}
 use Rattle.statement_csv.specs.declared.item.Item.TheVariants as item
 use Rattle.trust_desk.specs.declared.requests.Request.{Request}
 use Rattle.trust_desk.specs.declared.requests.Request.TheVariants.{Matter, Import, Match, Dismiss, Report, Reconcile, AsOf, Within, Listed, Reasons}
+use Rattle.trust_desk.specs.declared.requests.MatchText.{MatchText}
+use Rattle.trust_desk.specs.declared.requests.MatchText.TheVariants as part
 use Rattle.trust_desk.specs.declared.requests.Reply.{Reply}
 use Rattle.trust_desk.specs.ItemStep.{names_item}
 use Rattle.trust_desk.specs.ImportStep.{import_refusal, imported}
 use Rattle.trust_desk.specs.ReportStep.{day_report_for, period_report_for, reconciliation_for, report_for}
-use Rattle.trust_desk.specs.MatchStep.{match_text}
+use Rattle.trust_desk.specs.MatchStep.{statement_for, unmatched_for}
 use Rattle.trust_desk.specs.ListStep.{list_for, reasons_for}
 
 -- a request, or a message that was refused before it became one; such a message may name a matter
@@ -49,11 +51,16 @@ pub data Kind : Type 0 where
   -- a message that was refused before it became a request
   NotRead : (named : Option ℕ) (refusal : Refusal) → Kind
 
+-- of a matched statement: what an import takes is told as text, and what is left is shown as JSON
+abbrev pub match_kind : MatchText → Caller → List ℕ → Kind
+match_kind part.Statement caller statement = OnlyTold (statement_for caller statement)
+match_kind part.Unmatched caller statement = OnlyShown (unmatched_for caller statement)
+
 abbrev pub kind_of : Heard → Kind
 kind_of (Asks (Matter m caller ask)) = OfMatter m caller ask
 kind_of (Asks (Import caller statement)) = OfItems (import_refusal caller statement) (imported caller statement)
 kind_of (Asks (Dismiss caller line)) = Dismisses caller line
-kind_of (Asks (Match caller statement text)) = OnlyTold (match_text text caller statement)
+kind_of (Asks (Match caller statement text)) = match_kind text caller statement
 kind_of (Asks (Report caller report)) = OnlyTold (report_for caller report)
 kind_of (Asks (Reconcile caller day)) = OnlyTold (reconciliation_for caller day)
 kind_of (Asks (AsOf caller report day)) = OnlyTold (day_report_for caller report day)

@@ -4,23 +4,23 @@ use Rattle.trust_base.specs.declared.refusal.Refusal.{Refusal}
 use Rattle.trust_base.specs.Refusals.{is_fault}
 use Rattle.trust_matter.specs.declared.ask.Caller.{Caller}
 use Rattle.firm_rows.specs.Firm.{Firm}
-use Rattle.statement_match.specs.Matched.{MatchedTexts, matched}
-use Rattle.trust_desk.specs.declared.requests.MatchText.{MatchText}
-use Rattle.trust_desk.specs.declared.requests.MatchText.TheVariants.{Statement, Unmatched}
+use Rattle.statement_match.specs.Matched.{Matched, matched}
+use Rattle.match_bodies.specs.UnmatchedBody.{unmatched_body}
 use Rattle.trust_desk.specs.ImportStep.{import_refusal}
 use Rattle.trust_desk.specs.ReportStep.{text_unless}
 
-abbrev pub text_in : MatchText → MatchedTexts → List ℕ
-text_in Statement texts = texts.statement
-text_in Unmatched texts = texts.unmatched
+-- the statement for the import; it is refused for the same reasons as an import of it
+abbrev pub statement_for : Caller → List ℕ → ℕ → Firm → Result (List ℕ) Refusal
+statement_for caller bytes today firm =
+    text_unless (import_refusal caller bytes) (matched today firm bytes).statement
 
--- one of the two texts for the statement; it is refused for the same reasons as an import of it
-abbrev pub match_text : MatchText → Caller → List ℕ → ℕ → Firm → Result (List ℕ) Refusal
-match_text text caller bytes today firm =
-    text_unless (import_refusal caller bytes) (text_in text (matched today firm bytes))
+-- the records that a person has to look at, each with its reason, as JSON; refused likewise
+abbrev pub unmatched_for : Caller → List ℕ → ℕ → Firm → Result (List ℕ) Refusal
+unmatched_for caller bytes today firm =
+    text_unless (import_refusal caller bytes) (unmatched_body (matched today firm bytes).unmatched)
 
--- both texts; or it was refused, or the store or memory stopped it
-abbrev pub IsMatched : ℕ → Firm → Caller → List ℕ → Result MatchedTexts Refusal → Type 0
-IsMatched today firm caller bytes (Ok texts) =
-    (import_refusal caller bytes ≡ None) × (texts ≡ matched today firm bytes)
+-- both of these; or it was refused, or the store or memory stopped it
+abbrev pub IsMatched : ℕ → Firm → Caller → List ℕ → Result Matched Refusal → Type 0
+IsMatched today firm caller bytes (Ok both) =
+    (import_refusal caller bytes ≡ None) × (both ≡ matched today firm bytes)
 IsMatched today firm caller bytes (Err r) = (is_fault r ≡ true) ⊎ (import_refusal caller bytes ≡ Some r)

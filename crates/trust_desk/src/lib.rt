@@ -37,8 +37,8 @@
 //!   matter (by the same clauses). That the card's matter is read whole is the contract of a private function.
 //! - `Desk::answer_beside`: the same as `replied`. No clause says what it keeps of the rows.
 //! - `Desk::match_statement`: over every book: a statement whose references may be empty is refused as an import of it
-//!   would be, or becomes the two texts that the definition gives for the day and the firm's rows (`matched`); the firm
-//!   stays as it is (`same`), also after a crash (`crash`).
+//!   would be, or becomes the statement for the import and the records that are left, as the definition gives them for
+//!   the day and the firm's rows (`matched`); the firm stays as it is (`same`), also after a crash (`crash`).
 //! - `Desk::check`: over every book whose store can be read as rows, **sound or not: it finds no flaw exactly if the
 //!   rows are those of a sound firm** (`sound`), and a flaw that it finds is there (`flaw`); there are as many matters,
 //!   entries, movements, lines of the firm's own, exceptions and balances as it says (`counts`); the book stays as it

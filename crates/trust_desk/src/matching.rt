@@ -5,31 +5,17 @@ ghost use Rattle.trust_desk.specs.Answered.{IsAnswered};
 ghost use Rattle.trust_desk.specs.Calls.{Counts, KeepsBook};
 ghost use Rattle.trust_desk.specs.Counts.{counted_end};
 ghost use Rattle.trust_desk.specs.Crashes.{MayLeaveChange, is_fault_end};
-ghost use Rattle.trust_desk.specs.Heard.{Heard, OnlyTold, kind_of};
-ghost use Rattle.trust_desk.specs.MatchStep.{IsMatched, match_text, text_in};
+ghost use Rattle.trust_desk.specs.Heard.{Heard, OnlyShown, OnlyTold, kind_of, match_kind};
+ghost use Rattle.trust_desk.specs.MatchStep.{IsMatched, statement_for, unmatched_for};
 
 use crate::desk::Desk;
 use crate::requests::{Body, MatchText, Reply, check_import};
+use match_bodies::unmatched_body;
 use statement_match::{Matched, match_statement};
 use std::alloc::Global;
 use trust_base::{Day, OwnedBytes, Refusal};
 use trust_matter::Caller;
 use trust_store::Book;
-
-// Returns one of the two texts.
-fn text_in(matched: Matched, text: MatchText) -> Vec<u8>
-    ensures { result.items ≡ text_in text matched }
-{
-    let Matched {
-        statement,
-        unmatched,
-        is_left: _,
-    } = matched;
-    match text {
-        MatchText::Statement => statement,
-        MatchText::Unmatched => unmatched,
-    }
-}
 
 impl<B: Book> Desk<B> {
     /// Matches a statement whose references may be empty against the book on a business day. The book is unchanged.
@@ -62,7 +48,48 @@ impl<B: Book> Desk<B> {
         Ok(matched)
     }
 
-    /// Answers with one text of a matched statement, or says why it is refused. Nothing changes.
+    // Answers with the statement for the import, or says why it is refused. Nothing changes.
+    fn answer_statement(
+        &mut self,
+        alloc: Global,
+        caller: &Caller,
+        statement: &OwnedBytes,
+        day: Day,
+    ) -> Result<Reply, Refusal>
+        ensures { (h : Heard) → kind_of h ≡ OnlyTold (statement_for caller.now statement.now)
+            → IsAnswered day h result (B.seen self.old) (B.seen self.new) }
+    {
+        let matched = self.match_statement(alloc, caller, statement.as_slice(), day)?;
+        let Matched {
+            statement,
+            unmatched: _unmatched,
+        } = matched;
+        Ok(Reply {
+            status: 200,
+            body: Body::Text(OwnedBytes::new(statement)),
+        })
+    }
+
+    // Answers with the records that a match leaves, or says why it is refused. Nothing changes.
+    fn answer_unmatched(
+        &mut self,
+        alloc: Global,
+        caller: &Caller,
+        statement: &OwnedBytes,
+        day: Day,
+    ) -> Result<Reply, Refusal>
+        ensures { (h : Heard) → kind_of h ≡ OnlyShown (unmatched_for caller.now statement.now)
+            → IsAnswered day h result (B.seen self.old) (B.seen self.new) }
+    {
+        let matched = self.match_statement(alloc, caller, statement.as_slice(), day)?;
+        let body = unmatched_body(alloc, &matched.unmatched)?;
+        Ok(Reply {
+            status: 200,
+            body: Body::Json(OwnedBytes::new(body)),
+        })
+    }
+
+    /// Answers with what is asked of a matched statement, or says why it is refused. Nothing changes.
     pub(crate) fn answer_match(
         &mut self,
         alloc: Global,
@@ -71,13 +98,12 @@ impl<B: Book> Desk<B> {
         text: MatchText,
         day: Day,
     ) -> Result<Reply, Refusal>
-        ensures { (h : Heard) → kind_of h ≡ OnlyTold (match_text text caller.now statement.now)
+        ensures { (h : Heard) → kind_of h ≡ match_kind text caller.now statement.now
             → IsAnswered day h result (B.seen self.old) (B.seen self.new) }
     {
-        let matched = self.match_statement(alloc, caller, statement.as_slice(), day)?;
-        Ok(Reply {
-            status: 200,
-            body: Body::Text(OwnedBytes::new(text_in(matched, text))),
-        })
+        match text {
+            MatchText::Statement => self.answer_statement(alloc, caller, statement, day),
+            MatchText::Unmatched => self.answer_unmatched(alloc, caller, statement, day),
+        }
     }
 }

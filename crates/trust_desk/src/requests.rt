@@ -53,12 +53,12 @@ pub enum CallerList {
     Waiting,
 }
 
-/// One of the two texts that matching a statement gives.
+/// What is asked of a statement that is matched.
 #[derive(Clone, Copy)]
 pub enum MatchText {
     /// The statement for the import.
     Statement,
-    /// What a person has to look at, and the counts.
+    /// The records that a person has to look at, each with its reason, and the counts.
     Unmatched,
 }
 
@@ -80,7 +80,7 @@ pub enum Request {
         caller: Caller,
         line: Line,
     },
-    /// A caller sends in a statement whose references may be empty, and asks for a text that matching it gives.
+    /// A caller sends in a statement whose references may be empty, and asks what matching it gives.
     Match {
         caller: Caller,
         statement: OwnedBytes,

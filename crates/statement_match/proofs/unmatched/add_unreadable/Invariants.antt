@@ -3,5 +3,5 @@ use Rattle.statement_match.proofs.unmatched.add_unreadable.Given as goal
 
 abbrev pub invariant-loop-number : goal.invariant-loop-number
 invariant-loop-number l =
-    l.fn.lines.items ++ told_unreadable l.before (l.last - l.before)
-    ≡ l.lines.items ++ told_unreadable l.number (l.last - l.number)
+    l.fn.records.items ++ told_unreadable l.before (l.last - l.before)
+    ≡ l.records.items ++ told_unreadable l.number (l.last - l.number)

@@ -1,5 +1,5 @@
 use Rattle.statement_match.proofs.Names.{◌∙◌, ◌==◌, reference_key, text_key, names, first_found}
-use Rattle.statement_match.proofs.Candidates.{named_alike}
+use Rattle.statement_match.proofs.EntriesKept.{named_alike}
 use Rattle.statement_match.proofs.grounds.Grounds.entry_of.Goals as goal
 
 pub returns : goal.returns

@@ -1,5 +1,5 @@
 use Rattle.statement_match.proofs.Names.{filter, elements, is_shown, arith, ints, nat_tests}
-use Rattle.statement_match.proofs.Candidates.{amount_kept, held_kept, named_kept, shown_kept}
+use Rattle.statement_match.proofs.EntriesKept.{amount_kept, held_kept, named_kept, shown_kept}
 use Rattle.statement_match.proofs.grounds.LineGrounds.candidates.Goals as goal
 
 pub returns-in-Fitted : goal.returns-in-Fitted

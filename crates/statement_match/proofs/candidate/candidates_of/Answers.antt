@@ -1,0 +1,4 @@
+use Rattle.statement_match.proofs.candidate.candidates_of.Goals as goal
+
+pub returns : goal.returns
+returns c = rw (c.line.ensures, c.candidates-found.ensures c.args.today) at c.in_ok-listed.ensures
