@@ -165,10 +165,7 @@ impl<'a> EntryLines<'a> {
                     let amount = payment.amount.get() as i64;
                     (Some((&paid.clearing, -amount)), None)
                 }
-                PaymentState::Proposed
-                | PaymentState::Declined
-                | PaymentState::Issued(_)
-                | PaymentState::Voided(_) => (None, None),
+                _ => (None, None),
             },
             Entry::Fee(_) | Entry::Claim(_) => (None, None),
         };

@@ -16,10 +16,7 @@ fn issued_on(entry: &Entry) -> Option<Day> {
     };
     match &payment.state {
         PaymentState::Issued(day) => Some(*day),
-        PaymentState::Proposed
-        | PaymentState::Declined
-        | PaymentState::Cleared(_)
-        | PaymentState::Voided(_) => None,
+        _ => None,
     }
 }
 
