@@ -10,8 +10,11 @@ ghost use Rattle.matter_rows.specs.Sound.{Sound};
 ghost use Rattle.matter_rows.specs.declared.entry.Entry.TheVariants.{Claim as claim_entry, Deposit as deposit_entry, Fee as fee_entry, Payment as payment_entry};
 ghost use Rattle.matter_bodies.specs.Bodies.{against_entry as claimed_fee_in, against_name as ground_name_in, balance_sums, bank_day_value, bank_ref_value};
 ghost use Rattle.matter_bodies.specs.Bodies.{claim_left_value, claimant_of as claimant_in, client_value, entry_body, entry_object, fund_entry as fund_entry_in};
-ghost use Rattle.matter_bodies.specs.Bodies.{fund_name as fund_name_in, import_body, matter_body, matter_members, opened_value, purge_body, purge_members};
-ghost use Rattle.matter_bodies.specs.Bodies.{purged_on, receipt_body};
+ghost use Rattle.matter_bodies.specs.Bodies.{deposit_clearing, deposit_returning, deposit_state_name};
+ghost use Rattle.matter_bodies.specs.Bodies.{fund_name as fund_name_in, import_body, issued_on, matter_body};
+ghost use Rattle.matter_bodies.specs.Bodies.{matter_members, opened_value, payment_clearing, payment_state_name};
+ghost use Rattle.matter_bodies.specs.Bodies.{purge_body, purge_members};
+ghost use Rattle.matter_bodies.specs.Bodies.{purged_on, receipt_body, undone_on, voided_on};
 ghost use Rattle.matter_bodies.specs.Json.{amount_value, array_of, day_value, entry_value, members_between, object_of, or_null, value_tokens};
 ghost use Rattle.matter_bodies.specs.Values.{data_of, member_of, seat_object};
 
@@ -322,6 +325,34 @@ fn claim_left(against: &Against, left: u64) -> Value<'static>
     }
 }
 
+// What is told of a deposit's state: its name, the bank lines that cleared it and took it back, and the day on which it
+// was cancelled or its return was booked.
+fn deposit_told(
+    state: &DepositState,
+) -> (
+    &'static str,
+    Option<&Clearing>,
+    Option<&Clearing>,
+    Option<Day>,
+)
+    ensures name { result.0.now ≡ deposit_state_name state.now }
+    ensures clearing { option_copied result.1 ≡ deposit_clearing state.now }
+    ensures returning { option_copied result.2 ≡ deposit_returning state.now }
+    ensures undone { result.3 ≡ undone_on state.now }
+{
+    match state {
+        DepositState::Held => ("held", None, None, None),
+        DepositState::Cleared(clearing) => ("cleared", Some(clearing), None, None),
+        DepositState::Cancelled(day) => ("cancelled", None, None, Some(*day)),
+        DepositState::Returned(back) => (
+            "returned",
+            Some(&back.clearing),
+            Some(&back.returning),
+            Some(back.undone),
+        ),
+    }
+}
+
 fn write_deposit(
     alloc: Global,
     out: &mut Writer,
@@ -333,17 +364,7 @@ fn write_deposit(
     ensures tokens { OnOk result (out.new.tokens
         ≡ out.old.tokens ++ value_tokens (entry_object matter number (deposit_entry deposit.now) (pos 0))) }
 {
-    let (state, clearing, returning, undone) = match &deposit.state {
-        DepositState::Held => ("held", None, None, None),
-        DepositState::Cleared(clearing) => ("cleared", Some(clearing), None, None),
-        DepositState::Cancelled(day) => ("cancelled", None, None, Some(*day)),
-        DepositState::Returned(back) => (
-            "returned",
-            Some(&back.clearing),
-            Some(&back.returning),
-            Some(back.undone),
-        ),
-    };
+    let (state, clearing, returning, undone) = deposit_told(&deposit.state);
     write_object(
         alloc,
         out,
@@ -594,6 +615,27 @@ pub fn receipt_body(
     }
 }
 
+// What is told of a payment's state: its name, the day of issue, the bank line that cleared it, the day of voiding.
+fn payment_told(state: &PaymentState) -> (&'static str, Option<Day>, Option<&Clearing>, Option<Day>)
+    ensures name { result.0.now ≡ payment_state_name state.now }
+    ensures issued { result.1 ≡ issued_on state.now }
+    ensures clearing { option_copied result.2 ≡ payment_clearing state.now }
+    ensures undone { result.3 ≡ voided_on state.now }
+{
+    match state {
+        PaymentState::Proposed => ("proposed", None, None, None),
+        PaymentState::Declined => ("declined", None, None, None),
+        PaymentState::Issued(day) => ("issued", Some(*day), None, None),
+        PaymentState::Cleared(cleared) => (
+            "cleared",
+            Some(cleared.issued),
+            Some(&cleared.clearing),
+            None,
+        ),
+        PaymentState::Voided(voided) => ("voided", Some(voided.issued), None, Some(voided.undone)),
+    }
+}
+
 fn write_payment(
     alloc: Global,
     out: &mut Writer,
@@ -605,18 +647,7 @@ fn write_payment(
     ensures tokens { OnOk result (out.new.tokens
         ≡ out.old.tokens ++ value_tokens (entry_object matter number (payment_entry payment.now) (pos 0))) }
 {
-    let (state, issued, clearing, undone) = match &payment.state {
-        PaymentState::Proposed => ("proposed", None, None, None),
-        PaymentState::Declined => ("declined", None, None, None),
-        PaymentState::Issued(day) => ("issued", Some(*day), None, None),
-        PaymentState::Cleared(cleared) => (
-            "cleared",
-            Some(cleared.issued),
-            Some(&cleared.clearing),
-            None,
-        ),
-        PaymentState::Voided(voided) => ("voided", Some(voided.issued), None, Some(voided.undone)),
-    };
+    let (state, issued, clearing, undone) = payment_told(&payment.state);
     write_object(
         alloc,
         out,
