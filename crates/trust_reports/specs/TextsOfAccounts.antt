@@ -9,14 +9,14 @@ use Rattle.matter_rows.specs.Rows.{Rows}
 use Rattle.matter_parts.specs.Parts.{IsWhole, Part}
 use Rattle.firm_periods.specs.Accounts.{Accounted, AccountedMove, account_kept, account_of}
 use Rattle.trust_reports.specs.Texts.{line, reference_text}
-use Rattle.trust_reports.specs.TextsOfLedgers.{barred, client_text}
+use Rattle.trust_reports.specs.TextsOfLedgers.{client_text, deposit_names, payment_names}
 use Rattle.trust_reports.specs.TextsOfLists.{figure_line}
 use Rattle.trust_reports.specs.TextsOfPeriods.{cause_text, period_heading}
 
 -- the names of an entry, each after a bar, without the client, who stands in the heading
 abbrev pub entry_names : Entry → List (List ℕ)
-entry_names (entry.Deposit d) = barred d.source ++ barred d.description
-entry_names (entry.Payment p) = barred p.payee ++ (barred p.purpose ++ barred p.instrument)
+entry_names (entry.Deposit d) = deposit_names d
+entry_names (entry.Payment p) = payment_names p
 entry_names (entry.Fee f) = []
 entry_names (entry.Claim c) = []
 

@@ -99,16 +99,20 @@ against_fields (against.Fee k) = codes "ON FEE" ∷ entry_text k ∷ barred (cod
 abbrev pub made : ℕ → List ℕ → ℕ → List (List ℕ)
 made book kind amount = day_text book ∷ kind ∷ amount_text amount ∷ []
 
+-- a deposit's names, each after a bar
+abbrev pub deposit_names : Deposit → List (List ℕ)
+deposit_names d = barred d.source ++ barred d.description
+
 abbrev pub deposit_fields : Deposit → List (List ℕ)
-deposit_fields d =
-    made d.book (codes "DEPOSIT") d.amount
-    ++ (deposit_state d.state ++ (barred d.source ++ barred d.description))
+deposit_fields d = made d.book (codes "DEPOSIT") d.amount ++ (deposit_state d.state ++ deposit_names d)
+
+-- a payment's names, each after a bar
+abbrev pub payment_names : Payment → List (List ℕ)
+payment_names p = barred p.payee ++ (barred p.purpose ++ barred p.instrument)
 
 abbrev pub payment_fields : Payment → List (List ℕ)
 payment_fields p =
-    made p.book (codes "PAYMENT") p.amount
-    ++ (payment_state p.state
-    ++ (fund_fields p.fund ++ (barred p.payee ++ (barred p.purpose ++ barred p.instrument))))
+    made p.book (codes "PAYMENT") p.amount ++ (payment_state p.state ++ (fund_fields p.fund ++ payment_names p))
 
 abbrev pub fee_fields : Fee → ℤ → List (List ℕ)
 fee_fields f left = made f.book (codes "FEE") f.amount ++ (codes "LEFT" ∷ signed_text left ∷ barred f.description)

@@ -39,7 +39,7 @@ journal_text today lines = heading (codes "JOURNAL") today ++ flat_map journal_l
 abbrev pub purge_fields : RetentionLine → List (List ℕ)
 purge_fields l = if l.may_purge then codes "MAY PURGE" ∷ [] else []
 
-unfoldable pub retention_line : RetentionLine → List ℕ
+abbrev pub retention_line : RetentionLine → List ℕ
 retention_line l =
     line (matter_text l.matter)
     (codes "CLOSED" ∷ day_text l.closed ∷ codes "KEEP UNTIL" ∷ day_text l.until ∷ purge_fields l)

@@ -2,7 +2,6 @@
 
 ghost use Rattle.std.specs.Prelude.{◌≡◌, ◌++◌, ◌∷◌, [], OnErr, OnOk, codes, flat_map};
 ghost use Rattle.std.specs.Option.{option_copied};
-ghost use Rattle.matter_rows.specs.declared.entry.Entry.TheVariants as entry;
 ghost use Rattle.trust_base.specs.Texts.{signed_text};
 ghost use Rattle.trust_reports.specs.Pieces.{sum_text};
 ghost use Rattle.trust_reports.specs.Texts.{column, further, reference_text};
@@ -10,7 +9,7 @@ ghost use Rattle.trust_reports.specs.TextsOfAccounts.{account_body, account_head
 ghost use Rattle.trust_reports.specs.TextsOfPeriods.{cause_text};
 
 use crate::card::client;
-use crate::card_entries::push_barred;
+use crate::card_entries::{push_deposit_names, push_payment_names};
 use crate::page::{
     Page, Piece, Printed, Sum, append, push_column, push_day, push_fields, push_line,
 };
@@ -18,26 +17,7 @@ use crate::periods::{cause_word, push_period};
 use firm_periods::{Account, AccountLine, Cause, account_of};
 use std::alloc::{AllocError, Global};
 use trust_base::{EntryNo, MatterNo, Period};
-use trust_matter::{Deposit, Entry, Head, Matter, Payment};
-
-fn push_deposit_names(page: &mut Page, deposit: &Deposit) -> Result<(), AllocError>
-    ensures before { page.new.before ≡ page.old.before }
-    ensures text { OnOk result (page.new.text ≡ page.old.text
-        ++ flat_map further (entry_names (entry.Deposit deposit.now))) }
-{
-    push_barred(page, &deposit.source)?;
-    push_barred(page, &deposit.description)
-}
-
-fn push_payment_names(page: &mut Page, payment: &Payment) -> Result<(), AllocError>
-    ensures before { page.new.before ≡ page.old.before }
-    ensures text { OnOk result (page.new.text ≡ page.old.text
-        ++ flat_map further (entry_names (entry.Payment payment.now))) }
-{
-    push_barred(page, &payment.payee)?;
-    push_barred(page, &payment.purpose)?;
-    push_barred(page, &payment.instrument)
-}
+use trust_matter::{Entry, Head, Matter};
 
 // Appends the names of an entry, each after a bar.
 fn push_names(page: &mut Page, entry: &Entry) -> Result<(), AllocError>

@@ -3,7 +3,9 @@
 ghost use Rattle.std.specs.Prelude.{◌≡◌, [], ◌∷◌, ◌++◌, OnOk, codes, flat_map, pos};
 ghost use Rattle.trust_base.specs.Texts.{amount_text, day_text, entry_text};
 ghost use Rattle.trust_reports.specs.Texts.{further};
-ghost use Rattle.trust_reports.specs.TextsOfLedgers.{against_fields, barred, claim_fields, claim_state, deposit_fields, deposit_state, entry_fields, fee_fields, fund_fields, kept_line, made, payment_fields, payment_state, told};
+ghost use Rattle.trust_reports.specs.TextsOfLedgers.{against_fields, barred, claim_fields, claim_state, deposit_fields};
+ghost use Rattle.trust_reports.specs.TextsOfLedgers.{deposit_names, deposit_state, entry_fields, fee_fields, fund_fields};
+ghost use Rattle.trust_reports.specs.TextsOfLedgers.{kept_line, made, payment_fields, payment_names, payment_state, told};
 
 use crate::page::{Page, Piece, Printed, push_fields, push_word};
 use std::alloc::AllocError;
@@ -183,14 +185,32 @@ fn push_against(page: &mut Page, against: &Against) -> Result<(), AllocError>
     }
 }
 
+// Appends a deposit's names, each after a bar.
+pub(crate) fn push_deposit_names(page: &mut Page, deposit: &Deposit) -> Result<(), AllocError>
+    ensures before { page.new.before ≡ page.old.before }
+    ensures text { OnOk result (page.new.text ≡ page.old.text ++ flat_map further (deposit_names deposit.now)) }
+{
+    push_barred(page, &deposit.source)?;
+    push_barred(page, &deposit.description)
+}
+
+// Appends a payment's names, each after a bar.
+pub(crate) fn push_payment_names(page: &mut Page, payment: &Payment) -> Result<(), AllocError>
+    ensures before { page.new.before ≡ page.old.before }
+    ensures text { OnOk result (page.new.text ≡ page.old.text ++ flat_map further (payment_names payment.now)) }
+{
+    push_barred(page, &payment.payee)?;
+    push_barred(page, &payment.purpose)?;
+    push_barred(page, &payment.instrument)
+}
+
 fn push_deposit(page: &mut Page, deposit: &Deposit) -> Result<(), AllocError>
     ensures before { page.new.before ≡ page.old.before }
     ensures text { OnOk result (page.new.text ≡ page.old.text ++ flat_map further (deposit_fields deposit.now)) }
 {
     push_made(page, deposit.book, "DEPOSIT", deposit.amount)?;
     push_deposit_state(page, &deposit.state)?;
-    push_barred(page, &deposit.source)?;
-    push_barred(page, &deposit.description)
+    push_deposit_names(page, deposit)
 }
 
 fn push_payment(page: &mut Page, payment: &Payment) -> Result<(), AllocError>
@@ -200,9 +220,7 @@ fn push_payment(page: &mut Page, payment: &Payment) -> Result<(), AllocError>
     push_made(page, payment.book, "PAYMENT", payment.amount)?;
     push_payment_state(page, &payment.state)?;
     push_fund(page, payment.fund)?;
-    push_barred(page, &payment.payee)?;
-    push_barred(page, &payment.purpose)?;
-    push_barred(page, &payment.instrument)
+    push_payment_names(page, payment)
 }
 
 fn push_left(page: &mut Page, left: u64) -> Result<(), AllocError>
