@@ -95,10 +95,14 @@ fn add_candidate(
     ensures { OnOk result (listed.new.items ≡ take 5 (listed.old.items
         ++ cond (stands relation today line.now entry.now) (candidate_of entry.now ∷ []) [])) }
 {
-    if MOST_LISTED <= listed.len() || !relation.holds(today, line, entry) {
+    if MOST_LISTED <= listed.len() {
         return Ok(());
     }
-    listed.push(Candidate::of(entry)?)?;
+    if !relation.holds(today, line, entry) {
+        return Ok(());
+    }
+    let candidate = Candidate::of(entry)?;
+    listed.push(candidate)?;
     Ok(())
 }
 

@@ -69,10 +69,14 @@ fn add_exception(
         ++ cond (is_named_like grounds.now.line exception.now)
         (named_exception today grounds.now.known exception.now ∷ []) [])) }
 {
-    if MOST_LISTED <= listed.len() || !grounds.line().is_named_like(exception) {
+    if MOST_LISTED <= listed.len() {
         return Ok(());
     }
-    listed.push(told(today, grounds, exception)?)?;
+    if !grounds.line().is_named_like(exception) {
+        return Ok(());
+    }
+    let found = told(today, grounds, exception)?;
+    listed.push(found)?;
     Ok(())
 }
 

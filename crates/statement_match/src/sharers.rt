@@ -36,7 +36,7 @@ impl Sharers {
     fn of(alloc: Global, numbers: &[u64]) -> Result<Sharers, AllocError>
         ensures { IfOk result (λ found. found ≡ all_of numbers.now) }
     {
-        let listed = Vec::from_slice(alloc, &numbers[..numbers.len().min(MOST_LISTED)])?;
+        let listed = Vec::from_slice(alloc, &numbers[..MOST_LISTED.min(numbers.len())])?;
         let count = numbers.len() as u64;
         Ok(Sharers { listed, count })
     }
