@@ -214,8 +214,12 @@ where
 
 // Whether both books answer alike, with so many refusals. Fails if no book can be made in a database in memory.
 fn answer_alike(alloc: Global, refusals: u64, days: Days) -> Option<bool> {
-    let conn = Connection::open_in_memory(alloc).ok()?;
-    let book = SqlBook::make(alloc, conn).ok()?;
+    let Ok(conn) = Connection::open_in_memory(alloc) else {
+        return None;
+    };
+    let Ok(book) = SqlBook::make(alloc, conn) else {
+        return None;
+    };
     let in_database = asked_of(alloc, book, days);
     let in_memory = asked_of(alloc, PlainBook::new(alloc), days);
     Some(

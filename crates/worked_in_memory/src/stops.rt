@@ -5,7 +5,7 @@ use crate::files::{Calls, Image, UNSTOPPED};
 use crate::messages::SHOWING;
 use crate::old;
 use crate::runs::{Became, Doing, run};
-use crate::works::{WORKS, Work};
+use crate::works::{EXCEPTION, MAKING, MONTH, MOVING, OPENING, PAYING, TWO_MATTERS, Work};
 use crate::wrong::Wrong;
 use std::alloc::Global;
 use trust_base::Day;
@@ -168,8 +168,36 @@ fn stop_both(alloc: Global, work: &Work) -> Result<(), Wrong> {
 }
 
 #[test]
-fn a_stop_leaves_what_was_before_or_parts(rt: HostRuntime) {
-    for work in WORKS {
-        assert_eq!(rt; stop_both(rt.alloc(), work), Ok(()), "{}", work.name);
-    }
+fn a_book_is_made_or_not(rt: HostRuntime) -> Result<(), Wrong> {
+    stop_both(rt.alloc(), &MAKING)
+}
+
+#[test]
+fn a_book_of_version_1_is_moved_or_not(rt: HostRuntime) -> Result<(), Wrong> {
+    stop_both(rt.alloc(), &MOVING)
+}
+
+#[test]
+fn a_matter_is_opened_or_not(rt: HostRuntime) -> Result<(), Wrong> {
+    stop_both(rt.alloc(), &OPENING)
+}
+
+#[test]
+fn a_payment_is_issued_to_some_step(rt: HostRuntime) -> Result<(), Wrong> {
+    stop_both(rt.alloc(), &PAYING)
+}
+
+#[test]
+fn lines_of_two_matters_are_applied_to_some_line(rt: HostRuntime) -> Result<(), Wrong> {
+    stop_both(rt.alloc(), &TWO_MATTERS)
+}
+
+#[test]
+fn an_exception_joins_and_leaves_or_not(rt: HostRuntime) -> Result<(), Wrong> {
+    stop_both(rt.alloc(), &EXCEPTION)
+}
+
+#[test]
+fn a_month_is_told_to_some_line(rt: HostRuntime) -> Result<(), Wrong> {
+    stop_both(rt.alloc(), &MONTH)
 }

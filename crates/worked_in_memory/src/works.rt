@@ -8,7 +8,6 @@ use crate::messages::{
 /// The work during which a file stops.
 #[derive(Clone, Copy)]
 pub(crate) struct Work {
-    pub(crate) name: &'static str,
     /// What the book was sent before. The rows of a database of version 1 are those that this leads to.
     pub(crate) before: &'static [&'static str],
     /// What it is sent in one run, each message accepted; nothing if it is made or moved.
@@ -27,55 +26,58 @@ const PAYMENT: &[&str] = &[BOOK, CLEAR, PROPOSE, APPROVE];
 
 const LATE_CHARGE: &[&str] = &[OWN_MONEY, CHARGE, MORE_MONEY, CHARGE];
 
-/// All works.
-pub(crate) const WORKS: &[Work] = &[
-    Work {
-        name: "a book is made",
-        before: &[],
-        messages: &[],
-        versions: &[0, 2],
-        parts: &[],
-    },
-    Work {
-        name: "a book of version 1 is taken",
-        before: HISTORY,
-        messages: &[],
-        versions: &[1, 2],
-        parts: &[],
-    },
-    Work {
-        name: "a matter is opened",
-        before: &[],
-        messages: &[OPEN],
-        versions: &[2, 2],
-        parts: &[OPEN],
-    },
-    Work {
-        name: "a deposit, the line that clears it, a proposal and its approval",
-        before: &[OPEN],
-        messages: PAYMENT,
-        versions: &[2, 2, 2, 2, 2],
-        parts: PAYMENT,
-    },
-    Work {
-        name: "a statement with lines for two matters",
-        before: &[OPEN, BOOK, OPEN_OTHER, BOOK_OTHER],
-        messages: &[CLEAR_BOTH],
-        versions: &[2, 2, 2],
-        parts: &[CLEAR, CLEAR_OTHER],
-    },
-    Work {
-        name: "a line that becomes an exception, and is none when it comes again",
-        before: &[OPEN],
-        messages: LATE_CHARGE,
-        versions: &[2, 2, 2, 2, 2],
-        parts: LATE_CHARGE,
-    },
-    Work {
-        name: "a statement with balances and the firm's own money",
-        before: &[OPEN, BOOK, CLEAR],
-        messages: &[MONTH_LINES],
-        versions: &[2, 2, 2, 2, 2],
-        parts: &[OPENED, OWN_MONEY, NOBODYS, CLOSED],
-    },
-];
+/// A book is made.
+pub(crate) const MAKING: Work = Work {
+    before: &[],
+    messages: &[],
+    versions: &[0, 2],
+    parts: &[],
+};
+
+/// A book of version 1 is taken.
+pub(crate) const MOVING: Work = Work {
+    before: HISTORY,
+    messages: &[],
+    versions: &[1, 2],
+    parts: &[],
+};
+
+/// A matter is opened.
+pub(crate) const OPENING: Work = Work {
+    before: &[],
+    messages: &[OPEN],
+    versions: &[2, 2],
+    parts: &[OPEN],
+};
+
+/// A deposit, the line that clears it, a proposal and its approval.
+pub(crate) const PAYING: Work = Work {
+    before: &[OPEN],
+    messages: PAYMENT,
+    versions: &[2, 2, 2, 2, 2],
+    parts: PAYMENT,
+};
+
+/// A statement with lines for two matters.
+pub(crate) const TWO_MATTERS: Work = Work {
+    before: &[OPEN, BOOK, OPEN_OTHER, BOOK_OTHER],
+    messages: &[CLEAR_BOTH],
+    versions: &[2, 2, 2],
+    parts: &[CLEAR, CLEAR_OTHER],
+};
+
+/// Statements with a line that becomes an exception, and is no longer one when it is repeated.
+pub(crate) const EXCEPTION: Work = Work {
+    before: &[OPEN],
+    messages: LATE_CHARGE,
+    versions: &[2, 2, 2, 2, 2],
+    parts: LATE_CHARGE,
+};
+
+/// A statement with balances and the firm's own money.
+pub(crate) const MONTH: Work = Work {
+    before: &[OPEN, BOOK, CLEAR],
+    messages: &[MONTH_LINES],
+    versions: &[2, 2, 2, 2, 2],
+    parts: &[OPENED, OWN_MONEY, NOBODYS, CLOSED],
+};
