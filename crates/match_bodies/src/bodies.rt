@@ -2,13 +2,14 @@
 
 ghost use Rattle.std.specs.Prelude.{◌≡◌, ◌++◌, map, IfOk, OnOk};
 ghost use Rattle.serde_json.specs.Data.{string as text_data};
-ghost use Rattle.matter_bodies.specs.Json.{array_of, count_value, or_null, value_tokens};
+ghost use Rattle.matter_bodies.specs.Json.{array_of, count_value, or_null, sum_value, value_tokens};
 ghost use Rattle.matter_bodies.specs.Values.{data_of};
 ghost use Rattle.match_bodies.specs.UnmatchedBody.{candidate_object, candidates_object, exception_object, exceptions_object};
 ghost use Rattle.match_bodies.specs.UnmatchedBody.{line_object, misfit_name as name_of_misfit, named as named_object};
 ghost use Rattle.match_bodies.specs.UnmatchedBody.{reason_object, record_object, relation_name as name_of_relation};
 ghost use Rattle.match_bodies.specs.UnmatchedBody.{sharers_object, unmatched_body, unmatched_object, with_entries};
-ghost use Rattle.statement_match.specs.declared.reason.UnmatchedReason.TheVariants.{IsException, Shared, Together};
+ghost use Rattle.statement_match.specs.declared.reason.UnmatchedReason.TheVariants.{Claimed, DatedAfter, Doubled};
+ghost use Rattle.statement_match.specs.declared.reason.UnmatchedReason.TheVariants.{IsException, OwnMoney, Shared, Together};
 ghost use Rattle.statement_match.specs.declared.unmatched.UnmatchedRecord.TheVariants.{OfLine};
 
 use json::Writer;
@@ -59,6 +60,12 @@ fn bank_text_or_null(text: &Option<BankText>) -> Value<'_>
     }
 }
 
+fn sum(cents: i64) -> Value<'static>
+    ensures { data_of result ≡ sum_value cents }
+{
+    Value::Sum(cents as i128)
+}
+
 // Writes an entry of the book.
 fn write_candidate(alloc: Global, out: &mut Writer, candidate: &Candidate) -> Result<(), AllocError>
     ensures before { out.new.before ≡ out.old.before }
@@ -69,7 +76,7 @@ fn write_candidate(alloc: Global, out: &mut Writer, candidate: &Candidate) -> Re
         alloc,
         out,
         &[
-            ("amount", Value::Sum(candidate.amount as i128)),
+            ("amount", sum(candidate.amount)),
             ("bank_ref", bank_text_or_null(&candidate.bank_ref)),
             ("day", Value::Day(candidate.day)),
             ("party", label(&candidate.party)),
@@ -103,8 +110,7 @@ fn write_candidates(
         (out.new.tokens ≡ out.old.tokens ++ value_tokens (candidates_object candidates.now)) }
 {
     out.begin_object()?;
-    out.key("count")?;
-    out.u64(candidates.count)?;
+    write_members(alloc, out, &[("count", Value::Count(candidates.count))])?;
     out.key("listed")?;
     write_listed(alloc, out, &candidates.listed)?;
     out.end_object()
@@ -189,8 +195,7 @@ fn write_exceptions(
         (out.new.tokens ≡ out.old.tokens ++ value_tokens (exceptions_object exceptions.now)) }
 {
     out.begin_object()?;
-    out.key("count")?;
-    out.u64(exceptions.count)?;
+    write_members(alloc, out, &[("count", Value::Count(exceptions.count))])?;
     out.key("listed")?;
     write_named(alloc, out, &exceptions.listed)?;
     out.end_object()
@@ -210,14 +215,13 @@ fn write_numbers(out: &mut Writer, numbers: &[u64]) -> Result<(), AllocError>
 }
 
 // Writes how many records there are, and the numbers of the first of them.
-fn write_sharers(out: &mut Writer, sharers: &Sharers) -> Result<(), AllocError>
+fn write_sharers(alloc: Global, out: &mut Writer, sharers: &Sharers) -> Result<(), AllocError>
     ensures before { out.new.before ≡ out.old.before }
     ensures tokens { OnOk result
         (out.new.tokens ≡ out.old.tokens ++ value_tokens (sharers_object sharers.now)) }
 {
     out.begin_object()?;
-    out.key("count")?;
-    out.u64(sharers.count)?;
+    write_members(alloc, out, &[("count", Value::Count(sharers.count))])?;
     out.key("listed")?;
     write_numbers(out, &sharers.listed)?;
     out.end_object()
@@ -241,14 +245,11 @@ fn relation_name(relation: Relation) -> &'static str
 }
 
 // Writes a reason that is a name alone.
-fn write_plain(out: &mut Writer, name: &str) -> Result<(), AllocError>
+fn write_plain(alloc: Global, out: &mut Writer, name: &str) -> Result<(), AllocError>
     ensures before { out.new.before ≡ out.old.before }
     ensures tokens { OnOk result (out.new.tokens ≡ out.old.tokens ++ value_tokens (named_object name.now)) }
 {
-    out.begin_object()?;
-    out.key("name")?;
-    out.string(name)?;
-    out.end_object()
+    write_object(alloc, out, &[("name", Value::Text(name))])
 }
 
 // Writes a reason that tells entries.
@@ -265,8 +266,7 @@ fn write_with_entries(
     out.begin_object()?;
     out.key("entries")?;
     write_candidates(alloc, out, candidates)?;
-    out.key("name")?;
-    out.string(name)?;
+    write_members(alloc, out, &[("name", Value::Text(name))])?;
     out.end_object()
 }
 
@@ -304,7 +304,7 @@ fn write_shared(
     out.begin_object()?;
     write_members(alloc, out, &[("name", Value::Text("Shared"))])?;
     out.key("records")?;
-    write_sharers(out, sharers)?;
+    write_sharers(alloc, out, sharers)?;
     write_members(alloc, out, &[("reference", bank_text(reference))])?;
     out.end_object()
 }
@@ -328,6 +328,62 @@ fn write_together(
     out.end_object()
 }
 
+// Writes the reason of a line that is dated after the business day.
+fn write_dated_after(alloc: Global, out: &mut Writer, today: Day) -> Result<(), AllocError>
+    ensures before { out.new.before ≡ out.old.before }
+    ensures tokens { OnOk result
+        (out.new.tokens ≡ out.old.tokens ++ value_tokens (reason_object (DatedAfter today))) }
+{
+    let name = Value::Text("DatedAfter");
+    write_object(alloc, out, &[("name", name), ("today", Value::Day(today))])
+}
+
+// Writes the reason of a line that other records, or lines of the book, are like.
+fn write_doubled(
+    alloc: Global,
+    out: &mut Writer,
+    records: u64,
+    booked: u64,
+) -> Result<(), AllocError>
+    ensures before { out.new.before ≡ out.old.before }
+    ensures tokens { OnOk result
+        (out.new.tokens ≡ out.old.tokens ++ value_tokens (reason_object (Doubled records booked))) }
+{
+    write_object(
+        alloc,
+        out,
+        &[
+            ("booked", Value::Count(booked)),
+            ("name", Value::Text("Doubled")),
+            ("records", Value::Count(records)),
+        ],
+    )
+}
+
+// Writes the reason of a line that fits an entry which another record names.
+fn write_claimed(alloc: Global, out: &mut Writer, reference: &BankText) -> Result<(), AllocError>
+    ensures before { out.new.before ≡ out.old.before }
+    ensures tokens { OnOk result
+        (out.new.tokens ≡ out.old.tokens ++ value_tokens (reason_object (Claimed reference.now))) }
+{
+    let name = Value::Text("Claimed");
+    write_object(
+        alloc,
+        out,
+        &[("name", name), ("reference", bank_text(reference))],
+    )
+}
+
+// Writes the reason of a line of the firm's own with which that money would be this much, in cents.
+fn write_own_money(alloc: Global, out: &mut Writer, cents: i64) -> Result<(), AllocError>
+    ensures before { out.new.before ≡ out.old.before }
+    ensures tokens { OnOk result
+        (out.new.tokens ≡ out.old.tokens ++ value_tokens (reason_object (OwnMoney cents))) }
+{
+    let name = Value::Text("OwnMoney");
+    write_object(alloc, out, &[("name", name), ("sum", sum(cents))])
+}
+
 // Writes a reason.
 fn write_reason(alloc: Global, out: &mut Writer, reason: &UnmatchedReason) -> Result<(), AllocError>
     ensures before { out.new.before ≡ out.old.before }
@@ -338,29 +394,13 @@ fn write_reason(alloc: Global, out: &mut Writer, reason: &UnmatchedReason) -> Re
         UnmatchedReason::IsException(exceptions, candidates) => {
             write_is_exception(alloc, out, exceptions, candidates)
         }
-        UnmatchedReason::DatedAfter(today) => {
-            let name = Value::Text("DatedAfter");
-            write_object(alloc, out, &[("name", name), ("today", Value::Day(*today))])
+        UnmatchedReason::DatedAfter(today) => write_dated_after(alloc, out, *today),
+        UnmatchedReason::Doubled { records, booked } => {
+            write_doubled(alloc, out, *records, *booked)
         }
-        UnmatchedReason::Doubled { records, booked } => write_object(
-            alloc,
-            out,
-            &[
-                ("booked", Value::Count(*booked)),
-                ("name", Value::Text("Doubled")),
-                ("records", Value::Count(*records)),
-            ],
-        ),
-        UnmatchedReason::BesideBooked => write_plain(out, "BesideBooked"),
+        UnmatchedReason::BesideBooked => write_plain(alloc, out, "BesideBooked"),
         UnmatchedReason::FitsSeveral(found) => write_with_entries(alloc, out, found, "FitsSeveral"),
-        UnmatchedReason::Claimed(reference) => {
-            let name = Value::Text("Claimed");
-            write_object(
-                alloc,
-                out,
-                &[("name", name), ("reference", bank_text(reference))],
-            )
-        }
+        UnmatchedReason::Claimed(reference) => write_claimed(alloc, out, reference),
         UnmatchedReason::Shared(sharers, reference) => write_shared(alloc, out, sharers, reference),
         UnmatchedReason::OtherBusiness(found) => {
             write_with_entries(alloc, out, found, "OtherBusiness")
@@ -368,18 +408,11 @@ fn write_reason(alloc: Global, out: &mut Writer, reason: &UnmatchedReason) -> Re
         UnmatchedReason::Related(relation, found) => {
             write_with_entries(alloc, out, found, relation_name(*relation))
         }
-        UnmatchedReason::NoneOfItsAmount => write_plain(out, "NoneOfItsAmount"),
+        UnmatchedReason::NoneOfItsAmount => write_plain(alloc, out, "NoneOfItsAmount"),
         UnmatchedReason::Together(day, found) => write_together(alloc, out, *day, found),
-        UnmatchedReason::OwnMoney(sum) => {
-            let name = Value::Text("OwnMoney");
-            write_object(
-                alloc,
-                out,
-                &[("name", name), ("sum", Value::Sum(*sum as i128))],
-            )
-        }
-        UnmatchedReason::MovesNothing => write_plain(out, "MovesNothing"),
-        UnmatchedReason::NamesNone => write_plain(out, "NamesNone"),
+        UnmatchedReason::OwnMoney(cents) => write_own_money(alloc, out, *cents),
+        UnmatchedReason::MovesNothing => write_plain(alloc, out, "MovesNothing"),
+        UnmatchedReason::NamesNone => write_plain(alloc, out, "NamesNone"),
     }
 }
 
@@ -392,7 +425,7 @@ fn write_line(alloc: Global, out: &mut Writer, line: &Line) -> Result<(), AllocE
         alloc,
         out,
         &[
-            ("amount", Value::Sum(line.amount.get() as i128)),
+            ("amount", sum(line.amount.get())),
             ("bank_ref", bank_text(&line.bank_ref)),
             ("date", Value::Day(line.date)),
             ("reference", bank_text(&line.reference)),

@@ -1,5 +1,6 @@
-use Rattle.std.proofs.Common.{◌∙◌}
+use Rattle.std.proofs.Common.{rules, ◌≡◌, ◌∙◌, ◌++◌, [], ap}
 use Rattle.serde_json.proofs.Texts.{print-outline}
+use Rattle.matter_bodies.specs.Json.{value_tokens}
 unfoldable use Rattle.match_bodies.specs.UnmatchedBody.{unmatched_body}
 use Rattle.match_bodies.specs.UnmatchedBody.{unmatched_object}
 use Rattle.match_bodies.proofs.bodies.unmatched_body.Goals as goal
@@ -7,5 +8,8 @@ use Rattle.match_bodies.proofs.bodies.unmatched_body.Goals as goal
 pub returns : goal.returns
 unfolding unmatched_body
 returns c =
-    (rw (c.in_ok-write_unmatched.ensures.tokens, c.write_unmatched.ensures.before) at c.into_inner.ensures.items)
+    let told = value_tokens (unmatched_object c.args.unmatched.now) in
+    let before : c.write_unmatched.new.out.before ≡ [] = c.write_unmatched.ensures.before ∙ search rules in
+    let tokens : c.write_unmatched.new.out.tokens ≡ told = c.in_ok-write_unmatched.ensures.tokens ∙ ap (λ t. t ++ told) c.new-out.ensures.tokens in
+    (rw (before, tokens) at c.into_inner.ensures.items)
     ∙ print-outline (unmatched_object c.args.unmatched.now)
