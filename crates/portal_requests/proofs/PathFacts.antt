@@ -7,6 +7,7 @@ use Rattle.std.proofs.lemmas.List.{drop_all, length-drop, take_all}
 use Rattle.portal_requests.specs.declared.routes.Place.TheVariants as place
 use Rattle.portal_requests.specs.NamedByPath.{NamedByPath}
 use Rattle.trust_desk.specs.declared.requests.CallerList.TheVariants as caller_list
+use Rattle.trust_desk.specs.declared.requests.MatchText.TheVariants as part
 use Rattle.portal_requests.proofs.Literals.{AllRows, Any, LeadsBy, Nothing, Starts, by-any, by-nothing, first-starts, placed-rows, starts-whole}
 
 -- what is behind the first bytes, or nothing
@@ -155,7 +156,8 @@ at-named n (place.Within report) caller path body e =
     let period = period_in (report_day_part path) in
     subst (λ (o : Option ℕ). names n (heard_as o (reported_within caller report period)) ≡ is_the n o) (sym (firm-unnamed path (place.Within report) refl e)) (period-named n caller report period)
 at-named n place.Import caller path body e = sym (ap (is_the n) (firm-unnamed path place.Import refl e))
-at-named n (place.Match p) caller path body e = sym (ap (is_the n) (firm-unnamed path (place.Match p) refl e))
+at-named n (place.Match part.Statement) caller path body e = sym (ap (is_the n) (firm-unnamed path (place.Match part.Statement) refl e))
+at-named n (place.Match part.Unmatched) caller path body e = sym (ap (is_the n) (firm-unnamed path (place.Match part.Unmatched) refl e))
 at-named n place.Reasons caller path body e = sym (ap (is_the n) (firm-unnamed path place.Reasons refl e))
 at-named n place.Dismissal caller path body e = subst (λ (o : Option ℕ). names n (heard_as o (dismissing_in caller body)) ≡ is_the n o) (sym (firm-unnamed path place.Dismissal refl e)) (dismissal-named n caller (line_in (body_in line_keys body)))
 
