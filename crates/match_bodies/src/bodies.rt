@@ -500,8 +500,8 @@ fn write_unmatched(alloc: Global, out: &mut Writer, unmatched: &Unmatched) -> Re
     out.end_object()
 }
 
-/// The body that tells what a match leaves: the records that a person has to look at, each with its reason and with what
-/// it may be, and the counts. The only error is out of memory.
+/// The body that tells what a match leaves: the records that a person has to look at, each with its reason and with
+/// what it may be, and the counts. The only error is out of memory.
 pub fn unmatched_body(alloc: Global, unmatched: &Unmatched) -> Result<Vec<u8>, AllocError>
     ensures { IfOk result (λ bytes. bytes.items ≡ unmatched_body unmatched.now) }
 {

@@ -75,8 +75,8 @@ entry_reason today known line =
     ∷ (is_related relation.MaybeReturned today known line, related_reason relation.MaybeReturned today known line)
     ∷ []) (day_reason today known line (first_day line.amount known.entries))
 
--- the reason given the entry that it fits, if it fits one: a record has the entry's reference, or several open lines fit
--- the entry
+-- the reason given the entry that it fits, if it fits one: a record has the entry's reference, or several open lines
+-- fit the entry
 unfoldable pub fit_reason : ℕ → Known → Records → Line → Option BookEntry → UnmatchedReason
 fit_reason today known records line None = entry_reason today known line
 fit_reason today known records line (Some e) =

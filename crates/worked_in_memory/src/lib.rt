@@ -2,8 +2,8 @@
 //!
 //! Clients are served in virtual time. At each call of a book's two files a run stops, and afterwards the book holds
 //! the rows from before or those after. What is asked on several days is answered alike over a book in memory and over
-//! one in a database. Calls that the program does not make are made: of figures of rows in memory, of a run, and of the
-//! items of a statement.
+//! one in a database. A book refuses a write, a reader and a writer fail. Calls that the program does not make are
+//! made: of figures of rows in memory, of a run, and of the items of a statement.
 #![tactic(auto)]
 
 #[cfg(test)]
@@ -25,9 +25,15 @@ mod messages;
 #[cfg(test)]
 mod old;
 #[cfg(test)]
+mod refused;
+#[cfg(test)]
+mod refusing;
+#[cfg(test)]
 mod runs;
 #[cfg(test)]
 mod stops;
+#[cfg(test)]
+mod trial;
 #[cfg(test)]
 mod works;
 #[cfg(test)]
