@@ -1,6 +1,7 @@
 // Balances by day: lists of points, a day and the sum behind its last movement, in whole cents.
 
 import { amountOf, cents } from './amounts.js';
+import { movementsOf } from './entry-facts.js';
 import { readJournal } from './reports.js';
 
 // The account's, by the journal's own sums. The journal stands in the order of booking, and a line of the firm's own
@@ -13,13 +14,6 @@ export function balanceOfJournal(text) {
         points.set(last, cents(sum));
     }
     return [...points].map(([day, sum]) => ({ day, sum }));
-}
-
-// What an entry moves in its matter's ledger, and when.
-function movementsOf({ kind, day, amount, issued, undone }) {
-    const moved = { deposit: [[day, cents(amount)], [undone, -cents(amount)]],
-        payment: [[issued, -cents(amount)], [undone, cents(amount)]] }[kind] ?? [];
-    return moved.filter(([when]) => when);
 }
 
 // A matter's, by the movements of its entries. They are added up here, so the end has to be the ledger that the desk

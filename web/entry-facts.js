@@ -1,5 +1,6 @@
-// The fields of an entry, in words.
+// The fields of an entry, in words, and what it moved.
 
+import { cents } from './amounts.js';
 import { facts, label, money } from './elements.js';
 import { shown } from './names.js';
 import { STATES, fundOf } from './words.js';
@@ -38,3 +39,10 @@ export const entryFacts = (entry) => facts([
     bankFact('Returned by the bank on', entry.return_day, entry.return_ref),
     ['Undone on', entry.undone],
 ]);
+
+// What an entry moves in its matter's ledger, and when.
+export function movementsOf({ kind, day, amount, issued, undone }) {
+    const moved = { deposit: [[day, cents(amount)], [undone, -cents(amount)]],
+        payment: [[issued, -cents(amount)], [undone, cents(amount)]] }[kind] ?? [];
+    return moved.filter(([when]) => when);
+}

@@ -50,7 +50,7 @@
 //!
 //! An accept gives a client with its bytes and its writer, or one that is gone, or a refusal; which of these is a
 //! relation of the listener (`ClientListener::comes`), of which a system's listener says nothing. Not said: anything of
-//! time (the limits are constants; `worked_in_memory` tries them in virtual time), that a system's listener listens.
+//! time (the limits are constants; `worked_faults` tries them in virtual time), that a system's listener listens.
 #![tactic(auto)]
 
 pub mod laws;
