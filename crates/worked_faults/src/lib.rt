@@ -1,60 +1,40 @@
-//! Tests of what no case can show, since it takes readers, writers, books, clients or clocks of the test's own. Readers,
-//! writers and books fail at each call, under streams of messages, day sheets and statements. The store can't put back
-//! the book of a run of the cashier's program. Clients connect in virtual time. Days follow each other over one book in
-//! memory. Figures are asked of rows in memory.
+//! Tests of what no case can show, since it takes clients, clocks, files or rows of the test's own, all in memory.
+//!
+//! Clients are served in virtual time. At each call of a book's two files a run stops, and afterwards the book holds
+//! the rows from before or those after. What is asked on several days is answered alike over a book in memory and over
+//! one in a database. A book refuses a write, a reader and a writer fail. Calls that the program does not make are
+//! made: of figures of rows in memory, of a run, and of the items of a statement.
 #![tactic(auto)]
 
 #[cfg(test)]
 mod answers;
 #[cfg(test)]
-mod books;
-#[cfg(test)]
-mod cases;
+mod calls;
 #[cfg(test)]
 mod clients;
 #[cfg(test)]
-mod clock;
-#[cfg(test)]
-mod closes;
+mod connections;
 #[cfg(test)]
 mod days;
 #[cfg(test)]
 mod figures;
 #[cfg(test)]
-mod fronts;
-#[cfg(test)]
-mod given;
-#[cfg(test)]
-mod halves;
-#[cfg(test)]
-mod imports;
-#[cfg(test)]
-mod interrupted;
-#[cfg(test)]
-mod lines;
-#[cfg(test)]
-mod listener;
+mod files;
 #[cfg(test)]
 mod messages;
 #[cfg(test)]
-mod networks;
+mod old;
 #[cfg(test)]
-mod pieces;
-#[cfg(test)]
-mod refused_books;
+mod refused;
 #[cfg(test)]
 mod refusing;
 #[cfg(test)]
-mod replies;
-#[cfg(test)]
 mod runs;
 #[cfg(test)]
-mod sheets;
-#[cfg(test)]
-mod silences;
-#[cfg(test)]
-mod stores;
-#[cfg(test)]
-mod streams;
+mod stops;
 #[cfg(test)]
 mod trial;
+#[cfg(test)]
+mod works;
+#[cfg(test)]
+mod wrong;

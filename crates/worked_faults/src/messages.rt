@@ -1,92 +1,133 @@
-// How many reads the messages of a stream take, and what is left after a cut and after a fault.
+// Messages of a firm.
 
-use crate::trial::TrialReader;
-use portal_messages::{Input, Next, Stop, read_message};
-use std::alloc::Global;
-use trust_base::Refusal;
+/// Shows the first matter.
+pub(crate) const SHOW: &str = "GET /matters/000001 HTTP/1.1\r\nx-caller: cashier\r\n\r\n";
 
-// What follows the last message.
-#[derive(Clone, Copy, PartialEq, Eq, Debug)]
-enum Ending {
-    Message,
-    Ended,
-    Framing(&'static str),
-    Stopped(Stop),
-}
+/// The messages whose answers show the rows of a book.
+pub(crate) const SHOWING: &[&str] = &[
+    SHOW,
+    "GET /matters/000001/accounting HTTP/1.1\r\nx-caller: cashier\r\n\r\n",
+    "GET /matters/000002/accounting HTTP/1.1\r\nx-caller: cashier\r\n\r\n",
+    "GET /firm/journal HTTP/1.1\r\nx-caller: cashier\r\n\r\n",
+    "GET /firm/trial-balance HTTP/1.1\r\nx-caller: cashier\r\n\r\n",
+    "GET /firm/exceptions HTTP/1.1\r\nx-caller: cashier\r\n\r\n",
+    "GET /firm/reconciliation/2024-02-01 HTTP/1.1\r\nx-caller: cashier\r\n\r\n",
+];
 
-fn ending_of(answer: &Result<Next, Stop>) -> Ending {
-    match answer {
-        Ok(Next::Message(_)) => Ending::Message,
-        Ok(Next::Ended) => Ending::Ended,
-        Ok(Next::Framing(why)) => Ending::Framing(why.name()),
-        Err(stop) => Ending::Stopped(*stop),
-    }
-}
+/// The cashier opens matter 000001 for Ada Chen with the lawyer lee.
+pub(crate) const OPEN: &str = concat!(
+    "POST /matters/000001/open HTTP/1.1\r\nx-caller: cashier\r\ncontent-length: 36\r\n\r\n",
+    r#"{"client":"Ada Chen","lawyer":"lee"}"#
+);
 
-// Returns how many messages, at most two, come from a reader of these bytes, what follows them, and whether the same
-// comes once more.
-fn told(alloc: Global, bytes: &[u8], most: usize, good: u64) -> (usize, Ending, bool) {
-    let mut input = Input::new(alloc, TrialReader::new(bytes, most, good));
-    for messages in 0..3 {
-        let ending = ending_of(&read_message(&mut input));
-        if ending != Ending::Message {
-            let stays = ending_of(&read_message(&mut input)) == ending;
-            return (messages, ending, stays);
-        }
-    }
-    (3, Ending::Message, false)
-}
+/// The cashier books a retainer of 500.00 as its first entry.
+pub(crate) const BOOK: &str = concat!(
+    "POST /matters/000001/entries/0001/deposit HTTP/1.1\r\nx-caller: cashier\r\ncontent-length: 64\r\n\r\n",
+    r#"{"amount":"500.00","source":"Ada Chen","description":"retainer"}"#
+);
 
-const TWO: &[u8] =
-    b"GET /matters/000001 HTTP/1.1\r\nx-caller: bob\r\n\r\nGET /x HTTP/1.1\r\ncontent-length: 3\r\n\r\nabc\r\n";
+/// The cashier proposes a payment of 100.00 as its second entry.
+pub(crate) const PROPOSE: &str = concat!(
+    "POST /matters/000001/entries/0002/propose HTTP/1.1\r\nx-caller: cashier\r\ncontent-length: 101\r\n\r\n",
+    r#"{"amount":"100.00","from":"general","payee":"Court Clerk","purpose":"filing fee","instrument":"1001"}"#
+);
 
-// The bytes of the first of the two.
-const ONE: usize = 47;
+/// The lawyer approves it.
+pub(crate) const APPROVE: &str = concat!(
+    "POST /matters/000001/entries/0002/approve HTTP/1.1\r\nx-caller: lee\r\ncontent-length: 2\r\n\r\n",
+    r#"{}"#
+);
 
-// How many of the two messages lie wholly within this many bytes.
-fn whole_within(size: usize) -> usize {
-    if size < ONE {
-        0
-    } else if size < TWO.len() - 2 {
-        1
-    } else {
-        2
-    }
-}
+/// The cashier opens matter 000002 for Zoé Roth with the same lawyer.
+pub(crate) const OPEN_OTHER: &str = concat!(
+    "POST /matters/000002/open HTTP/1.1\r\nx-caller: cashier\r\ncontent-length: 37\r\n\r\n",
+    r#"{"client":"Zoé Roth","lawyer":"lee"}"#
+);
 
-// What follows the messages if they are cut after this many bytes.
-fn ending_within(size: usize) -> Ending {
-    if size == 0 || size == ONE || size >= TWO.len() - 2 {
-        Ending::Ended
-    } else {
-        Ending::Framing(Refusal::BadMessage.name())
-    }
-}
+pub(crate) const BOOK_OTHER: &str = concat!(
+    "POST /matters/000002/entries/0001/deposit HTTP/1.1\r\nx-caller: cashier\r\ncontent-length: 65\r\n\r\n",
+    r#"{"amount":"200.00","source":"Zoé Roth","description":"retainer"}"#
+);
 
-#[test]
-fn cut_at_each_byte(rt: HostRuntime) {
-    for size in 0..TWO.len() + 1 {
-        for most in [1, 2, 7, 1_000] {
-            let found = told(rt.alloc(), &TWO[..size], most, 1_000);
-            assert_eq!(rt;
-                found,
-                (whole_within(size), ending_within(size), true),
-                "cut at {size}, {most} a read"
-            );
-        }
-    }
-}
+/// A statement with the line that clears the retainer.
+pub(crate) const CLEAR: &str = concat!(
+    "POST /firm/statements HTTP/1.1\r\nx-caller: cashier\r\ncontent-length: 71\r\n\r\n",
+    "date,reference,bank_ref,amount,text\n",
+    "2024-02-01,M000001-0001,B1,500.00,\n"
+);
 
-#[test]
-fn one_read_for_each_byte_and_one_for_the_end(rt: HostRuntime) {
-    let reads = TWO.len() as u64 + 1;
-    assert_eq!(rt; told(rt.alloc(), TWO, 1, reads), (2, Ending::Ended, true));
-    for good in 0..reads {
-        let wanted = (
-            whole_within(good as usize),
-            Ending::Stopped(Stop::Reader),
-            true,
-        );
-        assert_eq!(rt; told(rt.alloc(), TWO, 1, good), wanted, "{good} reads");
-    }
-}
+pub(crate) const CLEAR_OTHER: &str = concat!(
+    "POST /firm/statements HTTP/1.1\r\nx-caller: cashier\r\ncontent-length: 71\r\n\r\n",
+    "date,reference,bank_ref,amount,text\n",
+    "2024-02-01,M000002-0001,B1,200.00,\n"
+);
+
+/// A statement with the lines that clear both retainers, and an unreadable record between them.
+pub(crate) const CLEAR_BOTH: &str = concat!(
+    "POST /firm/statements HTTP/1.1\r\nx-caller: cashier\r\ncontent-length: 114\r\n\r\n",
+    "date,reference,bank_ref,amount,text\n",
+    "2024-02-01,M000001-0001,B1,500.00,\n",
+    "garbage\n",
+    "2024-02-01,M000002-0001,B1,200.00,\n"
+);
+
+/// A statement with a line of the firm's own money.
+pub(crate) const OWN_MONEY: &str = concat!(
+    "POST /firm/statements HTTP/1.1\r\nx-caller: cashier\r\ncontent-length: 71\r\n\r\n",
+    "date,reference,bank_ref,amount,text\n",
+    "2024-02-01,FIRM,B2,10.00,own money\n"
+);
+
+/// A statement with a bank charge, which the firm's own money does not cover.
+pub(crate) const CHARGE: &str = concat!(
+    "POST /firm/statements HTTP/1.1\r\nx-caller: cashier\r\ncontent-length: 74\r\n\r\n",
+    "date,reference,bank_ref,amount,text\n",
+    "2024-02-01,FIRM,B3,-12.00,account fee\n"
+);
+
+/// A statement with the rest of the money for the charge.
+pub(crate) const MORE_MONEY: &str = concat!(
+    "POST /firm/statements HTTP/1.1\r\nx-caller: cashier\r\ncontent-length: 70\r\n\r\n",
+    "date,reference,bank_ref,amount,text\n",
+    "2024-02-01,FIRM,B5,2.00,own money\n"
+);
+
+/// Statements with the balance that a day opened with, with a line that belongs to nobody, and with the balance that
+/// the day closed with.
+pub(crate) const OPENED: &str = concat!(
+    "POST /firm/statements HTTP/1.1\r\nx-caller: cashier\r\ncontent-length: 59\r\n\r\n",
+    "date,reference,bank_ref,amount,text\n",
+    "2024-02-01,OPEN,,0.00,\n"
+);
+
+pub(crate) const NOBODYS: &str = concat!(
+    "POST /firm/statements HTTP/1.1\r\nx-caller: cashier\r\ncontent-length: 79\r\n\r\n",
+    "date,reference,bank_ref,amount,text\n",
+    "2024-02-01,RENT,B4,-1200.00,standing order\n"
+);
+
+pub(crate) const CLOSED: &str = concat!(
+    "POST /firm/statements HTTP/1.1\r\nx-caller: cashier\r\ncontent-length: 62\r\n\r\n",
+    "date,reference,bank_ref,amount,text\n",
+    "2024-02-01,CLOSE,,688.00,\n"
+);
+
+/// A statement of a month: both balances, the firm's own money, and the line that belongs to nobody.
+pub(crate) const MONTH_LINES: &str = concat!(
+    "POST /firm/statements HTTP/1.1\r\nx-caller: cashier\r\ncontent-length: 163\r\n\r\n",
+    "date,reference,bank_ref,amount,text\n",
+    "2024-02-01,OPEN,,0.00,\n",
+    "2024-02-01,FIRM,B2,10.00,own money\n",
+    "2024-02-01,RENT,B4,-1200.00,standing order\n",
+    "2024-02-01,CLOSE,,688.00,\n"
+);
+
+/// The cashier proposes a payment of 50.00 as its third entry.
+pub(crate) const PROPOSE_THIRD: &str = concat!(
+    "POST /matters/000001/entries/0003/propose HTTP/1.1\r\nx-caller: cashier\r\ncontent-length: 100\r\n\r\n",
+    r#"{"amount":"50.00","from":"general","payee":"Court Clerk","purpose":"filing fee","instrument":"1001"}"#
+);
+
+/// The lawyer approves it.
+pub(crate) const APPROVE_THIRD: &str =
+    "POST /matters/000001/entries/0003/approve HTTP/1.1\r\nx-caller: lee\r\n\r\n";

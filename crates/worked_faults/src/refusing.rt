@@ -14,7 +14,7 @@ use trust_store::{AllRows, Book};
 
 /// A book for tests. Its nth write returns `Store`; every other call goes to the inner book. A change of nothing is not
 /// a write. A bank line is one, even if it is a repeat or matches nothing.
-#[derive(Debug, Drop)]
+#[derive(Drop)]
 pub struct RefusingBook<B: Book> {
     inner: B,
     writes_left: u64,

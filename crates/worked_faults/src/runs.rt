@@ -1,96 +1,153 @@
-// Runs of the program as data, and what is expected of them.
+// A run over files: a book is taken or made, and asked.
 
-use crate::networks::{NoNetwork, StillClock};
-use crate::stores::TrialStores;
-use crate::trial::{TrialReader, TrialWriter};
-use cashier::{Folder, NoRemarks, Opened, Outcome, Surroundings, run_called};
-use std::alloc::{AllocError, Global};
-use std::io::ErrorKind;
-use std::process::Abort;
+use crate::answers::{Answers, Asks, ask};
+use crate::files::{Calls, Image, closed, files_of, image_of, opened};
+use crate::wrong::Wrong;
+use sql_book::{OpenFault, SqlBook};
+use sqlite::{Alter, Connection};
+use sqlite_disk::{Disk, Files};
+use std::alloc::Global;
+use trust_base::Day;
+use trust_desk::Desk;
 
-// A folder in which no file can be opened.
+/// What is done in a run.
 #[derive(Clone, Copy)]
-struct NoFile;
+pub(crate) enum Doing<'a> {
+    /// Statements make a database that is no book of this version.
+    Statements(&'a str),
+    /// The database's book is taken, or one is made in it if there is none, and it is asked on a day.
+    Asks(Day, Asks<'a>),
+}
 
-impl Folder for NoFile {
-    type File = TrialReader<'static>;
+/// What became of a run.
+pub(crate) struct Became {
+    /// Whether all was accepted, and the log was copied into the database file at the end.
+    pub(crate) is_whole: bool,
+    /// The version that the tables held before the book was taken, or 0 if they held none.
+    pub(crate) version: i64,
+    pub(crate) answers: Vec<u8>,
+    /// What the files hold.
+    pub(crate) image: Image,
+}
 
-    ghost use Rattle.std.specs.Prelude.{None, ⊤};
-
-    ghost files = { λ _ _. record { bytes = None; opens = λ _. ⊤ } };
-
-    fn open(&self, _path: &str) -> Option<Opened<TrialReader<'static>>> {
-        None
+impl Drop for Became {
+    fn drop(self) {
+        let Became {
+            is_whole: _,
+            version: _,
+            answers: _answers,
+            image: _image,
+        } = self;
     }
 }
 
-/// A run of the program.
-#[derive(Clone, Copy)]
-pub(crate) struct Run {
-    /// The words that it is called with, its name first.
-    pub(crate) words: &'static [&'static str],
-    /// Its standard input.
-    pub(crate) input: &'static str,
-    pub(crate) outcome: Outcome,
-    /// What it prints.
-    pub(crate) lines: &'static str,
-    /// Whether standard input is read.
-    pub(crate) reads: bool,
-}
-
-// An opening on standard input.
-const OPENING: &str = "open,000001,,Ada Chen,lee\n";
-
-/// A run that ends with a fault before it reads or prints. No file and no port can be had.
-pub(crate) const NOTHING: Run = Run {
-    words: &[],
-    input: OPENING,
-    outcome: Outcome::StoreFault,
-    lines: "",
-    reads: false,
-};
-
-// The words of a run, as the program gets them.
-fn called_with(alloc: Global, words: &[&str]) -> Result<Vec<String>, AllocError> {
-    let mut called = Vec::new(alloc);
-    for word in words {
-        called.push(String::from_str(alloc, word)?)?;
+impl Became {
+    /// What the files hold.
+    pub(crate) fn into_image(self) -> Image {
+        let Became {
+            is_whole: _,
+            version: _,
+            answers: _answers,
+            image,
+        } = self;
+        image
     }
-    Ok(called)
 }
 
-fn check_one(rt: &(impl Abort + AllocGlobal), stores: &TrialStores, run: &Run) {
-    let around = Surroundings {
-        folder: &NoFile,
-        clock: &StillClock,
-        network: &NoNetwork,
-        remarks: &NoRemarks,
-    };
-    let mut reader = TrialReader::new(run.input.as_bytes(), 7, 100);
-    let mut writer = TrialWriter::new(rt.alloc(), 3, 1_000);
-    let called = called_with(rt.alloc(), run.words).map_err(|_| ErrorKind::OutOfMemory);
-    let outcome = run_called(
-        rt.alloc(),
-        &called,
-        &mut reader,
-        around,
-        stores,
-        &mut writer,
-    );
-    assert_eq!(rt; outcome, run.outcome, "{:?}", run.words);
-    assert_eq!(rt; writer.as_slice(), run.lines.as_bytes(), "{:?}", run.words);
-    assert_eq!(rt;
-        reader.rest.len() < run.input.len(),
-        run.reads,
-        "{:?}",
-        run.words
-    );
-}
-
-/// Runs the program with these stores, one run after the other, and asserts the outcome of each and what it prints
-/// and reads.
-pub(crate) fn check(rt: &(impl Abort + AllocGlobal), stores: &TrialStores, runs: &[Run]) {
-    for run in runs {
-        check_one(rt, stores, run);
+fn version_in<S: Alter>(conn: &mut Connection<S>) -> i64 {
+    match conn.query_all("SELECT version FROM book", &[]) {
+        Ok(rows) => match rows.first() {
+            Some(row) => row.get(0).unwrap_or(0),
+            None => 0,
+        },
+        Err(_) => 0,
     }
+}
+
+// Asks a book, or counts a refusal if there is none.
+fn asked<S: Alter + Drop>(
+    alloc: Global,
+    taken: Result<SqlBook<S>, (OpenFault, Connection<S>)>,
+    day: Day,
+    asks: Asks<'_>,
+    answers: &mut Answers,
+) -> Connection<S> {
+    match taken {
+        Ok(book) => {
+            let mut desk = Desk::new(book);
+            ask(alloc, &mut desk, day, asks, answers);
+            desk.into_book().release()
+        }
+        Err((_, conn)) => {
+            answers.refusals = answers.refusals.saturating_add(1);
+            conn
+        }
+    }
+}
+
+fn done<S: Alter + Drop>(
+    alloc: Global,
+    conn: Connection<S>,
+    doing: &Doing<'_>,
+    answers: &mut Answers,
+) -> Connection<S> {
+    let mut conn = conn;
+    match *doing {
+        Doing::Statements(text) => {
+            if conn.execute_batch(text).is_err() {
+                answers.refusals = 1;
+            }
+            conn
+        }
+        Doing::Asks(day, asks) => {
+            if !conn.is_autocommit() {
+                answers.refusals = 1;
+                return conn;
+            }
+            match SqlBook::adopt(alloc, conn) {
+                Err((OpenFault::NotABook, conn)) => {
+                    asked(alloc, SqlBook::make(alloc, conn), day, asks, answers)
+                }
+                taken => asked(alloc, taken, day, asks, answers),
+            }
+        }
+    }
+}
+
+// Opens files, does this and closes them. Returns the version that the tables held before, whether the files could be
+// opened and the log was copied, and the files.
+fn ran<D: Disk + Drop>(
+    alloc: Global,
+    files: Files<D>,
+    doing: &Doing<'_>,
+    answers: &mut Answers,
+) -> (i64, bool, Files<D>) {
+    match opened(alloc, files) {
+        Ok(conn) => {
+            let mut conn = conn;
+            let version = version_in(&mut conn);
+            let (is_closed, files) = closed(done(alloc, conn, doing, answers));
+            (version, is_closed, files)
+        }
+        Err(files) => (0, false, files),
+    }
+}
+
+/// Runs on files with these bytes, each of which stops after this many calls.
+pub(crate) fn run(
+    alloc: Global,
+    image: &Image,
+    calls: Calls,
+    doing: &Doing<'_>,
+) -> Result<Became, Wrong> {
+    let files = files_of(alloc, image, calls)?;
+    let mut answers = Answers::new(alloc);
+    let (version, is_closed, files) = ran(alloc, files, doing, &mut answers);
+    let image = image_of(alloc, &files)?;
+    Ok(Became {
+        is_whole: is_closed && answers.refusals == 0,
+        version,
+        answers: answers.bytes,
+        image,
+    })
 }

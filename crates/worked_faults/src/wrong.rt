@@ -9,11 +9,11 @@ pub(crate) enum Wrong {
     /// Out of memory, a fault of a file in memory that was not stopped, a book on such files that was not made or
     /// taken, or a message before the work that was refused.
     Setup,
-    /// After a stop after this many calls of the log and of the database file, the book holds other rows, or there is
-    /// none.
+    /// After a stop after this many calls of the log and of the database file, the book answers as none of those
+    /// that the stop may leave, or there is none.
     Stopped(u64, u64),
-    /// After such a stop, what was under way is sent again, and the book holds other rows than without a stop.
-    SentAgain(u64, u64),
+    /// What was under way is sent again, and the book shows other rows than without a stop.
+    SentAgain,
     /// A run that met no stop did not leave all rows.
     Whole,
     /// Each run was stopped.

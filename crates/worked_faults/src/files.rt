@@ -1,15 +1,30 @@
-// Files in memory that stop after a number of calls, and databases on them.
+// Files in memory that stop after a number of calls.
 
-use crate::wrong::Wrong;
 use sqlite::{Connection, FileStore, Options};
 use sqlite_disk::{Disk, Files, Fuse, Memory};
-use std::alloc::Global;
+use std::alloc::{AllocError, Global};
+use std::io;
 
 /// The bytes of a database's two files.
-#[derive(Drop)]
 pub(crate) struct Image {
-    log: Vec<u8>,
-    db: Vec<u8>,
+    pub(crate) log: Vec<u8>,
+    pub(crate) db: Vec<u8>,
+}
+
+impl Drop for Image {
+    fn drop(self) {
+        let Image { log: _log, db: _db } = self;
+    }
+}
+
+impl Image {
+    /// Empty files.
+    pub(crate) fn of_no_bytes(alloc: Global) -> Image {
+        Image {
+            log: Vec::new(alloc),
+            db: Vec::new(alloc),
+        }
+    }
 }
 
 /// How many calls are allowed of the log, and of the database file.
@@ -19,19 +34,11 @@ pub(crate) type Calls = (u64, u64);
 pub(crate) const UNSTOPPED: Calls = (u64::MAX, u64::MAX);
 
 // A file with these bytes that stops after this many calls.
-fn file_of(alloc: Global, bytes: &[u8], calls: u64) -> Result<Fuse<Memory>, Wrong> {
+fn file_of(alloc: Global, bytes: &[u8], calls: u64) -> io::Result<Fuse<Memory>> {
     let mut memory = Memory::new(alloc);
     memory.write_at(0, bytes)?;
     memory.sync()?;
     Ok(Fuse::new(memory, calls))
-}
-
-/// Empty files.
-pub(crate) fn no_bytes(alloc: Global) -> Image {
-    Image {
-        log: Vec::new(alloc),
-        db: Vec::new(alloc),
-    }
 }
 
 /// Files with these bytes, each of which stops after this many calls.
@@ -39,19 +46,17 @@ pub(crate) fn files_of(
     alloc: Global,
     image: &Image,
     calls: Calls,
-) -> Result<Files<Fuse<Memory>>, Wrong> {
-    Ok(Files {
-        log: file_of(alloc, &image.log, calls.0)?,
-        db: file_of(alloc, &image.db, calls.1)?,
-    })
+) -> io::Result<Files<Fuse<Memory>>> {
+    let log = file_of(alloc, &image.log, calls.0)?;
+    let db = file_of(alloc, &image.db, calls.1)?;
+    Ok(Files { log, db })
 }
 
 /// Returns the bytes that the files hold.
-pub(crate) fn image_of(alloc: Global, files: &Files<Fuse<Memory>>) -> Result<Image, Wrong> {
-    let mut image = no_bytes(alloc);
-    image.log.extend_from_slice(files.log.inner().bytes())?;
-    image.db.extend_from_slice(files.db.inner().bytes())?;
-    Ok(image)
+pub(crate) fn image_of(alloc: Global, files: &Files<Fuse<Memory>>) -> Result<Image, AllocError> {
+    let log = Vec::from_slice(alloc, files.log.inner().bytes())?;
+    let db = Vec::from_slice(alloc, files.db.inner().bytes())?;
+    Ok(Image { log, db })
 }
 
 /// Opens a connection on files; gives the files back if it cannot.

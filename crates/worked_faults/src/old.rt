@@ -1,10 +1,7 @@
 // A database of version 1.
 
-use crate::wrong::Wrong;
-use sqlite::{Alter, Connection};
-
-// Creates its tables.
-const TABLES: &str =
+/// Makes its tables, with the rows that `HISTORY` leaves.
+pub(crate) const STATEMENTS: &str =
     "CREATE TABLE book (version INTEGER NOT NULL) STRICT; CREATE TABLE matter (no INTEGER NOT NULL \
          PRIMARY KEY, client TEXT NOT NULL, opened INTEGER NOT NULL, closed INTEGER NOT NULL, last \
          INTEGER NOT NULL, entries INTEGER NOT NULL, held INTEGER NOT NULL, available INTEGER NOT NULL, \
@@ -22,11 +19,8 @@ const TABLES: &str =
          INTEGER NOT NULL, text TEXT NOT NULL) STRICT; CREATE TABLE exception (day INTEGER NOT NULL, \
          reference TEXT NOT NULL, bank_ref TEXT NOT NULL, amount INTEGER NOT NULL, text TEXT NOT NULL, \
          PRIMARY KEY (day, reference, bank_ref, amount, text)) STRICT; CREATE TABLE balance (kind INTEGER \
-         NOT NULL, day INTEGER NOT NULL, amount INTEGER NOT NULL, PRIMARY KEY (kind, day)) STRICT";
-
-// Writes the rows that `HISTORY` leaves.
-const ROWS: &str =
-    "INSERT INTO book VALUES (1); INSERT INTO matter VALUES (1, 'Ada Chen', 20240201, 0, 20240201, 2, \
+         NOT NULL, day INTEGER NOT NULL, amount INTEGER NOT NULL, PRIMARY KEY (kind, day)) STRICT; \
+         INSERT INTO book VALUES (1); INSERT INTO matter VALUES (1, 'Ada Chen', 20240201, 0, 20240201, 2, \
          0, 40000, 0, 0, 0, 1); INSERT INTO seat VALUES (1, 'lee', 2); INSERT INTO entry VALUES (1, 1, 1, \
          20240201, 50000, 2, 0, 0, 'Ada Chen', 'retainer', '', 0, 0, 20240201, 'B1', 0, 0), (1, 2, 2, \
          20240201, 10000, 3, 0, 0, 'Court Clerk', 'filing fee', '1001', 20240201, 0, 0, '', 0, 0); INSERT \
@@ -34,27 +28,3 @@ const ROWS: &str =
          -10000); INSERT INTO firm_line VALUES (1, 20240201, 'B2', 1000, 'own money'); INSERT INTO exception \
          VALUES (20240201, 'RENT', 'B4', -120000, 'standing order'); INSERT INTO balance VALUES (1, 20240201, 0), (2, \
          20240201, 68800)";
-
-/// Makes a version 1 database with the rows that `HISTORY` leaves, in an empty database.
-pub(crate) fn make_old<S: Alter>(conn: &mut Connection<S>) -> Result<(), Wrong> {
-    match (conn.execute_batch(TABLES), conn.execute_batch(ROWS)) {
-        (Ok(()), Ok(())) => Ok(()),
-        _ => Err(Wrong::Setup),
-    }
-}
-
-/// Returns the version that a database's tables hold, or 0 if they hold none.
-pub(crate) fn version_in<S: Alter>(conn: &mut Connection<S>) -> u8 {
-    let Ok(rows) = conn.query_all("SELECT version FROM book", &[]) else {
-        return 0;
-    };
-    let [row] = rows.as_slice() else {
-        return 0;
-    };
-    let version: Option<i64> = row.get(0).ok();
-    match version {
-        Some(1) => 1,
-        Some(2) => 2,
-        _ => 0,
-    }
-}
