@@ -18,15 +18,24 @@ pub struct Found<'a> {
 
 /// The records of a statement, from its header on. They have to be asked for in order: the reader is never taken back
 /// to the start.
-#[derive(Drop)]
-pub struct FileRecords<R> {
+pub struct FileRecords<R: Drop> {
     reader: Reader<R>,
     row: ByteRecord,
     // How many records were read, including the header.
     taken: u64,
 }
 
-impl<R: Read> FileRecords<R> {
+impl<R: Drop> Drop for FileRecords<R> {
+    fn drop(self) {
+        let FileRecords {
+            reader: _reader,
+            row: _row,
+            taken: _,
+        } = self;
+    }
+}
+
+impl<R: Read + Drop> FileRecords<R> {
     /// The records of what a reader gives, from the first.
     pub fn new(alloc: Global, reader: R) -> FileRecords<R> {
         let mut builder = ReaderBuilder::new();

@@ -27,6 +27,24 @@ impl Answers {
 }
 
 /// Asks messages on a day, and adds their answers.
+pub(crate) fn ask_each<B: Book>(
+    alloc: Global,
+    desk: &mut Desk<B>,
+    day: Day,
+    messages: &[&str],
+    answers: &mut Answers,
+) {
+    for message in messages {
+        let begin = answers.bytes.len();
+        serve_stream(alloc, message.as_bytes(), &mut answers.bytes, desk, day);
+        let answer = answers.bytes.get(begin..).unwrap_or(b"");
+        if !answer.starts_with(b"HTTP/1.1 20") {
+            answers.refusals = answers.refusals.saturating_add(1);
+        }
+    }
+}
+
+/// Does the same with the messages of several lists.
 pub(crate) fn ask<B: Book>(
     alloc: Global,
     desk: &mut Desk<B>,
@@ -35,13 +53,6 @@ pub(crate) fn ask<B: Book>(
     answers: &mut Answers,
 ) {
     for messages in asks {
-        for message in *messages {
-            let begin = answers.bytes.len();
-            serve_stream(alloc, message.as_bytes(), &mut answers.bytes, desk, day);
-            let answer = answers.bytes.get(begin..).unwrap_or(b"");
-            if !answer.starts_with(b"HTTP/1.1 20") {
-                answers.refusals = answers.refusals.saturating_add(1);
-            }
-        }
+        ask_each(alloc, desk, day, messages, answers);
     }
 }

@@ -1,9 +1,9 @@
 // Calls of a desk that the program does not make: a run of requests, and one item of a statement.
 
-use crate::answers::{Answers, Asks, ask};
+use crate::answers::{Answers, Asks, ask, ask_each};
 use crate::messages::{
-    APPROVE, BOOK, BOOK_OTHER, CHARGE, CLEAR, CLEAR_BOTH, CLEAR_OTHER, OPEN, OPEN_OTHER, PROPOSE,
-    SHOW, SHOWING,
+    APPROVE, BOOK, BOOK_OTHER, CARD, CARD_OTHER, CHARGE, CLEAR, CLEAR_BOTH, CLEAR_OTHER,
+    EXCEPTIONS, JOURNAL, OPEN, OPEN_OTHER, PROPOSE, SHOW, TRIAL_BALANCE,
 };
 use portal_http::{Input, Next, Routes, bytes_of, read_message, request_of, write_reply};
 use statement_csv::Lines;
@@ -26,6 +26,12 @@ const MIXED: &[&str] = &[
     CHARGE,
     PROPOSE,
     APPROVE,
+    SHOW,
+    CARD,
+    CARD_OTHER,
+    JOURNAL,
+    TRIAL_BALANCE,
+    EXCEPTIONS,
 ];
 
 fn request(alloc: Global, routes: &Routes, message: &str) -> Option<Request> {
@@ -37,14 +43,11 @@ fn request(alloc: Global, routes: &Routes, message: &str) -> Option<Request> {
 }
 
 // Returns the requests of messages.
-fn requests(alloc: Global, asks: Asks<'_>) -> Option<Vec<Request>> {
-    let routes = Routes::new(alloc).ok()?;
+fn requests(alloc: Global, routes: &Routes, messages: &[&str]) -> Option<Vec<Request>> {
     let mut requests = Vec::new(alloc);
-    for messages in asks {
-        for message in *messages {
-            let request = request(alloc, &routes, message)?;
-            requests.push(request).ok()?;
-        }
+    for message in messages {
+        let request = request(alloc, routes, message)?;
+        requests.push(request).ok()?;
     }
     Some(requests)
 }
@@ -66,11 +69,12 @@ fn are_bytes(alloc: Global, replies: &[Reply], wanted: &[u8]) -> bool {
 }
 
 // Whether a run of a stream's requests gives the replies of the stream.
-fn runs_as_streamed(alloc: Global, day: Day, asks: Asks<'_>) -> Option<bool> {
-    let requests = requests(alloc, asks)?;
+fn runs_as_streamed(alloc: Global, day: Day, messages: &[&str]) -> Option<bool> {
+    let routes = Routes::new(alloc).ok()?;
+    let requests = requests(alloc, &routes, messages)?;
     let mut streamed = Answers::new(alloc);
     let mut first = Desk::new(PlainBook::new(alloc));
-    ask(alloc, &mut first, day, asks, &mut streamed);
+    ask_each(alloc, &mut first, day, messages, &mut streamed);
     let mut second = Desk::new(PlainBook::new(alloc));
     let ended = second.run(alloc, &requests, day);
     Some(are_bytes(alloc, ended.replies.as_slice(), streamed.bytes.as_slice()))
@@ -79,10 +83,7 @@ fn runs_as_streamed(alloc: Global, day: Day, asks: Asks<'_>) -> Option<bool> {
 #[test]
 fn a_run_of_a_streams_requests_gives_its_replies(rt: HostRuntime) {
     let day = Day::read(b"2024-02-01").expect(&rt, "a day");
-    assert_eq!(rt;
-        runs_as_streamed(rt.alloc(), day, &[MIXED, SHOWING]),
-        Some(true)
-    );
+    assert_eq!(rt; runs_as_streamed(rt.alloc(), day, MIXED), Some(true));
 }
 
 // A statement that clears two deposits, with a record that is no line between them; the first line comes again.

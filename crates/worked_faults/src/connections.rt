@@ -161,7 +161,7 @@ fn is_answer(client: &Client, taken: &[u8]) -> bool {
 
 // How a connection went: how its stream ended, the milliseconds that passed, the bytes that were read, and whether the
 // client was answered as it should be.
-type Went = (u8, u64, u64, bool);
+type Went = (u8, u128, u64, bool);
 
 fn went(
     alloc: Global,
@@ -191,7 +191,7 @@ fn went(
     let answered = serve_connection(alloc, clock, connection, desk, &None, day);
     (
         answered.end as u8,
-        clock.now.get().as_millis() as u64,
+        clock.now.get().as_millis(),
         clock.read.get(),
         is_answer(client, answered.writer.taken.as_slice()),
     )
@@ -210,7 +210,12 @@ fn each_connection_has_its_end(rt: HostRuntime) {
         for client in clients {
             assert_eq!(rt;
                 went(rt.alloc(), &clock, client, &mut desk, day),
-                (client.end as u8, client.passed, client.read, true),
+                (
+                    client.end as u8,
+                    u128::from(client.passed),
+                    client.read,
+                    true
+                ),
                 "{}",
                 client.name
             );

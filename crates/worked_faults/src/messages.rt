@@ -3,16 +3,23 @@
 /// Shows the first matter.
 pub(crate) const SHOW: &str = "GET /matters/000001 HTTP/1.1\r\nx-caller: cashier\r\n\r\n";
 
+/// Shows its ledger card, and that of the second matter.
+pub(crate) const CARD: &str =
+    "GET /matters/000001/accounting HTTP/1.1\r\nx-caller: cashier\r\n\r\n";
+
+pub(crate) const CARD_OTHER: &str =
+    "GET /matters/000002/accounting HTTP/1.1\r\nx-caller: cashier\r\n\r\n";
+
+/// Lists of the firm.
+pub(crate) const JOURNAL: &str = "GET /firm/journal HTTP/1.1\r\nx-caller: cashier\r\n\r\n";
+
+pub(crate) const TRIAL_BALANCE: &str =
+    "GET /firm/trial-balance HTTP/1.1\r\nx-caller: cashier\r\n\r\n";
+
+pub(crate) const EXCEPTIONS: &str = "GET /firm/exceptions HTTP/1.1\r\nx-caller: cashier\r\n\r\n";
+
 /// The messages whose answers show the rows of a book.
-pub(crate) const SHOWING: &[&str] = &[
-    SHOW,
-    "GET /matters/000001/accounting HTTP/1.1\r\nx-caller: cashier\r\n\r\n",
-    "GET /matters/000002/accounting HTTP/1.1\r\nx-caller: cashier\r\n\r\n",
-    "GET /firm/journal HTTP/1.1\r\nx-caller: cashier\r\n\r\n",
-    "GET /firm/trial-balance HTTP/1.1\r\nx-caller: cashier\r\n\r\n",
-    "GET /firm/exceptions HTTP/1.1\r\nx-caller: cashier\r\n\r\n",
-    "GET /firm/reconciliation/2024-02-01 HTTP/1.1\r\nx-caller: cashier\r\n\r\n",
-];
+pub(crate) const SHOWING: &[&str] = &[SHOW, CARD, CARD_OTHER, JOURNAL, TRIAL_BALANCE, EXCEPTIONS];
 
 /// The cashier opens matter 000001 for Ada Chen with the lawyer lee.
 pub(crate) const OPEN: &str = concat!(
@@ -85,33 +92,6 @@ pub(crate) const CHARGE: &str = concat!(
     "2024-02-01,FIRM,B3,-12.00,account fee\n"
 );
 
-/// A statement with the rest of the money for the charge.
-pub(crate) const MORE_MONEY: &str = concat!(
-    "POST /firm/statements HTTP/1.1\r\nx-caller: cashier\r\ncontent-length: 70\r\n\r\n",
-    "date,reference,bank_ref,amount,text\n",
-    "2024-02-01,FIRM,B5,2.00,own money\n"
-);
-
-/// Statements with the balance that a day opened with, with a line that belongs to nobody, and with the balance that
-/// the day closed with.
-pub(crate) const OPENED: &str = concat!(
-    "POST /firm/statements HTTP/1.1\r\nx-caller: cashier\r\ncontent-length: 59\r\n\r\n",
-    "date,reference,bank_ref,amount,text\n",
-    "2024-02-01,OPEN,,0.00,\n"
-);
-
-pub(crate) const NOBODYS: &str = concat!(
-    "POST /firm/statements HTTP/1.1\r\nx-caller: cashier\r\ncontent-length: 79\r\n\r\n",
-    "date,reference,bank_ref,amount,text\n",
-    "2024-02-01,RENT,B4,-1200.00,standing order\n"
-);
-
-pub(crate) const CLOSED: &str = concat!(
-    "POST /firm/statements HTTP/1.1\r\nx-caller: cashier\r\ncontent-length: 62\r\n\r\n",
-    "date,reference,bank_ref,amount,text\n",
-    "2024-02-01,CLOSE,,688.00,\n"
-);
-
 /// A statement of a month: both balances, the firm's own money, and the line that belongs to nobody.
 pub(crate) const MONTH_LINES: &str = concat!(
     "POST /firm/statements HTTP/1.1\r\nx-caller: cashier\r\ncontent-length: 163\r\n\r\n",
@@ -131,3 +111,7 @@ pub(crate) const PROPOSE_THIRD: &str = concat!(
 /// The lawyer approves it.
 pub(crate) const APPROVE_THIRD: &str =
     "POST /matters/000001/entries/0003/approve HTTP/1.1\r\nx-caller: lee\r\n\r\n";
+
+/// The messages that lead to a firm with one matter: a cleared deposit, a payment, lines of the firm's own, balances and
+/// an exception.
+pub(crate) const HISTORY: &[&str] = &[OPEN, BOOK, CLEAR, OWN_MONEY, PROPOSE, APPROVE, MONTH_LINES];
