@@ -1,5 +1,5 @@
 -- Routes whose texts begin with the same bytes are those of paths that begin so.
-use Rattle.portal_requests.proofs.Names.{◌≡◌, ◌≤◌, ℕ, suc, zero, Bool, true, false, cond, List, [], ◌∷◌, Option, Some, refl, sym, ap, subst, arith, length, ◌==◌, ◌-◌, ltb, unwrap_or, ⊤, IsText, RowsOf, catch_all_token, comes_before, param_token, first, has_slash, longest_suffix, or_else, own, param_step, same_text, seek, segment, step, with_suffix, ints}
+use Rattle.portal_requests.proofs.Names.{◌≡◌, ◌≤◌, ℕ, suc, zero, Bool, true, false, cond, List, [], ◌∷◌, ◌++◌, Option, Some, refl, sym, ap, subst, arith, length, ◌==◌, ◌-◌, ltb, unwrap_or, ⊤, IsText, RowsOf, catch_all_token, comes_before, param_token, first, has_slash, longest_suffix, or_else, own, param_step, same_text, seek, segment, step, with_suffix, ints}
 use Rattle.std.proofs.lemmas.Bool.Decides.{nat_tests}
 use Rattle.matchit.specs.Order.{placed}
 
@@ -21,6 +21,12 @@ Any t = ⊤
 
 abbrev pub Nothing : List ℕ → Type 0
 Nothing t = t ≡ []
+
+-- where anything may be behind it, the bytes are the front and what is behind it
+pub starts-front : (front t : List ℕ) → Starts Any front t → (rest : List ℕ) × (t ≡ front ++ rest)
+starts-front [] t is = (t, refl)
+starts-front (c ∷ front) [] is = absurd is
+starts-front (c ∷ front) (b ∷ t) is = let more = starts-front front t is.1 in (more.0, λ i. is.0 i ∷ more.1 i)
 
 -- where nothing is behind it, the bytes are the front
 pub starts-whole : (front t : List ℕ) → Starts Nothing front t → t ≡ front

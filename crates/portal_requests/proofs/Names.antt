@@ -10,10 +10,10 @@ pub use Rattle.matchit.specs.declared.error.InsertError.{InsertError}
 pub use Rattle.portal_messages.specs.Fields.{path_of}
 pub use Rattle.portal_messages.specs.declared.message.Message.{Message}
 pub use Rattle.serde_json.specs.View.{members_view, view}
-pub use Rattle.std.proofs.Common.{Bool, Err, List, None, Ok, Option, Result, Some, [], add-one, ap, ap₂, arith, cond, drop, drop-cons, false, get_or, length, refl, subst, suc, sym, true, zero, ℕ, ◌++◌, ◌<◌, ◌∙◌, ◌∷◌, ◌≡◌, ◌≤◌}
+pub use Rattle.std.proofs.Common.{Bool, Err, List, None, Ok, Option, Result, Some, [], add-one, ap, arith, cond, drop, drop-cons, false, get_or, length, refl, subst, suc, sym, true, zero, ℕ, ◌++◌, ◌<◌, ◌∙◌, ◌∷◌, ◌≡◌, ◌≤◌}
 pub use Rattle.std.proofs.lemmas.Result.{err_from_is_err_and}
 pub use Rattle.std.proofs.lemmas.Str.{IsUtf8-from_is_utf8, is_utf8-from_IsUtf8}
-pub use Rattle.std.specs.Prelude.{IfErr, codes, ltb, nat_le, option_and_then, option_map, take, unwrap_or, ⊤, ◌-◌, ◌==◌}
+pub use Rattle.std.specs.Prelude.{IfErr, codes, ltb, option_and_then, option_map, unwrap_or, ⊤, ◌-◌, ◌==◌}
 pub use Rattle.std.specs.Str.{IsUtf8, bytes_eq}
 unfoldable pub use Rattle.std.specs.Str.{is_utf8}
 pub use Rattle.trust_base.specs.Texts.{day_of, entry_of, matter_of}
@@ -33,7 +33,8 @@ pub use Rattle.portal_requests.specs.Asked.{entry_ask, matter_ask, numbered_ask}
 pub use Rattle.portal_requests.specs.Bodies.{body_in, has_keys, is_key, is_object, object_with, text_in, texts}
 pub use Rattle.portal_requests.specs.Callers.{caller_of}
 pub use Rattle.portal_requests.specs.Dismissals.{dismissing, dismissing_in, line_in, line_keys}
-pub use Rattle.portal_requests.specs.Paths.{after_slash, day_part, entry_part, has_matter, named_in, period_in, report_day_part, up_to_slash}
+pub use Rattle.portal_requests.specs.Paths.{named_in, period_in}
+unfoldable pub use Rattle.portal_requests.specs.Paths.{part}
 pub use Rattle.portal_requests.specs.Places.{method_of}
 pub use Rattle.portal_requests.specs.Requests.{as_of, asked_at, called, heard_as, of_matter, placed, reported_as_of, reported_within, routed}
 unfoldable pub use Rattle.portal_requests.specs.Requests.{heard_of, request}

@@ -1,29 +1,18 @@
 -- The parts of a path, and which matter a message names by its path.
-use Rattle.portal_requests.proofs.Names.{◌≡◌, ◌∙◌, ℕ, Bool, true, false, cond, List, [], ◌∷◌, Option, Some, None, Result, Ok, Err, refl, sym, ap, subst, arith, codes, nat_le, option_map, take, unwrap_or, ⊤, bytes_eq, IsText, Scan, parse_route, RouteOf, route_from, RowsOf, first, InsertError, Line, day_of, matter_of, Field, BadMethod, Ask, Caller, is_the, names, Message, path_of, Place, entry_ask, matter_ask, body_in, caller_of, dismissing, dismissing_in, line_in, line_keys, after_slash, day_part, entry_part, has_matter, named_in, period_in, report_day_part, method_of, Span, CallerList, DayReport, PeriodReport, as_of, asked_at, reported_as_of, reported_within, called, heard_as, heard_of, of_matter, placed, request, routed, place_of, TABLE, route_rows, row_in, the_routes, matchit_on_literals, ints, nat_tests}
+use Rattle.portal_requests.proofs.Names.{◌≡◌, ◌∙◌, ◌++◌, ℕ, Bool, true, false, cond, List, [], ◌∷◌, Option, Some, None, Result, Ok, Err, refl, sym, ap, subst, arith, codes, length, option_map, unwrap_or, ⊤, bytes_eq, IsText, Scan, parse_route, RouteOf, route_from, RowsOf, first, InsertError, Line, day_of, matter_of, Field, BadMethod, Ask, Caller, is_the, names, Message, path_of, Place, entry_ask, matter_ask, body_in, caller_of, dismissing, dismissing_in, line_in, line_keys, named_in, part, period_in, method_of, Span, CallerList, DayReport, PeriodReport, as_of, asked_at, reported_as_of, reported_within, called, heard_as, heard_of, of_matter, placed, request, routed, place_of, TABLE, route_rows, row_in, the_routes, matchit_on_literals, ints, nat_tests}
 use Rattle.std.specs.Borrow.{Bor}
-use Rattle.std.specs.Prelude.{drop, length}
-use Rattle.std.specs.Slice.{IsGetRangeResult}
-use Rattle.std.proofs.lemmas.List.{drop_all, length-drop, take_all}
+use Rattle.trust_base.proofs.ReadFacts.{digit_facts, number-none}
 use Rattle.portal_requests.specs.declared.routes.Place.TheVariants as place
 use Rattle.portal_requests.specs.NamedByPath.{NamedByPath}
 use Rattle.trust_desk.specs.declared.requests.CallerList.TheVariants as caller_list
-use Rattle.trust_desk.specs.declared.requests.MatchText.TheVariants as part
-use Rattle.portal_requests.proofs.Literals.{AllRows, Any, LeadsBy, Nothing, Starts, by-any, by-nothing, first-starts, placed-rows, starts-whole}
+use Rattle.trust_desk.specs.declared.requests.MatchText.TheVariants as text
+use Rattle.portal_requests.proofs.Literals.{AllRows, Any, LeadsBy, Nothing, Starts, by-any, by-nothing, first-starts, placed-rows, starts-front, starts-whole}
 
--- what is behind the first bytes, or nothing
-part-behind : (path : List ℕ) (n : ℕ) (got : Option (Bor (List ℕ))) (nothing : Bor (List ℕ)) → nothing.now ≡ [] → IsGetRangeResult path n (length path) got → (unwrap_or got nothing).now ≡ drop n path
-part-behind path n got nothing none is = grind (arith, ints, nat_tests, drop_all, length-drop n path, take_all (length path) (drop n path), take_all)
-
--- the day that is read there
-pub day-behind : (path : List ℕ) (got : Option (Bor (List ℕ))) (nothing part : Bor (List ℕ)) (day : Option ℕ) → day ≡ day_of part.now → part ≡ unwrap_or got nothing → nothing.now ≡ []
-    → IsGetRangeResult path 21 (length path) got → day ≡ day_of (day_part path)
-day-behind path got nothing part day read same none is = read ∙ ap day_of (ap (λ b. b.now) same ∙ part-behind path 21 got nothing none is)
-
--- what is behind the name of a report
-pub behind-name : (path : List ℕ) (got : Option (Bor (List ℕ))) (nothing front : Bor (List ℕ)) (rest : List ℕ) → rest ≡ after_slash front.now → front ≡ unwrap_or got nothing → nothing.now ≡ []
-    → IsGetRangeResult path 6 (length path) got → rest ≡ report_day_part path
-behind-name path got nothing front rest behind same none is =
-    behind ∙ ap after_slash (ap (λ b. b.now) same ∙ part-behind path 6 got nothing none is)
+-- the part that was found, or nothing
+pub found-or_none : (got : Option (Bor (List ℕ))) (found : Option (List ℕ)) (nothing : Bor (List ℕ)) → option_map (λ b. b.now) got ≡ found → nothing.now ≡ []
+    → (unwrap_or got nothing).now ≡ unwrap_or found []
+found-or_none None found nothing e none = none ∙ ap (λ o. unwrap_or o []) e
+found-or_none (Some b) found nothing e none = ap (λ o. unwrap_or o []) e
 
 -- Paths to some places.
 
@@ -87,8 +76,12 @@ firm-text : IsText firm_front
 firm-text = (omega arith, (omega arith, (omega arith, (omega arith, (omega arith, (omega arith, tt))))))
 
 -- a path that begins so names no matter
+firm-part : (rest : List ℕ) → named_in (firm_front ++ rest) ≡ None
+unfolding part
+firm-part rest = refl
+
 front-unnamed : (path : List ℕ) → OfFirm path → named_in path ≡ None
-front-unnamed path is = grind (arith, ints, nat_tests, named_in, nat_le, length, has_matter, matter_of, take, drop)
+front-unnamed path is = let begins = starts-front firm_front path is in ap named_in begins.1 ∙ firm-part begins.0
 
 firm-unnamed : (path : List ℕ) (p : Place) → is_of_firm p ≡ true → place_of path ≡ Some p → named_in path ≡ None
 firm-unnamed path p is e =
@@ -115,11 +108,16 @@ list-text : (list : CallerList) → IsText (list_path list)
 list-text caller_list.Matters = grind (arith, ints, nat_tests)
 list-text caller_list.Waiting = grind (arith, ints, nat_tests)
 
+-- nothing is no matter's number
+nothing-unnamed : matter_of [] ≡ None
+nothing-unnamed = number-none _ _ _ [] (λ m low high e. omega (arith, digit_facts, ap length e))
+
 short-unnamed : (list : CallerList) → named_in (list_path list) ≡ None
-short-unnamed caller_list.Matters = refl
+unfolding part
+short-unnamed caller_list.Matters = nothing-unnamed
 short-unnamed caller_list.Waiting = refl
 
--- each has only its own path, which is too short to name a matter
+-- each has only its own path, which has no matter's part
 list-unnamed : (path : List ℕ) (list : CallerList) → place_of path ≡ Some (place.Listed list) → named_in path ≡ None
 list-unnamed path list e =
     let leads = Leads (IsOfList list) (OfList list) in
@@ -147,17 +145,17 @@ dismissal-named n caller o = grind (arith, ints, nat_tests)
 
 at-named : (n : ℕ) (p : Place) (caller : Caller) (path body : List ℕ) → place_of path ≡ Some p → names n (heard_as (named_in path) (asked_at p caller path body)) ≡ is_the n (named_in path)
 at-named n (place.Matter p) caller path body e = of-named n caller (named_in path) (matter_ask p path body)
-at-named n (place.Entry p) caller path body e = of-named n caller (named_in path) (entry_ask p (entry_part path) body)
+at-named n (place.Entry p) caller path body e = of-named n caller (named_in path) (entry_ask p (part 4 path) body)
 at-named n (place.Listed p) caller path body e = sym (ap (is_the n) (list-unnamed path p e))
 at-named n (place.Report p) caller path body e = sym (ap (is_the n) (firm-unnamed path (place.Report p) refl e))
-at-named n place.Reconciliation caller path body e = subst (λ (o : Option ℕ). names n (heard_as o (as_of caller (day_of (day_part path)))) ≡ is_the n o) (sym (firm-unnamed path place.Reconciliation refl e)) (day-named n caller (day_of (day_part path)))
-at-named n (place.AsOf report) caller path body e = subst (λ (o : Option ℕ). names n (heard_as o (reported_as_of caller report (day_of (report_day_part path)))) ≡ is_the n o) (sym (firm-unnamed path (place.AsOf report) refl e)) (report-named n caller report (day_of (report_day_part path)))
+at-named n place.Reconciliation caller path body e = subst (λ (o : Option ℕ). names n (heard_as o (as_of caller (day_of (part 3 path)))) ≡ is_the n o) (sym (firm-unnamed path place.Reconciliation refl e)) (day-named n caller (day_of (part 3 path)))
+at-named n (place.AsOf report) caller path body e = subst (λ (o : Option ℕ). names n (heard_as o (reported_as_of caller report (day_of (part 3 path)))) ≡ is_the n o) (sym (firm-unnamed path (place.AsOf report) refl e)) (report-named n caller report (day_of (part 3 path)))
 at-named n (place.Within report) caller path body e =
-    let period = period_in (report_day_part path) in
+    let period = period_in (part 3 path) (part 4 path) in
     subst (λ (o : Option ℕ). names n (heard_as o (reported_within caller report period)) ≡ is_the n o) (sym (firm-unnamed path (place.Within report) refl e)) (period-named n caller report period)
 at-named n place.Import caller path body e = sym (ap (is_the n) (firm-unnamed path place.Import refl e))
-at-named n (place.Match part.Statement) caller path body e = sym (ap (is_the n) (firm-unnamed path (place.Match part.Statement) refl e))
-at-named n (place.Match part.Unmatched) caller path body e = sym (ap (is_the n) (firm-unnamed path (place.Match part.Unmatched) refl e))
+at-named n (place.Match text.Statement) caller path body e = sym (ap (is_the n) (firm-unnamed path (place.Match text.Statement) refl e))
+at-named n (place.Match text.Unmatched) caller path body e = sym (ap (is_the n) (firm-unnamed path (place.Match text.Unmatched) refl e))
 at-named n place.Reasons caller path body e = sym (ap (is_the n) (firm-unnamed path place.Reasons refl e))
 at-named n place.Dismissal caller path body e = subst (λ (o : Option ℕ). names n (heard_as o (dismissing_in caller body)) ≡ is_the n o) (sym (firm-unnamed path place.Dismissal refl e)) (dismissal-named n caller (line_in (body_in line_keys body)))
 

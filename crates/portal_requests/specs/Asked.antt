@@ -15,7 +15,7 @@ use Rattle.portal_requests.specs.declared.routes.MatterPlace.TheVariants as matt
 use Rattle.portal_requests.specs.declared.routes.EntryPlace.{EntryPlace}
 use Rattle.portal_requests.specs.declared.routes.EntryPlace.TheVariants as entry
 use Rattle.portal_requests.specs.Bodies.{optional_text_at, text_at, with_body}
-use Rattle.portal_requests.specs.Paths.{matter_rest, period_in}
+use Rattle.portal_requests.specs.Paths.{part, period_in}
 
 -- ---- of a matter as a whole
 
@@ -45,7 +45,7 @@ matter_ask matter.Close path body = with_body [] body (λ d. Ok ask.CloseMatter)
 matter_ask matter.Purge path body = with_body [] body (λ d. Ok ask.Purge)
 matter_ask matter.Entries path body = Ok ask.ShowEntries
 matter_ask matter.Accounting path body = Ok ask.Accounting
-matter_ask matter.Account path body = account_within (period_in (matter_rest path))
+matter_ask matter.Account path body = account_within (period_in (part 4 path) (part 5 path))
 
 -- ---- of an entry
 

@@ -20,7 +20,7 @@ use Rattle.portal_requests.specs.declared.routes.Place.{Place}
 use Rattle.portal_requests.specs.declared.routes.Place.TheVariants as place
 use Rattle.portal_requests.specs.Asked.{entry_ask, matter_ask}
 use Rattle.portal_requests.specs.Callers.{caller_of}
-use Rattle.portal_requests.specs.Paths.{day_part, entry_part, named_in, period_in, report_day_part}
+use Rattle.portal_requests.specs.Paths.{named_in, part, period_in}
 use Rattle.portal_requests.specs.Dismissals.{dismissing_in}
 use Rattle.portal_requests.specs.Places.{method_of}
 use Rattle.portal_requests.specs.Routing.{place_of}
@@ -48,14 +48,13 @@ reported_within caller report (Some period) = Ok (requests.Within caller report 
 
 abbrev pub asked_at : Place → Caller → List ℕ → List ℕ → Result Request Refusal
 asked_at (place.Matter p) caller path body = of_matter caller (named_in path) (matter_ask p path body)
-asked_at (place.Entry p) caller path body =
-    of_matter caller (named_in path) (entry_ask p (entry_part path) body)
+asked_at (place.Entry p) caller path body = of_matter caller (named_in path) (entry_ask p (part 4 path) body)
 asked_at (place.Listed list) caller path body = Ok (requests.Listed caller list)
 asked_at (place.Report report) caller path body = Ok (requests.Report caller report)
-asked_at place.Reconciliation caller path body = as_of caller (day_of (day_part path))
-asked_at (place.AsOf report) caller path body = reported_as_of caller report (day_of (report_day_part path))
+asked_at place.Reconciliation caller path body = as_of caller (day_of (part 3 path))
+asked_at (place.AsOf report) caller path body = reported_as_of caller report (day_of (part 3 path))
 asked_at (place.Within report) caller path body =
-    reported_within caller report (period_in (report_day_part path))
+    reported_within caller report (period_in (part 3 path) (part 4 path))
 asked_at place.Import caller path body = Ok (requests.Import caller body)
 asked_at (place.Match text) caller path body = Ok (requests.Match caller body text)
 asked_at place.Reasons caller path body = Ok (requests.Reasons caller)

@@ -14,8 +14,7 @@ ghost use Rattle.portal_requests.specs.Bodies.{body_in, field_text_at, is_object
 ghost use Rattle.portal_requests.specs.Bodies.{texts};
 ghost use Rattle.portal_requests.specs.Callers.{caller_of};
 ghost use Rattle.portal_requests.specs.Dismissals.{dismissing_in};
-ghost use Rattle.portal_requests.specs.Paths.{after_slash, day_part, matter_rest, named_in, period_in, report_day_part};
-ghost use Rattle.portal_requests.specs.Paths.{up_to_slash};
+ghost use Rattle.portal_requests.specs.Paths.{named_in, part, period_in};
 ghost use Rattle.portal_requests.specs.Requests.{as_of, of_matter, reported_as_of, reported_within, request};
 ghost use Rattle.trust_base.specs.Texts.{day_of};
 
@@ -37,44 +36,25 @@ use trust_matter::{Ask, Caller, SplitAsk};
 pub fn named_matter(path: &[u8]) -> Option<MatterNo>
     ensures { result ≡ named_in path.now }
 {
-    if path.len() < 15 || &path[..9] != b"/matters/".as_slice() {
-        return None;
+    if part(path, 0).is_empty() && part(path, 1) == b"matters".as_slice() {
+        MatterNo::read(part(path, 2))
+    } else {
+        None
     }
-    let (_, rest) = path.split_at(15);
-    if !rest.is_empty() && rest[0] != b'/' {
-        return None;
-    }
-    MatterNo::read(&path[9..15])
 }
 
-// The bytes before the first slash, and those after it.
-fn split_at_slash(bytes: &[u8]) -> (&[u8], &[u8])
-    ensures before { result.0.now ≡ up_to_slash bytes.now }
-    ensures after { result.1.now ≡ after_slash bytes.now }
+// Returns a part of a path by its number, or nothing if there is none. What is before the first slash has number 0, so
+// in `/matters/000001/entries/0002` the matter has number 2, and the entry 4.
+fn part(path: &[u8], number: usize) -> &[u8]
+    ensures { result.now ≡ part number path.now }
 {
-    for i in 0..bytes.len() {
-        if bytes[i] == b'/' {
-            return (&bytes[..i], &bytes[i + 1..]);
-        }
-    }
-    (bytes, &[])
+    path.split(|byte| *byte == b'/').nth(number).unwrap_or(&[])
 }
 
-// What comes after `/matters/`, the matter and the name of what is there, each with a slash behind it.
-fn matter_rest(path: &[u8]) -> &[u8]
-    ensures { result.now ≡ matter_rest path.now }
+// Returns the period from one day to another. `None` if one of the texts is no day, or the second day is earlier.
+fn read_period(from: &[u8], to: &[u8]) -> Option<Period>
+    ensures { result ≡ period_in from.now to.now }
 {
-    let (_, rest) = split_at_slash(path.get(9..).unwrap_or(&[]));
-    let (_, rest) = split_at_slash(rest);
-    rest
-}
-
-// Returns the period whose days stand in a part of a path, with a slash between them. `None` if one of them is no day,
-// or the second is earlier.
-fn read_period(part: &[u8]) -> Option<Period>
-    ensures { result ≡ period_in part.now }
-{
-    let (from, to) = split_at_slash(part);
     Period::new(Day::read(from)?, Day::read(to)?)
 }
 
@@ -195,11 +175,11 @@ fn read_dropping_in(alloc: Global, body: &[u8]) -> Result<Ask, Refusal>
     read_dropping(alloc, text(&fields, "person"))
 }
 
-// Returns the ask for the statement of account of the period in a path.
-fn read_account(path: &[u8]) -> Result<Ask, Refusal>
-    ensures { Reads (account_within (period_in (matter_rest path.now))) result }
+// Returns the ask for the statement of account from one day to another.
+fn read_account(from: &[u8], to: &[u8]) -> Result<Ask, Refusal>
+    ensures { Reads (account_within (period_in from.now to.now)) result }
 {
-    match read_period(matter_rest(path)) {
+    match read_period(from, to) {
         Some(period) => Ok(Ask::Account(period)),
         None => Err(Refusal::BadField(Field::Day)),
     }
@@ -221,7 +201,7 @@ fn read_matter_ask(
         MatterPlace::DropSeat => return read_dropping_in(alloc, body),
         MatterPlace::Entries => return Ok(Ask::ShowEntries),
         MatterPlace::Accounting => return Ok(Ask::Accounting),
-        MatterPlace::Account => return read_account(path),
+        MatterPlace::Account => return read_account(part(path, 4), part(path, 5)),
         MatterPlace::Close => Ask::CloseMatter,
         MatterPlace::Purge => Ask::Purge,
     };
@@ -367,37 +347,55 @@ fn read_matter_at(
     }
 }
 
-// Returns the request for the reconciliation of the day in a path, which comes after `/firm/reconciliation/`.
-fn read_reconciliation_at(caller: Caller, path: &[u8]) -> Result<Request, Refusal>
-    ensures { Answers (as_of caller (day_of (day_part path.now))) result }
+// Returns what is asked of the entry in a path.
+fn read_entry_at(
+    alloc: Global,
+    place: EntryPlace,
+    caller: Caller,
+    path: &[u8],
+    body: &[u8],
+) -> Result<Request, Refusal>
+    ensures { Answers (of_matter caller (named_in path.now) (entry_ask place (part 4 path.now) body.now)) result }
 {
-    match Day::read(path.get(21..).unwrap_or(&[])) {
+    let Some(no) = named_matter(path) else {
+        return Err(Refusal::BadField(Field::Matter));
+    };
+    match read_entry_ask(alloc, place, part(path, 4), body) {
+        Ok(ask) => Ok(Request::Matter { no, caller, ask }),
+        Err(why) => Err(why),
+    }
+}
+
+// Returns the request for the reconciliation of a day.
+fn read_reconciliation(caller: Caller, day: &[u8]) -> Result<Request, Refusal>
+    ensures { Answers (as_of caller (day_of day.now)) result }
+{
+    match Day::read(day) {
         Some(day) => Ok(Request::Reconcile(caller, day)),
         None => Err(Refusal::BadField(Field::Day)),
     }
 }
 
-// Returns the request for a report as of the day in a path, which comes after `/firm/`, the report and a slash.
-fn read_day_report_at(caller: Caller, report: DayReport, path: &[u8]) -> Result<Request, Refusal>
-    ensures { Answers (reported_as_of caller report (day_of (report_day_part path.now))) result }
+// Returns the request for a report as of a day.
+fn read_day_report(caller: Caller, report: DayReport, day: &[u8]) -> Result<Request, Refusal>
+    ensures { Answers (reported_as_of caller report (day_of day.now)) result }
 {
-    let (_, day) = split_at_slash(path.get(6..).unwrap_or(&[]));
     match Day::read(day) {
         Some(day) => Ok(Request::AsOf(caller, report, day)),
         None => Err(Refusal::BadField(Field::Day)),
     }
 }
 
-// Returns the request for a report of the period in a path. Its days come after `/firm/`, the report and a slash.
-fn read_period_report_at(
+// Returns the request for a report from one day to another.
+fn read_period_report(
     caller: Caller,
     report: PeriodReport,
-    path: &[u8],
+    from: &[u8],
+    to: &[u8],
 ) -> Result<Request, Refusal>
-    ensures { Answers (reported_within caller report (period_in (report_day_part path.now))) result }
+    ensures { Answers (reported_within caller report (period_in from.now to.now)) result }
 {
-    let (_, days) = split_at_slash(path.get(6..).unwrap_or(&[]));
-    match read_period(days) {
+    match read_period(from, to) {
         Some(period) => Ok(Request::Within(caller, report, period)),
         None => Err(Refusal::BadField(Field::Day)),
     }
@@ -430,21 +428,12 @@ pub fn request_of(alloc: Global, routes: &Routes, message: &Message) -> Result<R
     let body = message.body.as_slice();
     match place {
         Place::Matter(place) => read_matter_at(alloc, place, caller, path, body),
-        Place::Entry(place) => {
-            let Some(no) = named_matter(path) else {
-                return Err(Refusal::BadField(Field::Matter));
-            };
-            let (entry, _) = split_at_slash(matter_rest(path));
-            match read_entry_ask(alloc, place, entry, body) {
-                Ok(ask) => Ok(Request::Matter { no, caller, ask }),
-                Err(why) => Err(why),
-            }
-        }
+        Place::Entry(place) => read_entry_at(alloc, place, caller, path, body),
         Place::Listed(list) => Ok(Request::Listed(caller, list)),
         Place::Report(report) => Ok(Request::Report(caller, report)),
-        Place::Reconciliation => read_reconciliation_at(caller, path),
-        Place::AsOf(report) => read_day_report_at(caller, report, path),
-        Place::Within(report) => read_period_report_at(caller, report, path),
+        Place::Reconciliation => read_reconciliation(caller, part(path, 3)),
+        Place::AsOf(report) => read_day_report(caller, report, part(path, 3)),
+        Place::Within(report) => read_period_report(caller, report, part(path, 3), part(path, 4)),
         Place::Import => {
             let statement = read_statement(alloc, body)?;
             Ok(Request::Import { caller, statement })
