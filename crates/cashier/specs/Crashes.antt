@@ -9,6 +9,7 @@ use Rattle.portal_http.specs.Clients.{Clients, clients_of}
 use Rattle.portal_http.specs.Output.{Output}
 use Rattle.portal_http.specs.Served.{Served}
 use Rattle.portal_http.specs.ServedAll.{AreServedInTurn}
+use Rattle.portal_http.specs.declared.server.ClientEnd.{ClientEnd}
 use Rattle.portal_http.specs.declared.stream.StreamEnd.{StreamEnd}
 use Rattle.command_line.specs.Program.{Means}
 use Rattle.command_line.specs.declared.command.ReportCommand.{ReportCommand}
@@ -71,7 +72,7 @@ pub record LeavesStream (words : List Text) (input : Option (List ℕ)) (output 
 -- leaves of its messages
 abbrev pub LeavesClients : {B W : Type 0} → (B → Seen) → ℕ → Clients W → B → B → Type 0
 LeavesClients seen day clients old new =
-    (ends : List StreamEnd) × AreServedInTurn seen clients.contents day clients.comes old ends new
+    (ends : List ClientEnd) × AreServedInTurn seen clients.contents day clients.comes old ends new
 
 pub record LeavesPort {B W : Type 0} (seen : B → Seen) (words : List Text) (known : Known W) (old new : B)
     : Type 0 where

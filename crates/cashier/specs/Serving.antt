@@ -3,10 +3,11 @@ use Rattle.std.specs.Prelude.{◌≡◌, ◌⊎◌, ℕ, suc, length, List, [], 
 use Rattle.std.specs.Io.KnownBytes.{Appends}
 use Rattle.firm_rows.specs.Firm.{Firm}
 use Rattle.portal_http.specs.declared.stream.StreamEnd.{StreamEnd}
-use Rattle.portal_http.specs.declared.stream.StreamEnd.TheVariants as stream
 use Rattle.portal_http.specs.Clients.{Comes, Client, Clients, Gone, Refused}
 use Rattle.portal_http.specs.EndLines.{IsTold}
 use Rattle.portal_http.specs.Output.{Output, output_of}
+use Rattle.portal_http.specs.declared.server.ClientEnd.{ClientEnd}
+use Rattle.portal_http.specs.declared.server.ClientEnd.TheVariants as client
 use Rattle.portal_http.specs.declared.server.ServeEnd.{ServeEnd}
 use Rattle.portal_http.specs.declared.server.ServeEnd.TheVariants as serving
 use Rattle.cashier.specs.Stream.{StreamEnds}
@@ -30,30 +31,30 @@ module _ {W : Type 0} (contents : W → Option (List ℕ)) where
     pub ends : StreamEnds day stream (output_of contents writer left) end before after
 
   -- a client could not be served, because it was gone or the system could not make its connection; nothing was done
-  pub record IsGone (comes : Comes W → Type 0) (before : Firm) (end : StreamEnd) (after : Firm) : Type 0 where
+  pub record IsGone (comes : Comes W → Type 0) (before after : Firm) : Type 0 where
     pub came : comes Gone
-    pub ended : end ≡ stream.ReadFault
     pub firm : after ≡ before
 
-  -- how a client ends
-  abbrev pub IsMet : ℕ → (Comes W → Type 0) → Firm → StreamEnd → Firm → Type 0
-  IsMet day comes before end after = IsAnswered day comes before end after ⊎ IsGone comes before end after
+  -- what became of a client
+  abbrev pub IsMet : ℕ → (Comes W → Type 0) → Firm → ClientEnd → Firm → Type 0
+  IsMet day comes before (client.Served end) after = IsAnswered day comes before end after
+  IsMet day comes before client.Gone after = IsGone comes before after
 
   -- clients were served in turn, each over the firm that the one before it left; `comes k` is what the accept after k
   -- others may return
-  abbrev pub AreMetInTurn : ℕ → (ℕ → Comes W → Type 0) → Firm → List StreamEnd → Firm → Type 0
+  abbrev pub AreMetInTurn : ℕ → (ℕ → Comes W → Type 0) → Firm → List ClientEnd → Firm → Type 0
   AreMetInTurn day comes before [] after = after ≡ before
   AreMetInTurn day comes before (end ∷ ends) after =
       (mid : Firm) × IsMet day (comes 0) before end mid × AreMetInTurn day (λ k. comes (suc k)) mid ends after
 
--- clients of a port were served, and that ended with this outcome: how each one's stream ended, in order, and what was
--- written about that; serving stopped early if a line could not be written, as the end then says, and otherwise only if
+-- clients of a port were served, and that ended with this outcome: what became of each, in order, and what was written
+-- about that; serving stopped early if a line could not be written, as the end then says, and otherwise only if
 -- the network refused an accept
 pub record IsPortServed {W : Type 0} (day : ℕ) (clients : Clients W) (output : Output) (told : Outcome)
     (before after : Firm) : Type 0 where
   pub end : ServeEnd
   pub outcome : serving_outcome end ≡ told
-  pub ends : List StreamEnd
+  pub ends : List ClientEnd
   pub met : AreMetInTurn clients.contents day clients.comes before ends after
   pub lines : IsTold end clients.count ends output.before output.after
   pub refused : end ≡ serving.NetworkFault → clients.comes (length ends) Refused

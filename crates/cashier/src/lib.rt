@@ -42,7 +42,7 @@
 //!   error says.
 //! - `run_serve`: over every book, clock and network: the port could not be had, and nothing was served or written
 //!   (`NetworkFault`); or its clients were served in turn, each over the firm that the one before left, with what a
-//!   stream promises of its messages, replies and rows, the replies sent to that client, and a line for each end was
+//!   stream promises of its messages, replies and rows, the replies sent to that client, and a line for each client was
 //!   written: `Done` if all were served, however their streams ended, `NetworkFault` if an accept was refused before,
 //!   `OutputFault` if a proper prefix of the lines was written (`ends`). Never `StoreFault` (`store`), since what the
 //!   store refused was answered to its message; a book that stood for a sound firm stands for one afterwards (`kept`).

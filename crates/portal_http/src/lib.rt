@@ -43,10 +43,10 @@
 //!   so what this client was sent.
 //! - `serve_connections`: each client's stream is served like that in turn, over the book that the client before left,
 //!   and its answers are written to that client's own writer. A client that is gone, or for which the system can't make
-//!   a connection, and no other, ends as ReadFault and changes nothing. It ends early only if the network refused an
-//!   accept, or a line could not be written. The operator gets a line for each end, or, if a line could not be written,
-//!   some proper prefix of the lines, with nothing said of how long (`served`). A book that stood for a sound firm
-//!   stands for one afterwards (`kept`).
+//!   a connection, and no other, is told of as Gone and changes nothing. It ends early only if the network refused an
+//!   accept, or a line could not be written. The operator gets a line for each client, or, if a line could not be
+//!   written, some proper prefix of the lines, with nothing said of how long (`served`). A book that stood for a sound
+//!   firm stands for one afterwards (`kept`).
 //!
 //! An accept gives a client with its bytes and its writer, or one that is gone, or a refusal; which of these is a
 //! relation of the listener (`ClientListener::comes`), of which a system's listener says nothing. Not said: anything of
@@ -60,8 +60,8 @@ mod stream;
 pub use portal_messages::{Input, Message, Next, Stop, read_message};
 pub use portal_requests::{Routes, request_of};
 pub use server::{
-    AcceptFault, Answered, ClientListener, Connection, Network, ServeEnd, SystemListener,
-    SystemNetwork, serve_connection, serve_connections,
+    AcceptFault, Answered, ClientEnd, ClientListener, Connection, Network, ServeEnd,
+    SystemListener, SystemNetwork, serve_connection, serve_connections,
 };
 pub use stream::{StreamEnd, bytes_of, serve_stream, write_reply};
 pub use trust_desk::Desk;

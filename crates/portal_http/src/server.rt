@@ -1,15 +1,16 @@
 // Where clients come from, the network of the system among it; connections, one after the other, and how long each
 // client may take.
 
-ghost use Rattle.std.specs.Prelude.{◌+◌, ◌*◌, ◌≤◌, ℕ, IfErr, IfNone, IfOk, IfSome, ⊤};
+ghost use Rattle.std.specs.Prelude.{◌≡◌, ◌+◌, ◌*◌, ◌≤◌, ℕ, IfErr, IfNone, IfOk, IfSome, ⊤};
 ghost use Rattle.std.specs.Duration.{as_nanos};
 ghost use Rattle.portal_http.specs.Clients.{Client, Comes, clients_of, comes_of};
+ghost use Rattle.portal_http.specs.EndLines.{client_line};
 ghost use Rattle.portal_http.specs.Output.{output_of};
 ghost use Rattle.portal_http.specs.Served.{Served};
 ghost use Rattle.portal_http.specs.ServedAll.{ServedAll};
 ghost use Rattle.trust_desk.specs.Calls.{IsAny, KeepsBook};
 
-use crate::stream::{StreamEnd, line_of, serve_routes, serve_stream};
+use crate::stream::{StreamEnd, serve_routes, serve_stream};
 use byte_streams::send;
 use portal_requests::Routes;
 use std::alloc::Global;
@@ -264,6 +265,30 @@ pub struct Answered<W: Drop> {
     pub writer: W,
 }
 
+/// What became of a client that was waited for.
+#[derive(Clone, Copy)]
+pub enum ClientEnd {
+    /// Its stream was served, and ended like this.
+    Served(StreamEnd),
+    /// It was gone before it was accepted, or its connection could not be made. Nothing was read of it.
+    Gone,
+}
+
+// Returns the line for a client: the name of its stream's end, or that it was gone.
+fn line_of(end: ClientEnd) -> &'static [u8]
+    ensures { result.now ≡ client_line end }
+{
+    match end {
+        ClientEnd::Served(StreamEnd::Ended) => b"Ended\n",
+        ClientEnd::Served(StreamEnd::BadFraming) => b"BadFraming\n",
+        ClientEnd::Served(StreamEnd::Limit) => b"Limit\n",
+        ClientEnd::Served(StreamEnd::ReadFault) => b"ReadFault\n",
+        ClientEnd::Served(StreamEnd::WriteFault) => b"WriteFault\n",
+        ClientEnd::Served(StreamEnd::NoMemory) => b"NoMemory\n",
+        ClientEnd::Gone => b"Gone\n",
+    }
+}
+
 /// How serving ended.
 #[derive(Clone, Copy, PartialEq, Eq, Debug)]
 pub enum ServeEnd {
@@ -351,8 +376,9 @@ pub fn serve_connection<
 }
 
 /// Serves `count` clients one after the other, each over the book that the one before it left. Writes a line for
-/// each, the name of its stream's end. A fault of one connection ends only that connection. Stops early if the
-/// network refuses an accept, or if a line cannot be written.
+/// each: the name of its stream's end, or `Gone` if it was gone before it was accepted, or its connection could not be
+/// made. A fault of one connection ends only that connection. Stops early if the network refuses an accept, or if a
+/// line cannot be written.
 pub fn serve_connections<C: Clock + Drop, L: ClientListener, W: Write, B: Book>(
     alloc: Global,
     clock: &C,
@@ -373,9 +399,10 @@ pub fn serve_connections<C: Clock + Drop, L: ClientListener, W: Write, B: Book>(
     let routes = Routes::new(alloc).ok();
     for _ in 0..count {
         let end = match listener.accept() {
-            Ok(client) => serve_connection(alloc, clock, client, desk, &routes, day).end,
-            // A client that was gone before it was accepted.
-            Err(AcceptFault::Aborted) => StreamEnd::ReadFault,
+            Ok(client) => ClientEnd::Served(
+                serve_connection(alloc, clock, client, desk, &routes, day).end,
+            ),
+            Err(AcceptFault::Aborted) => ClientEnd::Gone,
             Err(AcceptFault::Network) => return ServeEnd::NetworkFault,
         };
         match send(writer, line_of(end)) {

@@ -3,7 +3,6 @@
 ghost use Rattle.std.specs.Prelude.{◌≡◌, ◌≤◌, ◌<◌, ℕ, ◌++◌, length, take, IfOk, OnOk, OnErr};
 ghost use Rattle.std.specs.Io.KnownBytes.{Appends};
 ghost use Rattle.portal_http.specs.Answers.{head_text, kind_of, phrase_of, reply_bytes};
-ghost use Rattle.portal_http.specs.EndLines.{end_line};
 ghost use Rattle.portal_http.specs.Served.{Served};
 
 use arrayvec::ArrayVec;
@@ -158,20 +157,6 @@ pub enum StreamEnd {
     WriteFault,
     /// Out of memory for the routes or the next message; an error response was sent.
     NoMemory,
-}
-
-/// Returns the line for the end of a stream: the name of the end.
-pub(crate) fn line_of(end: StreamEnd) -> &'static [u8]
-    ensures { result.now ≡ end_line end }
-{
-    match end {
-        StreamEnd::Ended => b"Ended\n",
-        StreamEnd::BadFraming => b"BadFraming\n",
-        StreamEnd::Limit => b"Limit\n",
-        StreamEnd::ReadFault => b"ReadFault\n",
-        StreamEnd::WriteFault => b"WriteFault\n",
-        StreamEnd::NoMemory => b"NoMemory\n",
-    }
 }
 
 /// Serves a stream as `serve_stream` does, with these routes.
