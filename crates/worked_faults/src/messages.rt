@@ -112,6 +112,6 @@ pub(crate) const PROPOSE_THIRD: &str = concat!(
 pub(crate) const APPROVE_THIRD: &str =
     "POST /matters/000001/entries/0003/approve HTTP/1.1\r\nx-caller: lee\r\n\r\n";
 
-/// The messages that lead to a firm with one matter: a cleared deposit, a payment, lines of the firm's own, balances and
-/// an exception.
+/// The messages that lead to a firm with one matter: a cleared deposit, a payment, lines of the firm's own, balances
+/// and an exception.
 pub(crate) const HISTORY: &[&str] = &[OPEN, BOOK, CLEAR, OWN_MONEY, PROPOSE, APPROVE, MONTH_LINES];
