@@ -96,8 +96,8 @@ mod system;
 
 pub use cashier_remarks::{
     AskedRemarks, BookRemark, Caution, ExceptionRemark, Excerpt, FileRemark, HeaderRemark,
-    LineFault, LineRemark, NoRemarks, Plain, Reference, RefusedRecord, Remark, Remarks,
-    ReportRemark, UnmatchedLine,
+    LineRemark, NoRemarks, Plain, Reference, RefusedRecord, Remark, Remarks, ReportRemark,
+    UnmatchedLine,
 };
 pub use check::{CheckFound, run_check};
 pub use folder::{Folder, Opened, Presence};

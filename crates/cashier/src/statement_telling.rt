@@ -5,7 +5,7 @@ use crate::file_records::FileRecords;
 use crate::file_telling::{remark_on_first, tell_of_records};
 use crate::item_remark::{reference_of, remark_on_exception};
 use crate::read_bytes::{ReadBytes, ReplayReader};
-use cashier_remarks::{LineRemark, Remark, Remarks, fault_of_line};
+use cashier_remarks::{LineRemark, Remark, Remarks};
 use firm_rows::Owner;
 use std::alloc::{AllocError, Global};
 use std::cell::{Cell, Ref, RefCell};
@@ -102,7 +102,7 @@ impl<'a, M: Remarks> StatementTelling<'a, M> {
         self.remarks.tell(&Remark::Line {
             line,
             of: None,
-            told: LineRemark::Unreadable(fault_of_line(records.row())),
+            told: LineRemark::Unreadable(records.row()),
         });
         Ok(())
     }

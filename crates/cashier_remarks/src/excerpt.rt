@@ -22,11 +22,6 @@ impl<'a> Excerpt<'a> {
         }
     }
 
-    /// Whether it is empty.
-    pub fn is_empty(&self) -> bool {
-        self.front.is_empty()
-    }
-
     /// Writes it without quotes.
     pub fn write_bare<W: fmt::Write>(&self, f: &mut fmt::Formatter<W>) -> fmt::Result {
         f.write_str(self.front)?;

@@ -1,5 +1,5 @@
 //! What standard error says of a run, in addition to its faults: of records of a day sheet, lines of a statement,
-//! reports and books. Each kind of remark is an enum with a row of words for each case, and no case is left out.
+//! reports and books. Each kind of remark is an enum with a sentence for each case, and no case is left out.
 //!
 //! # What is promised
 //!
@@ -25,8 +25,8 @@ mod refused;
 mod remark;
 mod remarks;
 mod report_remark;
+mod sentence;
 mod sum_meant;
-mod unmatched;
 mod verbs;
 
 pub use book_remark::BookRemark;
@@ -36,7 +36,8 @@ pub use excerpt::Excerpt;
 pub use file_remark::FileRemark;
 pub use header::{HeaderRemark, remark_on_header};
 pub use line::LineRemark;
-pub use line_fault::{LineFault, fault_of_line, has_open_quote};
+pub use line_fault::has_open_quote;
+pub use match_remarks::UnmatchedLine;
 pub use path_text::is_printable;
 pub use plain::Plain;
 pub use reference::Reference;
@@ -44,4 +45,3 @@ pub use refused::RefusedRecord;
 pub use remark::Remark;
 pub use remarks::{AskedRemarks, NoRemarks, Remarks};
 pub use report_remark::{DAYS_OUTSTANDING, ReportRemark};
-pub use unmatched::UnmatchedLine;

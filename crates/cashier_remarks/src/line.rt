@@ -1,8 +1,10 @@
 // Remarks about lines of a statement as it is imported, and about exceptions.
 
-use crate::line_fault::LineFault;
+use crate::line_fault::write_line_fault;
 use crate::plain::Plain;
 use crate::reference::Reference;
+use crate::sentence::{write_four, write_one, write_two};
+use csv::ByteRecord;
 use firm_rows::BalanceKind;
 use std::fmt;
 use trust_base::{BankAmount, Day, Dollars, EntryNo, MatterNo, StoreFault};
@@ -66,8 +68,8 @@ pub enum LineRemark<'a> {
     NoReference,
     /// Its reference names nothing.
     Stray,
-    /// It is not a valid line.
-    Unreadable(LineFault<'a>),
+    /// This record is not a valid line.
+    Unreadable(&'a ByteRecord),
     /// It and the lines after it were not applied, because of this fault.
     NotRun(StoreFault),
     /// It is an exception by which an import would clear a payment or take a deposit back.
@@ -85,150 +87,129 @@ pub enum LineRemark<'a> {
     },
 }
 
-impl LineRemark<'_> {
-    // The words before the first thing that the remark names, and those behind the last.
-    fn words(&self) -> (&'static str, &'static str) {
-        match self {
-            LineRemark::AfterToday(_) => ("dated after today, ", ""),
-            LineRemark::NeverOpened(_) => ("matter ", " was never opened: look at the number"),
-            LineRemark::Purged(_) => ("matter ", " was purged: look at the number"),
-            LineRemark::NoEntry { .. } => ("matter ", ""),
-            LineRemark::Fee => ("a fee: no line of the bank clears it", ""),
-            LineRemark::Claim => ("a claim: no line of the bank clears it", ""),
-            LineRemark::NotApproved => (
-                "the payment is not approved yet: a lawyer approves it first",
-                "",
-            ),
-            LineRemark::Declined => (
-                "the payment was declined: look at the number, or ask the bank why it was paid",
-                "",
-            ),
-            LineRemark::Voided(_) => (
-                "the payment was voided on ",
-                ": look at the number, or ask the bank why it was paid",
-            ),
-            LineRemark::Cancelled(_) => (
-                "the deposit was cancelled on ",
-                ": look at the number, or book it as a new entry",
-            ),
-            LineRemark::DepositCleared(_, _) => (
-                "the deposit was cleared by another line, of ",
-                ": look at the number, or, if that line is this one mistyped, dismiss this one",
-            ),
-            LineRemark::PaymentCleared(_, _) => (
-                "the payment was cleared by another line, of ",
-                ": look at the number, or, if that line is this one mistyped, dismiss this one",
-            ),
-            LineRemark::TakenBack(_, _) => (
-                "the bank took the deposit back by its line of ",
-                ": look at the number",
-            ),
-            LineRemark::OtherAmount { .. } => ("the amount is ", " here"),
-            LineRemark::Uncovered(_) => (
-                "the bank took the deposit back, and matter ",
-                " has less than that: put the money back in, and import the file again",
-            ),
-            LineRemark::WorkOf { .. } => ("matter ", ": --today is that day or a later one"),
-            LineRemark::MovesNothing => ("an amount of 0.00 moves nothing", ""),
-            LineRemark::Beyond(_) => (
-                "the firm's own money would be ",
-                " with it, and stays from 0.00 to 500.00",
-            ),
-            LineRemark::OtherBalance {
-                kind: BalanceKind::Opening,
-                ..
-            } => ("another opening balance is kept for ", " here"),
-            LineRemark::OtherBalance {
-                kind: BalanceKind::Closing,
-                ..
-            } => ("another closing balance is kept for ", " here"),
-            LineRemark::NoReference => (
-                "it has no reference: let match fill it in, or write M and six digits, - and four, or FIRM; \
-                import that, and dismiss this one",
-                "",
-            ),
-            LineRemark::Stray => (
-                "no reference of an entry: write M and six digits, - and four, or FIRM, OPEN, CLOSE",
-                "",
-            ),
-            LineRemark::Unreadable(_) => ("", ""),
-            LineRemark::NotRun(_) => (
-                "",
-                ": this line and those after it were not applied; import the whole file again",
-            ),
-            LineRemark::WouldTakeOut => (
-                "an import would clear the payment, or take the deposit back, by it: \
-                import it again only if the bank has it so; if it was mistyped, dismiss it",
-                "",
-            ),
-            LineRemark::WouldApply => (
-                "an import would apply it now: import the statement again; if it was mistyped, dismiss it",
-                "",
-            ),
-            LineRemark::WouldRepeat => (
-                "it is in the book already: import the statement again, and it is no exception any more",
-                "",
-            ),
-            LineRemark::Earlier { .. } => (
-                "",
-                " already, by an earlier import: look whether the bank has two",
-            ),
-        }
+// The name of a balance of this kind.
+fn name_of_balance(kind: BalanceKind) -> &'static str {
+    match kind {
+        BalanceKind::Opening => "opening",
+        BalanceKind::Closing => "closing",
     }
 }
 
 impl fmt::Display for LineRemark<'_> {
     fn fmt<W: fmt::Write>(&self, f: &mut fmt::Formatter<W>) -> fmt::Result {
-        let (before, after) = self.words();
         match self {
-            LineRemark::Fee
-            | LineRemark::Claim
-            | LineRemark::NotApproved
-            | LineRemark::Declined
-            | LineRemark::MovesNothing
-            | LineRemark::NoReference
-            | LineRemark::Stray
-            | LineRemark::WouldTakeOut
-            | LineRemark::WouldApply
-            | LineRemark::WouldRepeat => f.write_str(before),
-            LineRemark::AfterToday(day) | LineRemark::Voided(day) | LineRemark::Cancelled(day) => {
-                write!(f, "{before}{day}{after}")
+            LineRemark::AfterToday(today) => write_one(f, "dated after today, {}", today),
+            LineRemark::NeverOpened(matter) => {
+                write_one(f, "matter {} was never opened: look at the number", matter)
             }
-            LineRemark::NeverOpened(matter)
-            | LineRemark::Purged(matter)
-            | LineRemark::Uncovered(matter) => write!(f, "{before}{matter}{after}"),
+            LineRemark::Purged(matter) => {
+                write_one(f, "matter {} was purged: look at the number", matter)
+            }
             LineRemark::NoEntry { matter, entry } => {
-                write!(f, "{before}{matter} has no entry {entry}")
+                write_two(f, "matter {} has no entry {}", matter, entry)
             }
-            LineRemark::DepositCleared(day, bank_ref)
-            | LineRemark::PaymentCleared(day, bank_ref)
-            | LineRemark::TakenBack(day, bank_ref) => {
-                write!(f, "{before}{day} with {bank_ref}{after}")
+            LineRemark::Fee => f.write_str("a fee: no line of the bank clears it"),
+            LineRemark::Claim => f.write_str("a claim: no line of the bank clears it"),
+            LineRemark::NotApproved => {
+                f.write_str("the payment is not approved yet: a lawyer approves it first")
             }
+            LineRemark::Declined => f.write_str(
+                "the payment was declined: look at the number, or ask the bank why it was paid",
+            ),
+            LineRemark::Voided(day) => write_one(
+                f,
+                "the payment was voided on {}: look at the number, or ask the bank why it was paid",
+                day,
+            ),
+            LineRemark::Cancelled(day) => write_one(
+                f,
+                "the deposit was cancelled on {}: look at the number, or book it as a new entry",
+                day,
+            ),
+            LineRemark::DepositCleared(day, bank_ref) => write_two(
+                f,
+                "the deposit was cleared by another line, of {} with {}: look at the number, \
+                or, if that line is this one mistyped, dismiss this one",
+                day,
+                bank_ref,
+            ),
+            LineRemark::PaymentCleared(day, bank_ref) => write_two(
+                f,
+                "the payment was cleared by another line, of {} with {}: look at the number, \
+                or, if that line is this one mistyped, dismiss this one",
+                day,
+                bank_ref,
+            ),
+            LineRemark::TakenBack(day, bank_ref) => write_two(
+                f,
+                "the bank took the deposit back by its line of {} with {}: look at the number",
+                day,
+                bank_ref,
+            ),
             LineRemark::OtherAmount { there, here } => {
-                write!(f, "{before}{there} there, and {here}{after}")
+                write_two(f, "the amount is {} there, and {} here", there, here)
             }
-            LineRemark::WorkOf { matter, last } => {
-                write!(f, "{before}{matter} has work of {last}{after}")
-            }
-            LineRemark::Beyond(sum) => write!(f, "{before}{sum}{after}"),
+            LineRemark::Uncovered(matter) => write_one(
+                f,
+                "the bank took the deposit back, and matter {} has less than that: \
+                put the money back in, and import the file again",
+                matter,
+            ),
+            LineRemark::WorkOf { matter, last } => write_two(
+                f,
+                "matter {} has work of {}: --today is that day or a later one",
+                matter,
+                last,
+            ),
+            LineRemark::MovesNothing => f.write_str("an amount of 0.00 moves nothing"),
+            LineRemark::Beyond(sum) => write_one(
+                f,
+                "the firm's own money would be {} with it, and stays from 0.00 to 500.00",
+                sum,
+            ),
             LineRemark::OtherBalance {
-                kind: _,
+                kind,
                 day,
                 there,
                 here,
-            } => write!(f, "{before}{day}: {there} there, and {here}{after}"),
-            LineRemark::Unreadable(fault) => fault.fmt(f),
-            LineRemark::NotRun(fault) => write!(f, "{fault}{after}"),
+            } => {
+                let name = name_of_balance(*kind);
+                let words = "another {} balance is kept for {}: {} there, and {} here";
+                write_four(f, words, &name, day, there, here)
+            }
+            LineRemark::NoReference => f.write_str(
+                "it has no reference: let match fill it in, or write M and six digits, - and four, or FIRM; \
+                import that, and dismiss this one",
+            ),
+            LineRemark::Stray => f.write_str(
+                "no reference of an entry: write M and six digits, - and four, or FIRM, OPEN, CLOSE",
+            ),
+            LineRemark::Unreadable(row) => write_line_fault(f, *row),
+            LineRemark::NotRun(fault) => write_one(
+                f,
+                "{}: this line and those after it were not applied; import the whole file again",
+                fault,
+            ),
+            LineRemark::WouldTakeOut => f.write_str(
+                "an import would clear the payment, or take the deposit back, by it: \
+                import it again only if the bank has it so; if it was mistyped, dismiss it",
+            ),
+            LineRemark::WouldApply => f.write_str(
+                "an import would apply it now: import the statement again; if it was mistyped, dismiss it",
+            ),
+            LineRemark::WouldRepeat => f.write_str(
+                "it is in the book already: import the statement again, and it is no exception any more",
+            ),
             LineRemark::Earlier {
-                before: earlier,
+                before,
                 bank_ref,
                 day,
                 amount,
-            } => write!(
-                f,
-                "{bank_ref} of {day}, {amount}, stands on {earlier}{after}"
-            ),
+            } => {
+                let words =
+                    "{} of {}, {}, stands on {} already, by an earlier import: look whether the bank has two";
+                write_four(f, words, bank_ref, day, amount, before)
+            }
         }
     }
 }

@@ -3,6 +3,7 @@
 use crate::day_meant::day_meant;
 use crate::excerpt::Excerpt;
 use crate::fields::{first_not_text, has_line_end, text_at};
+use crate::sentence::{write_one, write_two};
 use crate::sum_meant::sum_meant;
 use csv::ByteRecord;
 use day_sheet::field_bytes;
@@ -15,41 +16,6 @@ pub const HEADER: &str = "date,reference,bank_ref,amount,text";
 /// Of a record of a sheet or a statement that continues after its line.
 pub const OPEN_QUOTE: &str =
     "a double quote is opened here and not closed in its line: close it, or take it away";
-
-/// What is wrong with a record of a statement that is not a valid line.
-#[derive(Clone, Copy)]
-pub enum LineFault<'a> {
-    /// A field before the text contains the end of a line, so the next line belongs to it.
-    OpenQuote,
-    /// It has one field instead of five.
-    OneField,
-    /// It has this many fields instead of five.
-    Count(usize),
-    /// The field with this number, from 1, is not UTF-8.
-    NotUtf8(usize),
-    /// The day is empty.
-    EmptyDay,
-    /// The first is no day; the second is meant.
-    DayMeant(Excerpt<'a>, Day),
-    /// This is no day.
-    NoDay(Excerpt<'a>),
-    /// The amount is empty.
-    EmptyAmount,
-    /// The first is no amount; the second is meant.
-    AmountMeant(Excerpt<'a>, BankAmount),
-    /// This is no amount.
-    NoAmount(Excerpt<'a>),
-    /// This is no reference.
-    NoReference(Excerpt<'a>),
-    /// This is no reference of the bank.
-    NoBankReference(Excerpt<'a>),
-    /// The bank's reference is empty.
-    EmptyBankReference,
-    /// The bank's reference is empty, and the first is no balance; the second is meant.
-    BalanceMeant(Excerpt<'a>, &'static str),
-    /// The text is too long.
-    LongText,
-}
 
 /// Whether a double quote was opened before the text, or in a text that is too long, and not closed on its line.
 pub fn has_open_quote(row: &ByteRecord) -> bool {
@@ -77,64 +43,113 @@ fn balance_meant(reference: &str) -> Option<&'static str> {
     }
 }
 
-// The fault for a text that is no day.
-fn fault_of_day(text: &str) -> LineFault<'_> {
+// Writes what is wrong with a text that is no day.
+fn write_no_day<W: fmt::Write>(f: &mut fmt::Formatter<W>, text: &str) -> fmt::Result {
+    let excerpt = Excerpt::new(text);
     match day_meant(text) {
-        Some(meant) => LineFault::DayMeant(Excerpt::new(text), meant),
-        None if text.is_empty() => LineFault::EmptyDay,
-        None => LineFault::NoDay(Excerpt::new(text)),
+        Some(meant) => write_two(f, "{} is no day: write {}", &excerpt, &meant),
+        None if text.is_empty() => f.write_str("the day is empty: write it as 2026-03-16"),
+        None => {
+            write_one(
+                f,
+                "{} is no day: write year, month and day as 2026-03-16",
+                &excerpt,
+            )
+        }
     }
 }
 
-// The fault for a text that is no amount.
-fn fault_of_amount(text: &str) -> LineFault<'_> {
+// Writes what is wrong with a text that is no amount.
+fn write_no_amount<W: fmt::Write>(f: &mut fmt::Formatter<W>, text: &str) -> fmt::Result {
+    let excerpt = Excerpt::new(text);
     match sum_meant(text) {
-        Some(meant) => LineFault::AmountMeant(Excerpt::new(text), meant),
-        None if text.is_empty() => LineFault::EmptyAmount,
-        None => LineFault::NoAmount(Excerpt::new(text)),
+        Some(meant) => {
+            write_two(
+                f,
+                "{} is no amount: write {}, no $ and no comma",
+                &excerpt,
+                &meant,
+            )
+        }
+        None if text.is_empty() => {
+            f.write_str("the amount is empty: write dollars and cents as 1234.50")
+        }
+        None => {
+            let words = "{} is no amount: write dollars and cents as 1234.50, no $ and no comma";
+            write_one(f, words, &excerpt)
+        }
     }
 }
 
-// The fault for a line whose day and amount are valid.
-fn fault_of_words<'a>(reference: &'a str, bank_ref: &'a str, text: &str) -> LineFault<'a> {
-    if !is_reference(reference.as_bytes()) {
-        return LineFault::NoReference(Excerpt::new(reference));
-    }
-    if !is_reference(bank_ref.as_bytes()) {
-        return LineFault::NoBankReference(Excerpt::new(bank_ref));
-    }
-    if text.len() > MAX_LINE_TEXT {
-        return LineFault::LongText;
-    }
+// Writes what is wrong with a line that is no balance, and has no reference of the bank.
+fn write_no_bank_reference<W: fmt::Write>(
+    f: &mut fmt::Formatter<W>,
+    reference: &str,
+) -> fmt::Result {
     match balance_meant(reference) {
-        Some(name) => LineFault::BalanceMeant(Excerpt::new(reference), name),
-        None => LineFault::EmptyBankReference,
+        Some(name) => {
+            let words = "{} is no balance: write {}; a line that is none has a bank_ref";
+            write_two(f, words, &Excerpt::new(reference), &name)
+        }
+        None => f.write_str(
+            "the bank_ref is empty: write the bank's own reference of the line, as each but OPEN and CLOSE has one",
+        ),
     }
 }
 
-// The fault for a line that is five fields of a record, after so many first ones.
-fn fault_after(row: &ByteRecord, first: usize) -> LineFault<'_> {
-    let date = text_at(row, first);
-    let reference = text_at(row, first.saturating_add(1));
-    let bank_ref = text_at(row, first.saturating_add(2));
-    let amount = text_at(row, first.saturating_add(3));
-    let text = text_at(row, first.saturating_add(4));
-    if Day::read(date.as_bytes()).is_none() {
-        fault_of_day(date)
-    } else if BankAmount::read(amount.as_bytes()).is_none() {
-        fault_of_amount(amount)
+// Writes what is wrong with a line whose day and amount are valid.
+fn write_words_fault<W: fmt::Write>(
+    f: &mut fmt::Formatter<W>,
+    reference: &str,
+    bank_ref: &str,
+    text: &str,
+) -> fmt::Result {
+    if !is_reference(reference.as_bytes()) {
+        let words = "{} is no reference: write at most 64 printed characters of ASCII";
+        write_one(f, words, &Excerpt::new(reference))
+    } else if !is_reference(bank_ref.as_bytes()) {
+        let words = "{} is no reference of the bank: write at most 64 printed characters of ASCII";
+        write_one(f, words, &Excerpt::new(bank_ref))
+    } else if text.len() > MAX_LINE_TEXT {
+        f.write_str("the text has more than 1000 bytes: shorten it")
     } else {
-        fault_of_words(reference, bank_ref, text)
+        write_no_bank_reference(f, reference)
     }
 }
 
-/// Returns the first thing that is wrong with the line that a record should dismiss, which comes after the record's
-/// first three fields.
-pub fn fault_of_dismissed(row: &ByteRecord) -> LineFault<'_> {
-    match first_not_text(row) {
-        0 => fault_after(row, 3),
-        number => LineFault::NotUtf8(number),
+// Writes the first thing that is wrong with a line that is five fields of a record, after so many first ones.
+fn write_fields_fault<W: fmt::Write>(
+    f: &mut fmt::Formatter<W>,
+    row: &ByteRecord,
+    first: usize,
+) -> fmt::Result {
+    let number = first_not_text(row);
+    let (date, amount) = (text_at(row, first), text_at(row, first.saturating_add(3)));
+    if number > 0 {
+        write_one(f, "field {} is not UTF-8: save the file as UTF-8", &number)
+    } else if Day::read(date.as_bytes()).is_none() {
+        write_no_day(f, date)
+    } else if BankAmount::read(amount.as_bytes()).is_none() {
+        write_no_amount(f, amount)
+    } else {
+        let reference = text_at(row, first.saturating_add(1));
+        let bank_ref = text_at(row, first.saturating_add(2));
+        write_words_fault(
+            f,
+            reference,
+            bank_ref,
+            text_at(row, first.saturating_add(4)),
+        )
     }
+}
+
+/// Writes the first thing that is wrong with the line that a record should dismiss, which comes after the record's
+/// first three fields.
+pub fn write_dismissed_fault<W: fmt::Write>(
+    f: &mut fmt::Formatter<W>,
+    row: &ByteRecord,
+) -> fmt::Result {
+    write_fields_fault(f, row, 3)
 }
 
 /// Whether a record is the header of a statement, or begins like a line of one.
@@ -145,80 +160,25 @@ pub fn is_of_statement(row: &ByteRecord) -> bool {
             || date == b"date".as_slice() && reference == b"reference".as_slice())
 }
 
-/// Returns the first thing that is wrong with a record that is not a valid line.
-pub fn fault_of_line(row: &ByteRecord) -> LineFault<'_> {
+/// Writes the first thing that is wrong with a record that is not a valid line.
+pub fn write_line_fault<W: fmt::Write>(f: &mut fmt::Formatter<W>, row: &ByteRecord) -> fmt::Result {
+    let count = row.len();
     if has_open_quote(row) {
-        return LineFault::OpenQuote;
-    }
-    match row.len() {
-        5 => (),
-        1 => return LineFault::OneField,
-        count => return LineFault::Count(count),
-    }
-    match first_not_text(row) {
-        0 => fault_after(row, 0),
-        number => LineFault::NotUtf8(number),
-    }
-}
-
-impl LineFault<'_> {
-    // What is said of it, behind the text or the field that it names.
-    fn words(&self) -> &'static str {
-        match self {
-            LineFault::OpenQuote => OPEN_QUOTE,
-            LineFault::OneField => "field, a line of a statement has 5:",
-            LineFault::Count(_) => "fields, a line of a statement has 5:",
-            LineFault::NotUtf8(_) => "is not UTF-8: save the file as UTF-8",
-            LineFault::EmptyDay => "the day is empty: write it as 2026-03-16",
-            LineFault::DayMeant(_, _) => "is no day: write",
-            LineFault::NoDay(_) => "is no day: write year, month and day as 2026-03-16",
-            LineFault::EmptyAmount => "the amount is empty: write dollars and cents as 1234.50",
-            LineFault::AmountMeant(_, _) => "is no amount: write",
-            LineFault::NoAmount(_) => {
-                "is no amount: write dollars and cents as 1234.50, no $ and no comma"
-            }
-            LineFault::NoReference(_) => {
-                "is no reference: write at most 64 printed characters of ASCII"
-            }
-            LineFault::NoBankReference(_) => {
-                "is no reference of the bank: write at most 64 printed characters of ASCII"
-            }
-            LineFault::EmptyBankReference => {
-                "the bank_ref is empty: write the bank's own reference of the line, as each but OPEN and CLOSE has one"
-            }
-            LineFault::BalanceMeant(_, _) => "is no balance: write",
-            LineFault::LongText => "the text has more than 1000 bytes: shorten it",
-        }
-    }
-}
-
-impl fmt::Display for LineFault<'_> {
-    fn fmt<W: fmt::Write>(&self, f: &mut fmt::Formatter<W>) -> fmt::Result {
-        let words = self.words();
-        match self {
-            LineFault::OpenQuote
-            | LineFault::EmptyDay
-            | LineFault::EmptyAmount
-            | LineFault::EmptyBankReference
-            | LineFault::LongText => f.write_str(words),
-            LineFault::OneField => write!(f, "it has 1 {words} {HEADER}"),
-            LineFault::Count(count) => write!(f, "it has {count} {words} {HEADER}"),
-            LineFault::NotUtf8(number) => write!(f, "field {number} {words}"),
-            LineFault::DayMeant(text, meant) => write!(f, "{text} {words} {meant}"),
-            LineFault::AmountMeant(text, meant) => {
-                write!(f, "{text} {words} {meant}, no $ and no comma")
-            }
-            LineFault::NoDay(text)
-            | LineFault::NoAmount(text)
-            | LineFault::NoReference(text)
-            | LineFault::NoBankReference(text) => write!(f, "{text} {words}"),
-            LineFault::BalanceMeant(text, name) => {
-                let name = *name;
-                write!(
-                    f,
-                    "{text} {words} {name}; a line that is none has a bank_ref"
-                )
-            }
-        }
+        f.write_str(OPEN_QUOTE)
+    } else if count == 1 {
+        write_one(
+            f,
+            "it has 1 field, a line of a statement has 5: {}",
+            &HEADER,
+        )
+    } else if count != 5 {
+        write_two(
+            f,
+            "it has {} fields, a line of a statement has 5: {}",
+            &count,
+            &HEADER,
+        )
+    } else {
+        write_fields_fault(f, row, 0)
     }
 }

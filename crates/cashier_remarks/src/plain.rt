@@ -27,11 +27,6 @@ impl<'a> Plain<'a> {
             is_plain: bytes.iter().all(|byte| is_plain(*byte)),
         }
     }
-
-    /// Whether it is empty.
-    pub fn is_empty(&self) -> bool {
-        self.excerpt.is_empty()
-    }
 }
 
 impl fmt::Display for Plain<'_> {

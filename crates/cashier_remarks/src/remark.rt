@@ -12,7 +12,7 @@ use crate::path_text::PathText;
 use crate::reference::Reference;
 use crate::refused::RefusedRecord;
 use crate::report_remark::ReportRemark;
-use crate::unmatched::UnmatchedLine;
+use match_remarks::UnmatchedLine;
 use std::fmt;
 use trust_base::{Day, StoreFault};
 use trust_desk::{Flaw, Unread};

@@ -98,7 +98,8 @@ impl fmt::Display for Advice<'_> {
         match self.wrong {
             None => write!(
                 f,
-                "usage: cashier_cli [--db PATH] [--quiet] --today DAY {usage}\nexample: cashier_cli --today 2026-03-31 {example}"
+                "usage: cashier_cli [--db PATH] [--quiet] --today DAY {usage}\n\
+                example: cashier_cli --today 2026-03-31 {example}"
             ),
             Some(wrong) => write!(
                 f,

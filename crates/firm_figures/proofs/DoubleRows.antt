@@ -1,6 +1,5 @@
 -- Payments in order, and those of one instrument side by side.
-use Rattle.firm_figures.proofs.Names.{◌≡◌, ℕ, ◌+◌, ◌-◌, ◌<◌, true, false, List, [], ◌∷◌, ◌++◌, length, get_or, refl, sym, ap, ◌∙◌, append-nil, append_assoc, arith, nat_lt, IsTotalOrder, IsStrictWeakOrder, filter, flat_map, IsSortedBy, Less, Equal, is_lt, is_eq, nat_cmp, ordering_then, ordering_reverse, nat_tests, filter_agree, ranks_by, Row, Issued, issued_cmp, is_before_issued, has_same_instrument, is_double_in, in_order, doubles_in, issued_in, IssuedKept, no_issued, with_row_issued, IssuedIsKept}
-use Rattle.std.proofs.Common.{fold}
+use Rattle.firm_figures.proofs.Names.{◌≡◌, ℕ, ◌+◌, ◌-◌, ◌<◌, true, false, List, length, get_or, refl, sym, ap, ◌∙◌, arith, nat_lt, IsTotalOrder, IsStrictWeakOrder, filter, IsSortedBy, Less, Equal, is_lt, is_eq, nat_cmp, ordering_then, ordering_reverse, nat_tests, filter_agree, ranks_by, Issued, issued_cmp, is_before_issued, has_same_instrument, is_double_in, in_order, doubles_in}
 use Rattle.std.specs.Cmp.Lexicographic.{slice_cmp}
 use Rattle.std.specs.declared.cmp.Ordering.{Ordering}
 use Rattle.std.specs.Str.{bytes_eq}
@@ -65,12 +64,3 @@ double-ordered all x = ap (λ n. nat_lt 1 n) (count-ordered (has_same_instrument
 
 pub doubles-of : (all ys : List Issued) → ys ≡ in_order is_before_issued all → filter (is_double_in ys) ys ≡ doubles_in all
 doubles-of all ys is = grind (arith, nat_tests, filter_agree, double-ordered)
-
--- The payments that are kept.
-
-issued-from : (s : IssuedKept) (xs : List (ℕ × Row)) → fold with_row_issued s xs ≡ record s { issued = s.issued ++ flat_map (issued_in s.day) xs }
-issued-from s [] = λ i. record s { issued = sym (append-nil s.issued) i }
-issued-from s (x ∷ xs) = grind (arith, nat_tests, append_assoc, (issued-from (with_row_issued s x) xs))
-
-pub issued-kept : IssuedIsKept
-issued-kept p firm = ap (λ (s : IssuedKept). s.issued) (issued-from (no_issued p) firm.rows)

@@ -1,65 +1,53 @@
 -- The names that the proofs of this crate cite, passed on from one place. Declares nothing.
-pub use Rattle.firm_rows.proofs.Agree.{agree, all-entries, of_row, rows-entries}
-pub use Rattle.firm_rows.proofs.Clearing.{IsClear, sound-cleared}
 pub use Rattle.firm_rows.proofs.Joined.{own-put, passing}
 pub use Rattle.firm_rows.proofs.Ordered.{all-append, all-map}
-pub use Rattle.firm_rows.proofs.Solvent.{row-share, shares-ledger, sound-solvent}
-pub use Rattle.firm_rows.proofs.Sums.{at, sum-agree, sum-append, sum-filter, sum-flat, sum-same}
-pub use Rattle.firm_rows.specs.Countable.{AreCountable, IsCountable, IsFirmLineInRange, IsMovementInRange, IsRowInRange}
+pub use Rattle.firm_rows.proofs.Sums.{at, sum-agree, sum-filter, sum-flat}
 pub use Rattle.firm_rows.specs.Firm.{EntryRow, Firm, HeadRow, Row, SeatRow, after_change, after_edit, purged_by, entry_pairs, head_pairs, of, pairs, put, seat_pairs}
-pub use Rattle.firm_rows.specs.FirmLines.{balance_cmp, balance_of, place_of}
-pub use Rattle.firm_rows.specs.FirmSound.{FirmSound, IsInOrder}
-pub use Rattle.firm_rows.specs.Journal.{journal_sum, ledger_share, ledger_sum, row_share}
+pub use Rattle.firm_rows.specs.FirmSound.{IsInOrder}
 pub use Rattle.firm_rows.specs.Sums.{sum_of}
-pub use Rattle.firm_rows.specs.declared.ledger.FirmLine.{FirmLine}
 pub use Rattle.firm_rows.specs.declared.ledger.BalanceRow.{BalanceRow}
 pub use Rattle.firm_rows.specs.declared.movement.Movement.{Movement}
-pub use Rattle.matter_rows.specs.Balances.{held, ledger, pending, total}
+pub use Rattle.matter_rows.specs.Balances.{held, pending}
 pub use Rattle.matter_rows.specs.Events.{Event}
 unfoldable pub use Rattle.matter_rows.specs.Events.{events_of}
 pub use Rattle.matter_rows.specs.Laws.{Covered}
 pub use Rattle.matter_rows.specs.Rows.{Rows, purged_head, closed_on, entry_amount}
-pub use Rattle.matter_rows.specs.Shares.{cleared_deposit, held_deposit, paid}
-unfoldable pub use Rattle.matter_rows.specs.Shares.{held_share, pending_share, total_share}
-pub use Rattle.matter_rows.specs.Sound.{IsAtRest, IsAtRestIfClosed, IsBy, IsHeaded, IsRanged, IsRising, Sound}
+pub use Rattle.matter_rows.specs.Shares.{held_deposit}
+unfoldable pub use Rattle.matter_rows.specs.Shares.{held_share, pending_share}
+pub use Rattle.matter_rows.specs.Sound.{IsAtRest, IsAtRestIfClosed, IsBy, IsHeaded, IsRanged, Sound}
 unfoldable pub use Rattle.matter_rows.specs.Sound.{days_of}
-pub use Rattle.matter_rows.specs.declared.deposit.DepositState.{DepositState}
 pub use Rattle.matter_rows.specs.declared.entry.Entry.{Entry}
 pub use Rattle.matter_rows.specs.declared.head.Head.{Head}
-pub use Rattle.matter_rows.specs.declared.payment.PaymentState.{PaymentState}
 pub use Rattle.matter_rows.specs.declared.seat.Seat.{Seat}
-pub use Rattle.std.proofs.Common.{Bool, List, None, Option, Some, [], ap, append-nil, append_assoc, arith, cond, false, get_or, length, map, not, refl, rules, set, subst, suc, sym, take, true, w64, zero, ℕ, ◌*◌, ◌++◌, ◌+◌, ◌-◌, ◌<◌, ◌∙◌, ◌∷◌, ◌≡◌, ◌≤◌}
+pub use Rattle.std.proofs.Common.{Bool, List, None, Option, Some, [], ap, append_assoc, arith, cond, false, get_or, length, map, not, refl, rules, set, subst, suc, sym, take, true, w64, zero, ℕ, ◌*◌, ◌++◌, ◌+◌, ◌-◌, ◌<◌, ◌∙◌, ◌∷◌, ◌≡◌, ◌≤◌}
 pub use Rattle.std.proofs.lemmas.Bool.Decides.{nat_tests}
-pub use Rattle.std.proofs.lemmas.Grind.{common_steps, flat_map-append}
-pub use Rattle.std.proofs.lemmas.Int.{fits_signed_from_abs, int_wrap-add_left, int_wrap-add_right, int_wrap-sub_right, int_wrap_fits, ints, to_z-of_z, wraps}
-pub use Rattle.std.proofs.lemmas.List.{map-append, take_all}
-pub use Rattle.std.proofs.lemmas.List.Elements.{All-from_recursion, filter_agree, filter_passes, pair_read, recursion_from_All}
+pub use Rattle.std.proofs.lemmas.Grind.{common_steps}
+pub use Rattle.std.proofs.lemmas.Int.{fits_signed_from_abs, int_wrap-add_left, ints, to_z-of_z, wraps}
+pub use Rattle.std.proofs.lemmas.List.{take_all}
+pub use Rattle.std.proofs.lemmas.List.Elements.{filter_agree, filter_passes, pair_read, recursion_from_All}
 pub use Rattle.std.proofs.lemmas.List.Sorted.{IsPartitionPoint-from_clause, IsPartitionedBy-ltb, answers_always, ranks_by, sorted_far}
 pub use Rattle.std.specs.Cmp.{IsStrictWeakOrder, IsTotalOrder}
 pub use Rattle.std.specs.Int.{w128}
 unfoldable pub use Rattle.std.specs.Int.{int_wrap}
 pub use Rattle.std.specs.Int.RustNames.{FitsSigned}
 pub use Rattle.std.specs.List.{AllByRecursion, filter, flat_map, list_any}
-pub use Rattle.std.specs.List.Sorted.{IsNonDecreasingBy, IsSortedBy, IsStableBy, ties}
-unfoldable pub use Rattle.std.specs.List.Sorted.{IsStrictlySortedBy}
-pub use Rattle.std.specs.Option.{option_map, option_or}
+pub use Rattle.std.specs.List.Sorted.{IsSortedBy, IsStableBy, ties}
+pub use Rattle.std.specs.Option.{option_or}
 pub use Rattle.std.specs.Ordering.{is_eq, is_lt, nat_cmp, ordering_reverse, ordering_then}
-pub use Rattle.std.specs.Prelude.{IsSome, find, fold, if◌then◌else◌, is_none, nat_le, nat_lt, negsuc, pos, ℤ, ◌&&◌, ◌+ℤ◌, ◌-ℤ◌, ◌==◌, ◌||◌, ◌≤ℤ◌, is_some}
+pub use Rattle.std.specs.Prelude.{IsSome, fold, if◌then◌else◌, nat_le, nat_lt, negsuc, pos, ℤ, ◌&&◌, ◌+ℤ◌, ◌-ℤ◌, ◌==◌, ◌||◌, ◌≤ℤ◌, is_some}
 pub use Rattle.std.specs.declared.cmp.Ordering.TheVariants.{Equal, Less}
 pub use Rattle.trust_base.specs.Limits.{IsAmount, IsBankAmount}
-pub use Rattle.trust_base.specs.declared.line.Line.{Line}
 pub use Rattle.trust_matter.specs.Changes.{IsPlace, MatterChange, changed_by}
 pub use Rattle.trust_matter.specs.edit.Edit.{Edit}
-pub use Rattle.firm_figures.specs.Doubles.{IssuedIsKept, IssuedKept, doubles_in, has_same_instrument, in_order, is_before_issued, is_double_in, issued_cmp, issued_in, no_issued, put_in_order, with_row_issued}
-pub use Rattle.firm_figures.specs.Figures.{AlwaysAgree, back_on, banked_on, booked_on, closing_on, early, entries_in, exceptions, figures, figures_on, is_back_early, is_banked_early, is_by, is_closing, is_closing_of, is_counted, is_dated_by, is_early, is_event_by, is_in_transit, is_matched_by, is_moved_by, is_outstanding, journal, ledgers, lines_of, matched, outstanding, own_by, returned_on, transit, undone_on, day_by, day_where}
-pub use Rattle.firm_figures.specs.Listing.{Listed, ListsKept, early_lines, early_list, line_where, none_listed, out_list, transit_list, with_exception_listed, with_row_listed, entry_line}
-pub use Rattle.firm_figures.specs.Lists.{JournalIsKept, ListedAreOpen, ListsAlwaysAgree, TotalIsKept, TrialIsKept, TrialKept, add_last, is_open, journal_from, last_sum, no_trial, open_matters, trial_lines, trial_total, with_moved, with_trial_own, with_trial_row}
-pub use Rattle.firm_figures.specs.Openings.{AreClosings, BalancesKept, OpeningsKept, after_closing, is_closing_before, is_opening_by, latest_before, no_balances, opening_line, openings_after, openings_kept, with_balance_kept}
-pub use Rattle.firm_figures.specs.Purged.{AreListsLeft, IsClosedBy, IsPurge, PeriodKept, PurgeChangesNoFigure, PurgeChangesNoFigureLeft, PurgeChangesNoList, PurgeChangesNoListLeft, is_day_after, is_purged_after, whole_period, with_row_purged}
+pub use Rattle.firm_figures.specs.Doubles.{doubles_in, has_same_instrument, in_order, is_before_issued, is_double_in, issued_cmp, put_in_order}
+pub use Rattle.firm_figures.specs.Figures.{back_on, banked_on, booked_on, early, entries_in, is_back_early, is_banked_early, is_closing, is_early, is_event_by, is_in_transit, is_matched_by, is_outstanding, lines_of, matched, outstanding, returned_on, transit, undone_on, day_by, day_where}
+pub use Rattle.firm_figures.specs.Listing.{entry_line}
+pub use Rattle.firm_figures.specs.Lists.{add_last}
+pub use Rattle.firm_figures.specs.Openings.{AreClosings, is_closing_before, latest_before, openings_after}
+pub use Rattle.firm_figures.specs.Purged.{IsClosedBy, IsPurge, is_day_after, is_purged_after}
 unfoldable pub use Rattle.firm_figures.specs.Purged.{is_period_purged}
-pub use Rattle.firm_figures.specs.Reconciling.{AreInRange, FiguresFit, FiguresKept, FiguresTold, Tallies, all_taken, early_share, figures_kept, finished, first_of, ledger_share_by, matched_share, no_tallies, outstanding_share, transit_share, with_balance_told, with_exception, with_movement, with_own, with_row}
+pub use Rattle.firm_figures.specs.Reconciling.{early_share, ledger_share_by, matched_share, outstanding_share, transit_share}
 unfoldable pub use Rattle.firm_figures.specs.Reconciling.{added, less}
-pub use Rattle.firm_figures.specs.declared.day_lists.EntryLine.{EntryLine}
 pub use Rattle.firm_figures.specs.declared.day_lists.Issued.{Issued}
 pub use Rattle.firm_figures.specs.declared.trial_sink.TrialLine.{TrialLine}
 pub use Rattle.matter_rows.specs.Clearings.{cleared_amount}

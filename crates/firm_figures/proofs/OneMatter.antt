@@ -1,15 +1,15 @@
 -- What one matter's movements by a day say, and what its entries say, agree; and they are never below zero.
-use Rattle.firm_figures.proofs.Names.{◌≡◌, ℕ, zero, suc, ◌+◌, ◌-◌, ◌<◌, ◌≤◌, Bool, true, false, cond, List, [], ◌∷◌, map, take, Option, Some, None, refl, sym, ap, ◌∙◌, arith, ℤ, pos, ◌+ℤ◌, ◌≤ℤ◌, ◌==◌, ◌&&◌, nat_le, filter, flat_map, ints, nat_tests, Entry, Event, events_of, Movement, sum_of, Firm, of, FirmSound, is_event_by, is_moved_by, at, sum-same, sum-agree, sum-filter, sum-flat}
+use Rattle.firm_figures.proofs.Names.{◌≡◌, ℕ, suc, ◌+◌, ◌-◌, ◌<◌, Bool, true, false, cond, List, [], ◌∷◌, map, take, Option, Some, None, refl, sym, ap, ◌∙◌, arith, ℤ, pos, ◌+ℤ◌, ◌==◌, ◌&&◌, nat_le, filter, flat_map, ints, nat_tests, Entry, Event, events_of, Movement, sum_of, of, is_event_by, at, sum-agree, sum-filter, sum-flat}
 use Rattle.matter_rows.specs.Rows.{entry_at}
 use Rattle.matter_rows.specs.Events.{events_in}
 use Rattle.matter_rows.specs.Sound.{AreRising}
 use Rattle.firm_rows.specs.declared.movement.Owner.{Owner}
 use Rattle.firm_rows.specs.declared.movement.Owner.TheVariants as owner
 use Rattle.firm_rows.specs.Firm.{is_of_matter}
-use Rattle.firm_rows.specs.Journal.{event_of, is_of_entry, amount_for, events_moved, days_moved, moved_for}
+use Rattle.firm_rows.specs.Journal.{event_of, is_of_entry, events_moved, days_moved, moved_for}
 use Rattle.firm_rows.proofs.Agree.{events_share, of_matter}
-use Rattle.firm_figures.specs.Clients.{ledger_as_of, LedgersAsOfCovered, LedgersAsOfAreMoved}
-use Rattle.firm_figures.proofs.DifferenceTold.{event_by, ledger_by}
+use Rattle.firm_figures.specs.Clients.{ledger_as_of, LedgersAsOfCovered}
+use Rattle.firm_figures.proofs.Shares.{event_by, ledger_by}
 
 -- The entries by number (as in firm_rows.proofs.Agree, where they are private).
 
@@ -110,14 +110,3 @@ as_of-least p m firm sound =
     let moved = matter-agrees (event_by p) m firm.movements es (sound.events m) in
     let front = front-of p m firm.movements 0 (sound.in_time m).rising in
     omega (arith, ints, as-shares p es, moved, front.1, sound.covered m front.0)
-
-swapped : (b c : Bool) (z : ℤ) → cond c (cond b z (pos 0)) (pos 0) ≡ cond b (cond c z (pos 0)) (pos 0)
-swapped b c z = grind (arith, ints)
-
-pub as_of-moved : LedgersAsOfAreMoved
-as_of-moved p m firm sound =
-    let es = (of m firm).entries in
-    let moved = matter-agrees (event_by p) m firm.movements es (sound.events m) in
-    let some = sum-filter (is_moved_by p) (amount_for m) firm.movements in
-    let same = sum-same (λ v. cond (is_moved_by p v) (amount_for m v) (pos 0)) (of_matter (event_by p) m) firm.movements (λ v. swapped (is_of_matter m v.owner) (nat_le v.day p) v.amount) in
-    omega (arith, ints, as-shares p es, moved, some, same)

@@ -1,22 +1,19 @@
 -- The list of the clients' ledgers as of a day, and how it is built from rows that arrive one at a time.
-use Rattle.std.specs.Prelude.{◌≡◌, ℕ, Bool, false, not, ◌&&◌, ◌||◌, nat_le, cond, ◌==◌, List, [], ◌∷◌, ◌++◌, map, ℤ, pos, ◌+ℤ◌, ◌≤ℤ◌, fold}
-use Rattle.std.specs.List.{filter, flat_map, AllByRecursion}
+use Rattle.std.specs.Prelude.{ℕ, Bool, false, not, ◌&&◌, ◌||◌, nat_le, cond, ◌==◌, List, [], ◌∷◌, ◌++◌, map, ℤ, pos, ◌+ℤ◌, ◌≤ℤ◌, fold}
+use Rattle.std.specs.List.{filter, flat_map}
 use Rattle.matter_rows.specs.declared.head.Head.{Head}
 use Rattle.matter_rows.specs.declared.head.Holder.{Holder}
 use Rattle.matter_rows.specs.declared.head.Holder.TheVariants as holder
 use Rattle.matter_rows.specs.declared.entry.Entry.{Entry}
 use Rattle.matter_rows.specs.Rows.{is_of_nobody}
 use Rattle.matter_rows.specs.Events.{events_of}
-use Rattle.trust_matter.specs.Changes.{MatterChange}
 use Rattle.firm_rows.specs.declared.ledger.FirmLine.{FirmLine}
-use Rattle.firm_rows.specs.Countable.{AreCountable, IsRowInRange, IsFirmLineInRange}
 use Rattle.firm_rows.specs.Sums.{sum_of}
-use Rattle.firm_rows.specs.Firm.{Row, HeadRow, SeatRow, EntryRow, Firm, of, after_change}
-use Rattle.firm_rows.specs.FirmSound.{IsInOrder, FirmSound}
-use Rattle.firm_rows.specs.Journal.{amount_for}
+use Rattle.firm_rows.specs.Firm.{Row, HeadRow, SeatRow, EntryRow, Firm, of}
+use Rattle.firm_rows.specs.FirmSound.{FirmSound}
 use Rattle.firm_figures.specs.declared.clients_sink.ClientLine.{ClientLine}
-use Rattle.firm_figures.specs.Figures.{is_by, is_dated_by, is_event_by, is_moved_by, journal, ledgers, own_by}
-use Rattle.firm_figures.specs.Purged.{IsPurge, is_head_purged_after, is_period_purged}
+use Rattle.firm_figures.specs.Figures.{is_by, is_dated_by, is_event_by, own_by}
+use Rattle.firm_figures.specs.Purged.{is_head_purged_after, is_period_purged}
 use Rattle.firm_figures.specs.Reconciling.{added, ledger_share_by}
 
 -- The list.
@@ -61,33 +58,9 @@ client_lines p firm = map (client_line p firm) (open_heads p firm.rows)
 abbrev pub clients_total : ℕ → Firm → ℤ
 clients_total p firm = sum_of (λ l. l.ledger) (client_lines p firm) +ℤ own_by p firm
 
--- What is always true of it.
-
--- TOTAL is the figures LEDGERS and JOURNAL of the same day, and no client's ledger as of the day is negative
-pub record ClientsAgree (p : ℕ) (firm : Firm) : Type 0 where
-  pub ledgers : clients_total p firm ≡ ledgers p firm
-  pub journal : clients_total p firm ≡ journal p firm
-  pub covered : AllByRecursion (λ l. pos 0 ≤ℤ l.ledger) (client_lines p firm)
-
-abbrev pub ClientsAlwaysAgree : Type 0
-ClientsAlwaysAgree = (p : ℕ) (firm : Firm) → FirmSound firm → ClientsAgree p firm
-
 -- no matter's ledger as of any day is negative
 abbrev pub LedgersAsOfCovered : Type 0
 LedgersAsOfCovered = (p m : ℕ) (firm : Firm) → FirmSound firm → pos 0 ≤ℤ ledger_as_of p (of m firm).entries
-
--- it is the sum of the matter's movements by the day
-abbrev pub LedgersAsOfAreMoved : Type 0
-LedgersAsOfAreMoved =
-    (p m : ℕ) (firm : Firm) → FirmSound firm
-    → ledger_as_of p (of m firm).entries ≡ sum_of (amount_for m) (filter (is_moved_by p) firm.movements)
-
--- purging a matter of a sound firm changes nothing of the list of a day whose records are complete afterwards
-abbrev pub PurgeChangesNoClientLeft : Type 0
-PurgeChangesNoClientLeft =
-    (p m : ℕ) (change : MatterChange) (firm : Firm)
-    → FirmSound firm → IsPurge m firm change → is_period_purged p (after_change m change firm) ≡ false
-    → client_lines p (after_change m change firm) ≡ client_lines p firm
 
 -- How it is built.
 
@@ -129,21 +102,6 @@ clients_of p firm = record {
   purged = is_period_purged p firm;
 }
 
--- what the sink stores from all rows and lines of an ordered, countable firm is the list
-abbrev pub ClientsAreKept : Type 0
-ClientsAreKept =
-    (p : ℕ) (firm : Firm) → IsInOrder firm
-    → AreCountable IsRowInRange firm.rows → AreCountable IsFirmLineInRange firm.firm_lines
-    → fold with_client_own (fold with_client_row (no_clients p) firm.rows) firm.firm_lines
-    ≡ clients_of p firm
-
 -- the sum of what is stored, in 128 bits
 abbrev pub clients_sum : ClientsKept → ℤ
 clients_sum s = fold (λ z (l : ClientLine). added z l.ledger) s.own s.lines
-
--- if the firm is sound, that sum is TOTAL
-abbrev pub ClientsTotalIsKept : Type 0
-ClientsTotalIsKept =
-    (p : ℕ) (firm : Firm) → FirmSound firm
-    → AreCountable IsRowInRange firm.rows → AreCountable IsFirmLineInRange firm.firm_lines
-    → clients_sum (clients_of p firm) ≡ clients_total p firm

@@ -1,5 +1,5 @@
 -- DOUBLE: payments with the same instrument as another payment.
-use Rattle.std.specs.Prelude.{◌≡◌, ℕ, Bool, not, ◌&&◌, nat_lt, cond, List, [], ◌∷◌, ◌++◌, length, Option, Some, None, fold}
+use Rattle.std.specs.Prelude.{ℕ, Bool, not, ◌&&◌, nat_lt, cond, List, [], ◌∷◌, ◌++◌, length, Option, Some, None}
 use Rattle.std.specs.List.{filter, flat_map}
 use Rattle.firm_figures.specs.declared.day_lists.Issued.{Issued}
 use Rattle.std.specs.declared.cmp.Ordering.{Ordering}
@@ -86,7 +86,3 @@ no_issued p = record { day = p; issued = [] }
 
 abbrev pub with_row_issued : IssuedKept → ℕ × Row → IssuedKept
 with_row_issued s row = record s { issued = s.issued ++ issued_in s.day row }
-
--- what is stored from a firm's rows is the list of payments issued on or before the day, and not voided by then
-abbrev pub IssuedIsKept : Type 0
-IssuedIsKept = (p : ℕ) (firm : Firm) → (fold with_row_issued (no_issued p) firm.rows).issued ≡ issued_list p firm

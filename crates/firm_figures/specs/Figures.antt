@@ -1,5 +1,5 @@
 -- The firm's figures as of a day: sums over lists of its rows. "By the day" means on or before it.
-use Rattle.std.specs.Prelude.{◌≡◌, ℕ, Bool, true, false, not, ◌&&◌, ◌||◌, nat_le, ◌==◌, codes, List, [], ◌∷◌, map, ℤ, pos, ◌+ℤ◌, ◌-ℤ◌, Option, Some, None, find, if◌then◌else◌}
+use Rattle.std.specs.Prelude.{ℕ, Bool, true, false, not, ◌&&◌, ◌||◌, nat_le, ◌==◌, codes, List, [], ◌∷◌, map, ℤ, pos, ◌+ℤ◌, ◌-ℤ◌, Option, Some, None, find, if◌then◌else◌}
 use Rattle.std.specs.List.{filter, flat_map}
 use Rattle.std.specs.Option.{option_map}
 use Rattle.std.specs.Str.{bytes_eq}
@@ -20,7 +20,6 @@ use Rattle.firm_rows.specs.declared.ledger.BalanceRow.{BalanceRow}
 use Rattle.firm_figures.specs.declared.figures.ReconciliationFigures.{ReconciliationFigures}
 use Rattle.firm_rows.specs.Sums.{sum_of}
 use Rattle.firm_rows.specs.Firm.{Row, Firm, entries_among}
-use Rattle.firm_rows.specs.FirmSound.{FirmSound}
 
 -- The entries.
 
@@ -267,13 +266,3 @@ closing_on p rows = option_map (λ r. r.amount) (find (is_closing_of p) rows)
 -- the figures as of p, if there is a closing balance of p
 abbrev pub figures_on : ℕ → Firm → Option ReconciliationFigures
 figures_on p firm = option_map (λ closing. figures p closing firm) (closing_on p firm.balances)
-
--- What is always true of them.
-
--- the journal equals the ledgers, and the difference is explained
-pub record FiguresAgree (f : ReconciliationFigures) : Type 0 where
-  pub journal : f.journal ≡ f.ledgers
-  pub difference : f.difference ≡ (f.exceptions +ℤ f.early) +ℤ f.gap
-
-abbrev pub AlwaysAgree : Type 0
-AlwaysAgree = (p : ℕ) (closing : ℤ) (firm : Firm) → FirmSound firm → FiguresAgree (figures p closing firm)

@@ -7,7 +7,6 @@ pub mod Purged
 pub mod Reconciling
 pub mod Reconciliations
 pub mod Lists
-pub mod OfLists
 pub use Rattle.firm_rows.specs.declared.movement
 pub use Rattle.firm_figures.specs.Reconciliations
 pub use Rattle.firm_figures.specs.declared.day_lists

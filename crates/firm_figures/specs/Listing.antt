@@ -1,5 +1,5 @@
 -- The lists that go with the figures as of a day, and how they are built from rows that arrive one at a time.
-use Rattle.std.specs.Prelude.{◌≡◌, ℕ, Bool, cond, nat_le, List, [], ◌∷◌, ◌++◌, ℤ, pos, ◌-ℤ◌, Option, Some, None, fold, if◌then◌else◌}
+use Rattle.std.specs.Prelude.{ℕ, Bool, cond, nat_le, List, [], ◌∷◌, ◌++◌, ℤ, pos, ◌-ℤ◌, Option, Some, None, if◌then◌else◌}
 use Rattle.std.specs.List.{filter, flat_map}
 use Rattle.trust_base.specs.declared.line.Line.{Line}
 use Rattle.matter_rows.specs.declared.entry.Entry.{Entry}
@@ -88,15 +88,3 @@ with_row_listed s row = record s {
 
 abbrev pub with_exception_listed : Listed → Line → Listed
 with_exception_listed s line = if nat_le line.date s.day then record s { exceptions = s.exceptions ++ line ∷ [] } else s
-
--- what is stored from a firm's rows and exceptions is these lists
-abbrev pub ListsKept : Type 0
-ListsKept =
-    (p : ℕ) (firm : Firm)
-    → fold with_exception_listed (fold with_row_listed (none_listed p) firm.rows) firm.exceptions ≡ record {
-      day = p;
-      transit = transit_list p firm;
-      out = out_list p firm;
-      early = early_list p firm;
-      exceptions = exception_list p firm;
-    }

@@ -1,7 +1,7 @@
 -- The journal list, the trial balance and the retention list as they are now, and how they are built from rows that
 -- arrive one at a time.
-use Rattle.std.specs.Prelude.{◌≡◌, ℕ, Bool, true, false, Option, Some, None, cond, ◌==◌, nat_lt, List, [], ◌∷◌, ◌++◌, map, ℤ, pos, ◌+ℤ◌, ◌≤ℤ◌, is_none, fold}
-use Rattle.std.specs.List.{AllByRecursion, flat_map}
+use Rattle.std.specs.Prelude.{ℕ, Bool, false, Option, Some, None, cond, ◌==◌, nat_lt, List, [], ◌∷◌, ◌++◌, map, ℤ, pos, ◌+ℤ◌, is_none, fold}
+use Rattle.std.specs.List.{flat_map}
 use Rattle.trust_base.specs.Retention.{retained_until}
 use Rattle.matter_rows.specs.declared.head.Head.{Head}
 use Rattle.matter_rows.specs.Balances.{ledger}
@@ -11,12 +11,10 @@ use Rattle.firm_rows.specs.declared.ledger.FirmLine.{FirmLine}
 use Rattle.firm_figures.specs.declared.journal_sink.JournalLine.{JournalLine}
 use Rattle.firm_figures.specs.declared.retention_sink.RetentionLine.{RetentionLine}
 use Rattle.firm_figures.specs.declared.trial_sink.TrialLine.{TrialLine}
-use Rattle.firm_rows.specs.Countable.{AreCountable, IsRowInRange, IsMovementInRange, IsFirmLineInRange}
 use Rattle.firm_rows.specs.Sums.{sum_of}
 use Rattle.firm_rows.specs.FirmLines.{balance_of}
 use Rattle.firm_rows.specs.Firm.{Row, HeadRow, SeatRow, EntryRow, Firm, of}
 use Rattle.firm_rows.specs.Journal.{ledger_share}
-use Rattle.firm_rows.specs.FirmSound.{IsInOrder, FirmSound}
 use Rattle.firm_figures.specs.Reconciling.{added}
 
 -- The journal.
@@ -52,12 +50,6 @@ with_moved s v = record {
   lines = s.lines ++ (record { movement = v; sum = added s.sum v.amount } ∷ []);
   sum = added s.sum v.amount;
 }
-
--- what the sink stores from countable movements is the journal
-abbrev pub JournalIsKept : Type 0
-JournalIsKept =
-    (movements : List Movement) → AreCountable IsMovementInRange movements
-    → (fold with_moved no_journal movements).lines ≡ journal_of movements
 
 -- The trial balance.
 
@@ -105,21 +97,6 @@ abbrev pub is_open : Option Head → Bool
 is_open None = false
 is_open (Some h) = is_none h.closed
 
--- every listed matter is open
-abbrev pub ListedAreOpen : Type 0
-ListedAreOpen =
-    (firm : Firm) → IsInOrder firm → AllByRecursion (λ l. is_open (of l.matter firm).head ≡ true) (trial_lines firm)
-
--- What is true of both.
-
--- in a sound firm no running sum is negative, and the last one is the trial balance's TOTAL
-pub record ListsAgree (firm : Firm) : Type 0 where
-  pub covered : AllByRecursion (λ l. pos 0 ≤ℤ l.sum) (journal_list firm)
-  pub total : last_sum (pos 0) (journal_list firm) ≡ trial_total firm
-
-abbrev pub ListsAlwaysAgree : Type 0
-ListsAlwaysAgree = (firm : Firm) → FirmSound firm → ListsAgree firm
-
 -- what the sink stores from all rows and lines of a firm
 abbrev pub trial_kept : Firm → TrialKept
 trial_kept firm = fold with_trial_own (fold with_trial_row no_trial firm.rows) firm.firm_lines
@@ -128,23 +105,9 @@ trial_kept firm = fold with_trial_own (fold with_trial_row no_trial firm.rows) f
 abbrev pub trial_of : Firm → TrialKept
 trial_of firm = record { lines = trial_lines firm; own = balance_of firm.firm_lines }
 
--- what is stored from an ordered, countable firm is the open matters with their ledgers, and the firm's own balance
-abbrev pub TrialIsKept : Type 0
-TrialIsKept =
-    (firm : Firm) → IsInOrder firm
-    → AreCountable IsRowInRange firm.rows → AreCountable IsFirmLineInRange firm.firm_lines
-    → trial_kept firm ≡ trial_of firm
-
 -- the sum of what is stored, in 128 bits
 abbrev pub trial_sum : TrialKept → ℤ
 trial_sum s = fold (λ z (l : TrialLine). added z l.ledger) s.own s.lines
-
--- if the firm is sound, that sum is TOTAL
-abbrev pub TotalIsKept : Type 0
-TotalIsKept =
-    (firm : Firm) → FirmSound firm
-    → AreCountable IsRowInRange firm.rows → AreCountable IsFirmLineInRange firm.firm_lines
-    → trial_sum (trial_of firm) ≡ trial_total firm
 
 -- The retention list: how long the records of each closed matter are kept.
 
@@ -179,10 +142,3 @@ none_retained today = record { today = today; lines = [] }
 
 abbrev pub with_row_retained : Retained → ℕ × Row → Retained
 with_row_retained s row = record s { lines = s.lines ++ retention_line s.today row }
-
--- what is stored from a firm's rows is the retention list
-abbrev pub RetentionIsKept : Type 0
-RetentionIsKept =
-    (today : ℕ) (firm : Firm)
-    → fold with_row_retained (none_retained today) firm.rows
-    ≡ record { today = today; lines = retention_list today firm }

@@ -1,10 +1,9 @@
 -- OPENING: openings that differ from the latest closing before them.
 use Rattle.std.specs.Prelude.{◌≡◌, ℕ, Bool, true, not, ◌&&◌, nat_le, nat_lt, List, [], ◌∷◌, ◌++◌, Option, Some, None, fold, if◌then◌else◌}
 use Rattle.std.specs.List.{AllByRecursion, flat_map}
-use Rattle.std.specs.List.Sorted.{IsNonDecreasingBy, IsStrictlySortedBy}
+use Rattle.std.specs.List.Sorted.{IsNonDecreasingBy}
 use Rattle.std.specs.Ordering.{int_eq}
 use Rattle.firm_rows.specs.declared.ledger.BalanceRow.{BalanceRow}
-use Rattle.firm_rows.specs.FirmLines.{balance_cmp}
 use Rattle.firm_figures.specs.declared.day_lists.OpeningLine.{OpeningLine}
 use Rattle.firm_figures.specs.Figures.{is_closing}
 
@@ -67,12 +66,3 @@ openings_after closings openings =
 
 abbrev pub openings_kept : BalancesKept → List OpeningLine
 openings_kept s = openings_after s.closings s.openings
-
--- what is stored from all balances gives the openings that differ; if the balances are sorted, so are the closings by
--- day
-pub record AreOpeningsKept (p : ℕ) (rows : List BalanceRow) : Type 0 where
-  pub lines : openings_kept (fold with_balance_kept (no_balances p) rows) ≡ opening_list p rows
-  pub rising : IsStrictlySortedBy balance_cmp rows → AreClosings (fold with_balance_kept (no_balances p) rows).closings
-
-abbrev pub OpeningsKept : Type 0
-OpeningsKept = (p : ℕ) (rows : List BalanceRow) → AreOpeningsKept p rows

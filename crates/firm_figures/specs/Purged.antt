@@ -5,9 +5,7 @@ use Rattle.matter_rows.specs.declared.head.Head.{Head}
 use Rattle.trust_matter.specs.edit.Edit.TheVariants as edit
 use Rattle.matter_rows.specs.Rows.{closed_on, is_of_nobody}
 use Rattle.trust_matter.specs.Changes.{MatterChange, IsChange}
-use Rattle.firm_rows.specs.Firm.{Row, HeadRow, SeatRow, EntryRow, Firm, of, after_change}
-use Rattle.firm_rows.specs.FirmSound.{FirmSound}
-use Rattle.firm_figures.specs.Figures.{figures_on}
+use Rattle.firm_rows.specs.Firm.{Row, HeadRow, SeatRow, EntryRow, Firm, of}
 use Rattle.firm_figures.specs.Listing.{transit_list, out_list, early_list, exception_list}
 
 -- Days whose figures a purge may have changed.
@@ -58,32 +56,3 @@ pub record AreListsLeft (p : ℕ) (before after : Firm) : Type 0 where
   pub out : out_list p after ≡ out_list p before
   pub early : early_list p after ≡ early_list p before
   pub exceptions : exception_list p after ≡ exception_list p before
-
--- purging a matter of a sound firm changes no figure of the day on which it was closed or of a later day, whatever the
--- closing balance is, or if there is none
-abbrev pub PurgeChangesNoFigure : Type 0
-PurgeChangesNoFigure =
-    (p m : ℕ) (change : MatterChange) (firm : Firm)
-    → FirmSound firm → IsClosedBy p (of m firm).head → IsPurge m firm change
-    → figures_on p (after_change m change firm) ≡ figures_on p firm
-
--- nor does it change any of the lists
-abbrev pub PurgeChangesNoList : Type 0
-PurgeChangesNoList =
-    (p m : ℕ) (change : MatterChange) (firm : Firm)
-    → FirmSound firm → IsClosedBy p (of m firm).head → IsPurge m firm change
-    → AreListsLeft p firm (after_change m change firm)
-
--- purging a matter of a sound firm changes no figure of a day whose records are still complete afterwards
-abbrev pub PurgeChangesNoFigureLeft : Type 0
-PurgeChangesNoFigureLeft =
-    (p m : ℕ) (change : MatterChange) (firm : Firm)
-    → FirmSound firm → IsPurge m firm change → is_period_purged p (after_change m change firm) ≡ false
-    → figures_on p (after_change m change firm) ≡ figures_on p firm
-
--- nor does it change any of the lists
-abbrev pub PurgeChangesNoListLeft : Type 0
-PurgeChangesNoListLeft =
-    (p m : ℕ) (change : MatterChange) (firm : Firm)
-    → FirmSound firm → IsPurge m firm change → is_period_purged p (after_change m change firm) ≡ false
-    → AreListsLeft p firm (after_change m change firm)

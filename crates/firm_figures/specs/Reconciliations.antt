@@ -1,13 +1,11 @@
 -- The reconciliation as of a day: ten figures and six lists.
-use Rattle.std.specs.Prelude.{◌≡◌, ℕ, List, Option, fold}
+use Rattle.std.specs.Prelude.{ℕ, List, Option, fold}
 use Rattle.std.specs.Option.{option_map}
 use Rattle.trust_base.specs.declared.line.Line.{Line}
 use Rattle.firm_rows.specs.declared.movement.Movement.{Movement}
 use Rattle.firm_rows.specs.declared.ledger.FirmLine.{FirmLine}
 use Rattle.firm_rows.specs.declared.ledger.BalanceRow.{BalanceRow}
-use Rattle.firm_rows.specs.Countable.{IsCountable}
 use Rattle.firm_rows.specs.Firm.{Row, Firm}
-use Rattle.firm_rows.specs.FirmSound.{FirmSound}
 use Rattle.firm_figures.specs.declared.figures.ReconciliationFigures.{ReconciliationFigures}
 use Rattle.firm_figures.specs.declared.day_lists.EntryLine.{EntryLine}
 use Rattle.firm_figures.specs.declared.day_lists.Issued.{Issued}
@@ -16,8 +14,8 @@ use Rattle.firm_figures.specs.declared.reconciliation.Reconciliation.{Reconcilia
 use Rattle.firm_figures.specs.Figures.{figures_on}
 use Rattle.firm_figures.specs.Listing.{transit_list, out_list, early_list, exception_list, Listed, none_listed, with_row_listed, with_exception_listed}
 use Rattle.firm_figures.specs.Doubles.{double_list, doubles_in, IssuedKept, no_issued, with_row_issued}
-use Rattle.firm_figures.specs.Openings.{opening_list, openings_kept, AreClosings, BalancesKept, no_balances, with_balance_kept}
-use Rattle.firm_figures.specs.Purged.{PeriodKept, is_period_purged, whole_period, with_row_purged}
+use Rattle.firm_figures.specs.Openings.{opening_list, openings_kept, BalancesKept, no_balances, with_balance_kept}
+use Rattle.firm_figures.specs.Purged.{PeriodKept, whole_period, with_row_purged}
 use Rattle.firm_figures.specs.Reconciling.{Tallies, no_tallies, with_row, with_movement, with_own, with_exception, with_balance_told, finished}
 
 -- the figures and the lists
@@ -119,12 +117,3 @@ kept_with s figures = record {
 
 abbrev pub kept_told : ReconciliationKept → Option ReconciliationTold
 kept_told s = option_map (kept_with s) (finished s.figures)
-
--- what is stored from a sound, countable firm gives its reconciliation, and whether the records of the day are complete
-pub record IsReconciliationKept (p : ℕ) (firm : Firm) : Type 0 where
-  pub told : kept_told (all_kept p firm) ≡ reconciliation_on p firm
-  pub rising : AreClosings (all_kept p firm).balances.closings
-  pub purged : (all_kept p firm).period.purged ≡ is_period_purged p firm
-
-abbrev pub ReconciliationIsKept : Type 0
-ReconciliationIsKept = (p : ℕ) (firm : Firm) → FirmSound firm → IsCountable firm → IsReconciliationKept p firm

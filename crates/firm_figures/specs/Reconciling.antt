@@ -1,9 +1,7 @@
 -- What a reconciler does with rows that arrive one at a time.
-use Rattle.std.specs.Prelude.{◌≡◌, ℕ, ◌||◌, cond, ℤ, pos, ◌+ℤ◌, ◌-ℤ◌, Option, Some, None, fold}
+use Rattle.std.specs.Prelude.{ℕ, ◌||◌, cond, ℤ, pos, ◌+ℤ◌, ◌-ℤ◌, Option, Some, None, fold}
 use Rattle.std.specs.Option.{option_map}
 use Rattle.std.specs.Int.{int_wrap, w128}
-use Rattle.std.specs.Int.RustNames.{FitsSigned}
-use Rattle.trust_base.specs.Limits.{IsBankAmount}
 use Rattle.trust_base.specs.declared.line.Line.{Line}
 use Rattle.matter_rows.specs.declared.entry.Entry.{Entry}
 use Rattle.matter_rows.specs.Rows.{entry_amount}
@@ -12,9 +10,7 @@ use Rattle.firm_rows.specs.declared.movement.Movement.{Movement}
 use Rattle.firm_rows.specs.declared.ledger.FirmLine.{FirmLine}
 use Rattle.firm_rows.specs.declared.ledger.BalanceRow.{BalanceRow}
 use Rattle.firm_rows.specs.Firm.{Row, HeadRow, SeatRow, EntryRow, Firm}
-use Rattle.firm_rows.specs.FirmSound.{FirmSound}
-use Rattle.firm_figures.specs.Figures.{is_by, booked_on, undone_on, returned_on, banked_on, back_on, is_banked_early, is_back_early, is_in_transit, is_outstanding, is_moved_by, is_dated_by, is_counted, is_closing_of, closing_on, figures, figures_on}
-use Rattle.firm_rows.specs.Countable.{IsCountable}
+use Rattle.firm_figures.specs.Figures.{is_by, booked_on, undone_on, returned_on, banked_on, back_on, is_banked_early, is_back_early, is_in_transit, is_outstanding, is_moved_by, is_dated_by, is_counted, is_closing_of}
 use Rattle.firm_figures.specs.declared.figures.ReconciliationFigures.{ReconciliationFigures}
 
 -- What an entry adds to each figure.
@@ -139,33 +135,3 @@ all_taken p firm =
     (fold with_own
     (fold with_movement
     (fold with_row (no_tallies p) firm.rows) firm.movements) firm.firm_lines) firm.exceptions) firm.balances
-
--- every figure fits 128 bits
-pub record AreInRange (f : ReconciliationFigures) : Type 0 where
-  pub transit : FitsSigned w128 f.transit
-  pub outstanding : FitsSigned w128 f.outstanding
-  pub adjusted : FitsSigned w128 f.adjusted
-  pub journal : FitsSigned w128 f.journal
-  pub ledgers : FitsSigned w128 f.ledgers
-  pub difference : FitsSigned w128 f.difference
-  pub exceptions : FitsSigned w128 f.exceptions
-  pub early : FitsSigned w128 f.early
-  pub gap : FitsSigned w128 f.gap
-
--- if every figure fits, the stored figures are those of the firm
-abbrev pub FiguresKept : Type 0
-FiguresKept =
-    (p : ℕ) (firm : Firm)
-    → ((closing : ℤ) → closing_on p firm.balances ≡ Some closing → AreInRange (figures p closing firm))
-    → finished (all_taken p firm) ≡ figures_on p firm
-
--- the figures of a sound, countable firm fit 128 bits
-abbrev pub FiguresFit : Type 0
-FiguresFit =
-    (p : ℕ) (closing : ℤ) (firm : Firm) → FirmSound firm → IsCountable firm → IsBankAmount closing
-    → AreInRange (figures p closing firm)
-
--- so the figures stored from a sound, countable firm are those of the firm
-abbrev pub FiguresTold : Type 0
-FiguresTold =
-    (p : ℕ) (firm : Firm) → FirmSound firm → IsCountable firm → finished (all_taken p firm) ≡ figures_on p firm

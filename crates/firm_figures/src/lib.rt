@@ -1,44 +1,22 @@
 //! A firm's figures as of a day and the lists that go with them, its journal, its trial balance and its retention list.
-//! Each is built from rows that arrive one at a time, or asked of rows in memory by one call.
+//! Each is built from rows that arrive one at a time. That what is built of a firm's rows is what the definitions say,
+//! and what is always true of it, is told by the laws of `figure_laws`, which has no part in a run.
 //!
 //! # What is promised
 //!
 //! By public call, with the clauses of its contract in brackets.
 //!
-//! - `laws` `figures_agree`: in every sound firm, as of every day with a closing balance, the journal is the sum of the
-//!   ledgers, and what the adjusted bank balance and the journal differ by is exceptions, early lines and the gap.
-//! - `ReconciliationSink`; `laws` `reconciliation_is_kept`: of the rows, movements, lines, exceptions and balances of a
-//!   sound firm, given one by one, `finish` gives the ten figures and the six lists of the definitions, or None if no
-//!   closing balance of the day is kept. The figures are exact if fewer than 2^64 rows of each kind came, with amounts
-//!   in range, which each book says of what it gave. A refused row leaves the sink as it was.
-//! - `laws` `reconciler_keeps_figures`, `lister_keeps_lists`, `issued_is_kept`, `openings_are_kept`: the parts of that
-//!   by themselves; the lists want no premise.
+//! - `ReconciliationSink`: of rows, movements, lines, exceptions and balances, given one by one, `finish` gives the ten
+//!   figures and the six lists of a day, or None if no closing balance of the day is kept. A refused row leaves the
+//!   sink as it was.
 //! - `Issued`, `OpeningLine`: payments by an instrument that another has, by one stable sort and a look at the
 //!   neighbours; openings that differ from the latest closing before them, by a search among the closings of the day.
-//! - `laws` `purging_changes_no_figure`: purging a matter changes no figure of a day that is not before its close day,
-//!   nor four of the lists; nor those of any day that can still be asked for after it, since a day before the close of
-//!   a purged matter is PeriodPurged (`figures_left`, `lists_left`).
-//!
-//! - `JournalSink`; `laws` `journal_is_kept`: the movements in the order of acceptance, each with the sum so far, exact
-//!   for all that can be counted.
-//! - `TrialSink`; `laws` `trial_is_kept`: the open matters with their ledgers, the firm's own balance, and TOTAL, exact
-//!   for all that can be counted.
-//! - `laws` `lists_agree`: in every sound firm no sum so far of the journal is below zero, and the last is TOTAL.
-//! - `laws` `listed_are_open`: every matter of the trial balance is open.
-//! - `RetentionSink`; `laws` `retention_is_kept`: the closed matters with the day until which their records are kept.
-//! - `reconcile_at`, `trial_balance`, `journal_list`, `retention_list`: the same of rows in memory, each by one call.
-//!   An Ok has what the definitions say: the reconciliation or None (`told`), with figures that agree (`agree`); the
-//!   open matters, the firm's own balance and TOTAL (`lines`, `own`, `total`); the movements with the sums so far
-//!   (`lines`), none below zero (`covered`), the last of them TOTAL (`total`); the closed matters. The only error is
-//!   out of memory.
-//! - `ClientsSink`; `laws` `clients_are_kept`: the clients' ledgers as of a day, with their clients, in 128 bits.
-//! - `laws` `clients_agree`: in every sound firm they and the firm's own balance add up to the ledgers, and so to the
-//!   journal, of the reconciliation of that day (`agree`); each line is what the matter's movements by that day add up
-//!   to (`moved`); none is below zero (`covered`); a purge changes the list of no day that may still be asked for
-//!   (`purged`).
+//! - `JournalSink`: the movements in the order of acceptance, each with the sum so far.
+//! - `TrialSink`: the open matters with their ledgers, the firm's own balance, and TOTAL.
+//! - `RetentionSink`: the closed matters with the day until which their records are kept.
+//! - `ClientsSink`: the clients' ledgers as of a day, with their clients, in 128 bits.
 //! - `is_in_transit`, `is_outstanding`, `added`: whether an entry waits for the bank as of a day, as the reconciliation
 //!   has it; a sum in 128 bits.
-//! - `laws` `sinks_give_the_same`: what `finish` of each sink gives of all rows of a sound firm is what these give.
 #![tactic(auto)]
 
 mod clients_sink;
@@ -46,8 +24,6 @@ mod day_lists;
 mod figures;
 mod heads;
 mod journal_sink;
-pub mod laws;
-mod of_lists;
 mod reconciliation;
 mod retention_sink;
 mod trial_sink;
@@ -59,7 +35,6 @@ pub use day_lists::{
 pub use figures::{ReconciliationFigures, added};
 pub use firm_rows::Owner;
 pub use journal_sink::{JournalLine, JournalSink};
-pub use of_lists::{journal_list, reconcile_at, retention_list, trial_balance};
 pub use reconciliation::{Reconciliation, ReconciliationSink};
 pub use retention_sink::{RetentionLine, RetentionSink};
 pub use trial_sink::{TrialBalance, TrialLine, TrialSink};

@@ -8,7 +8,7 @@ use Rattle.firm_rows.proofs.Agree.{events_share}
 use Rattle.firm_periods.specs.declared.moved.Moved.{Moved}
 use Rattle.firm_periods.specs.declared.moved.NamedMove.{NamedMove}
 use Rattle.firm_periods.specs.Named.{moves_of, event_in, MovesAreEvents, client_of, named, named_in, own_moved, own_named, is_disbursed, is_received_within, is_disbursed_within, is_within, moves_where, is_earlier, sum_moved, booking_of, journal_before, PeriodsAgree, WaitsAlwaysAgree}
-use Rattle.firm_figures.proofs.DifferenceTold.{transit-shares, outstanding-shares}
+use Rattle.firm_figures.proofs.Shares.{transit-shares, outstanding-shares}
 
 pub moves-events : MovesAreEvents
 unfolding events_of

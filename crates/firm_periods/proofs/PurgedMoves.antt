@@ -3,9 +3,7 @@ use Rattle.firm_periods.proofs.Names.{◌≡◌, ℕ, zero, suc, ◌+◌, ◌≤
 use Rattle.trust_matter.specs.edit.Edit.TheVariants as edit
 use Rattle.firm_rows.proofs.Changed.{of_other-purged_by}
 use Rattle.firm_rows.proofs.Kept.{stays-sound}
-use Rattle.firm_figures.proofs.PurgedFigures.{all-later}
-use Rattle.firm_figures.proofs.PurgedLists.{IsUnlisted, closed-unlisted}
-use Rattle.firm_figures.proofs.PurgedPeriods.{closed-left}
+use Rattle.firm_figures.proofs.ClosedBy.{IsUnlisted, all-later, closed-left, closed-unlisted}
 use Rattle.firm_periods.specs.declared.moved.Moved.{Moved}
 use Rattle.firm_periods.specs.declared.moved.NamedMove.{NamedMove}
 use Rattle.firm_periods.specs.Named.{booking_of, client_in_head, is_disbursed_within, is_earlier, is_purged_from, is_purged_since, is_received_within, moves_of, moves_where, named, named_in, own_moved, own_named, row_named, PurgeChangesNoPeriodLeft, PurgeChangesNoWaitingLeft}

@@ -4,7 +4,7 @@ ghost use Rattle.firm_periods.specs.Named.{AlwaysListedOnce, EachStandsInOne, Mo
 ghost use Rattle.firm_periods.specs.Named.{PurgeChangesNoPeriodLeft, PurgeChangesNoWaitingLeft};
 ghost use Rattle.firm_periods.specs.Accounts.{AccountsAreCovered, ClosingIsLedger, ClosingIsNextOpening, ClosingsAreLines, ClosingsAreTotal, OpeningIsBefore, WholeAccountIsOfRows};
 
-use trust_matter::laws::sound_is_covered;
+use matter_rows::laws::sound_is_covered;
 
 /// In a sound firm the receipts and the disbursements of a period add up to the change of the journal over it. What
 /// waits for the bank adds up to the figures of the reconciliation.

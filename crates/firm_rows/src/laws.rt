@@ -6,7 +6,7 @@ ghost use Rattle.firm_rows.specs.FirmSound.{IsInOrder, FirmSound, ChangesOne, St
 ghost use Rattle.firm_rows.specs.LinesStay.{FirmLineIsKept, FirmLinesStay, BalanceIsKept, BalancesStay};
 ghost use Rattle.firm_rows.specs.Unsound.{SolventIsNotSound};
 
-use trust_matter::laws::sound_is_covered;
+use matter_rows::laws::sound_is_covered;
 
 /// A change of the firm changes the rows of the matter that it names, in the way that it says, and of no other matter.
 /// A change that names no matter changes no matter's rows.

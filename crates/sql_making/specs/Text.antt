@@ -1,73 +1,75 @@
 -- The SQL script that moves the rows of version 1 into the tables of this version, and its statements.
 -- Written by tools/moving-tables.
-use Rattle.std.specs.Prelude.{ℕ, List, codes}
+use Rattle.std.specs.Prelude.{ℕ, List, ◌++◌, codes}
+use Rattle.sql_schema.specs.Schema.{matter_text, seat_text, entry_text}
 
-abbrev pub move_text : List ℕ
-move_text = codes "CREATE TABLE matter_v2 (no INTEGER NOT NULL PRIMARY KEY, client TEXT NOT NULL, opened INTEGER NOT NULL, closed INTEGER NOT NULL, last INTEGER NOT NULL, entries INTEGER NOT NULL, held INTEGER NOT NULL, available INTEGER NOT NULL, disputed INTEGER NOT NULL, fees INTEGER NOT NULL, claims INTEGER NOT NULL, pending INTEGER NOT NULL, purged INTEGER NOT NULL) STRICT; CREATE TABLE seat_v2 (matter INTEGER NOT NULL REFERENCES matter_v2 (no), person TEXT NOT NULL, role INTEGER NOT NULL, PRIMARY KEY (matter, person)) STRICT; CREATE TABLE entry_v2 (matter INTEGER NOT NULL REFERENCES matter_v2 (no), no INTEGER NOT NULL, kind INTEGER NOT NULL, day INTEGER NOT NULL, amount INTEGER NOT NULL, state INTEGER NOT NULL, fund INTEGER NOT NULL, of_no INTEGER NOT NULL, text_a TEXT NOT NULL, text_b TEXT NOT NULL, text_c TEXT NOT NULL, day_done INTEGER NOT NULL, day_undone INTEGER NOT NULL, day_bank INTEGER NOT NULL, bank_ref TEXT NOT NULL, part INTEGER NOT NULL, left_now INTEGER NOT NULL, PRIMARY KEY (matter, no)) STRICT; INSERT INTO matter_v2 (no, client, opened, closed, last, entries, held, available, disputed, fees, claims, pending, purged) SELECT no, client, opened, closed, last, entries, held, available, disputed, fees, claims, pending, 0 FROM matter ORDER BY no; INSERT INTO seat_v2 (rowid, matter, person, role) SELECT rowid, matter, person, role FROM seat ORDER BY rowid; INSERT INTO entry_v2 (rowid, matter, no, kind, day, amount, state, fund, of_no, text_a, text_b, text_c, day_done, day_undone, day_bank, bank_ref, part, left_now) SELECT rowid, matter, no, kind, day, amount, state, fund, of_no, text_a, text_b, text_c, day_done, day_undone, day_bank, bank_ref, part, left_now FROM entry ORDER BY rowid; DELETE FROM entry; DELETE FROM seat; DELETE FROM matter; UPDATE book SET version = 2"
-
--- an SQL statement with its semicolon, and the text that follows it
+-- each SQL statement with its semicolon
 abbrev pub heads_made_part : List ℕ
-heads_made_part = codes "CREATE TABLE matter_v2 (no INTEGER NOT NULL PRIMARY KEY, client TEXT NOT NULL, opened INTEGER NOT NULL, closed INTEGER NOT NULL, last INTEGER NOT NULL, entries INTEGER NOT NULL, held INTEGER NOT NULL, available INTEGER NOT NULL, disputed INTEGER NOT NULL, fees INTEGER NOT NULL, claims INTEGER NOT NULL, pending INTEGER NOT NULL, purged INTEGER NOT NULL) STRICT;"
+heads_made_part = matter_text ++ codes ";"
 
-abbrev pub after_heads_made : List ℕ
-after_heads_made = codes " CREATE TABLE seat_v2 (matter INTEGER NOT NULL REFERENCES matter_v2 (no), person TEXT NOT NULL, role INTEGER NOT NULL, PRIMARY KEY (matter, person)) STRICT; CREATE TABLE entry_v2 (matter INTEGER NOT NULL REFERENCES matter_v2 (no), no INTEGER NOT NULL, kind INTEGER NOT NULL, day INTEGER NOT NULL, amount INTEGER NOT NULL, state INTEGER NOT NULL, fund INTEGER NOT NULL, of_no INTEGER NOT NULL, text_a TEXT NOT NULL, text_b TEXT NOT NULL, text_c TEXT NOT NULL, day_done INTEGER NOT NULL, day_undone INTEGER NOT NULL, day_bank INTEGER NOT NULL, bank_ref TEXT NOT NULL, part INTEGER NOT NULL, left_now INTEGER NOT NULL, PRIMARY KEY (matter, no)) STRICT; INSERT INTO matter_v2 (no, client, opened, closed, last, entries, held, available, disputed, fees, claims, pending, purged) SELECT no, client, opened, closed, last, entries, held, available, disputed, fees, claims, pending, 0 FROM matter ORDER BY no; INSERT INTO seat_v2 (rowid, matter, person, role) SELECT rowid, matter, person, role FROM seat ORDER BY rowid; INSERT INTO entry_v2 (rowid, matter, no, kind, day, amount, state, fund, of_no, text_a, text_b, text_c, day_done, day_undone, day_bank, bank_ref, part, left_now) SELECT rowid, matter, no, kind, day, amount, state, fund, of_no, text_a, text_b, text_c, day_done, day_undone, day_bank, bank_ref, part, left_now FROM entry ORDER BY rowid; DELETE FROM entry; DELETE FROM seat; DELETE FROM matter; UPDATE book SET version = 2"
-
--- an SQL statement with its semicolon, and the text that follows it
 abbrev pub seats_made_part : List ℕ
-seats_made_part = codes " CREATE TABLE seat_v2 (matter INTEGER NOT NULL REFERENCES matter_v2 (no), person TEXT NOT NULL, role INTEGER NOT NULL, PRIMARY KEY (matter, person)) STRICT;"
+seats_made_part = codes " " ++ seat_text ++ codes ";"
 
-abbrev pub after_seats_made : List ℕ
-after_seats_made = codes " CREATE TABLE entry_v2 (matter INTEGER NOT NULL REFERENCES matter_v2 (no), no INTEGER NOT NULL, kind INTEGER NOT NULL, day INTEGER NOT NULL, amount INTEGER NOT NULL, state INTEGER NOT NULL, fund INTEGER NOT NULL, of_no INTEGER NOT NULL, text_a TEXT NOT NULL, text_b TEXT NOT NULL, text_c TEXT NOT NULL, day_done INTEGER NOT NULL, day_undone INTEGER NOT NULL, day_bank INTEGER NOT NULL, bank_ref TEXT NOT NULL, part INTEGER NOT NULL, left_now INTEGER NOT NULL, PRIMARY KEY (matter, no)) STRICT; INSERT INTO matter_v2 (no, client, opened, closed, last, entries, held, available, disputed, fees, claims, pending, purged) SELECT no, client, opened, closed, last, entries, held, available, disputed, fees, claims, pending, 0 FROM matter ORDER BY no; INSERT INTO seat_v2 (rowid, matter, person, role) SELECT rowid, matter, person, role FROM seat ORDER BY rowid; INSERT INTO entry_v2 (rowid, matter, no, kind, day, amount, state, fund, of_no, text_a, text_b, text_c, day_done, day_undone, day_bank, bank_ref, part, left_now) SELECT rowid, matter, no, kind, day, amount, state, fund, of_no, text_a, text_b, text_c, day_done, day_undone, day_bank, bank_ref, part, left_now FROM entry ORDER BY rowid; DELETE FROM entry; DELETE FROM seat; DELETE FROM matter; UPDATE book SET version = 2"
-
--- an SQL statement with its semicolon, and the text that follows it
 abbrev pub entries_made_part : List ℕ
-entries_made_part = codes " CREATE TABLE entry_v2 (matter INTEGER NOT NULL REFERENCES matter_v2 (no), no INTEGER NOT NULL, kind INTEGER NOT NULL, day INTEGER NOT NULL, amount INTEGER NOT NULL, state INTEGER NOT NULL, fund INTEGER NOT NULL, of_no INTEGER NOT NULL, text_a TEXT NOT NULL, text_b TEXT NOT NULL, text_c TEXT NOT NULL, day_done INTEGER NOT NULL, day_undone INTEGER NOT NULL, day_bank INTEGER NOT NULL, bank_ref TEXT NOT NULL, part INTEGER NOT NULL, left_now INTEGER NOT NULL, PRIMARY KEY (matter, no)) STRICT;"
+entries_made_part = codes " " ++ entry_text ++ codes ";"
 
-abbrev pub after_entries_made : List ℕ
-after_entries_made = codes " INSERT INTO matter_v2 (no, client, opened, closed, last, entries, held, available, disputed, fees, claims, pending, purged) SELECT no, client, opened, closed, last, entries, held, available, disputed, fees, claims, pending, 0 FROM matter ORDER BY no; INSERT INTO seat_v2 (rowid, matter, person, role) SELECT rowid, matter, person, role FROM seat ORDER BY rowid; INSERT INTO entry_v2 (rowid, matter, no, kind, day, amount, state, fund, of_no, text_a, text_b, text_c, day_done, day_undone, day_bank, bank_ref, part, left_now) SELECT rowid, matter, no, kind, day, amount, state, fund, of_no, text_a, text_b, text_c, day_done, day_undone, day_bank, bank_ref, part, left_now FROM entry ORDER BY rowid; DELETE FROM entry; DELETE FROM seat; DELETE FROM matter; UPDATE book SET version = 2"
-
--- an SQL statement with its semicolon, and the text that follows it
 abbrev pub heads_copied_part : List ℕ
-heads_copied_part = codes " INSERT INTO matter_v2 (no, client, opened, closed, last, entries, held, available, disputed, fees, claims, pending, purged) SELECT no, client, opened, closed, last, entries, held, available, disputed, fees, claims, pending, 0 FROM matter ORDER BY no;"
+heads_copied_part =
+    codes " INSERT INTO matter_v2 (no, client, opened, closed, last, entries, held, available, disputed, fees, " ++
+    codes "claims, pending, purged) SELECT no, client, opened, closed, last, entries, held, available, disputed, " ++
+    codes "fees, claims, pending, 0 FROM matter ORDER BY no;"
 
-abbrev pub after_heads_copied : List ℕ
-after_heads_copied = codes " INSERT INTO seat_v2 (rowid, matter, person, role) SELECT rowid, matter, person, role FROM seat ORDER BY rowid; INSERT INTO entry_v2 (rowid, matter, no, kind, day, amount, state, fund, of_no, text_a, text_b, text_c, day_done, day_undone, day_bank, bank_ref, part, left_now) SELECT rowid, matter, no, kind, day, amount, state, fund, of_no, text_a, text_b, text_c, day_done, day_undone, day_bank, bank_ref, part, left_now FROM entry ORDER BY rowid; DELETE FROM entry; DELETE FROM seat; DELETE FROM matter; UPDATE book SET version = 2"
-
--- an SQL statement with its semicolon, and the text that follows it
 abbrev pub seats_copied_part : List ℕ
-seats_copied_part = codes " INSERT INTO seat_v2 (rowid, matter, person, role) SELECT rowid, matter, person, role FROM seat ORDER BY rowid;"
+seats_copied_part =
+    codes " INSERT INTO seat_v2 (rowid, matter, person, role) SELECT rowid, matter, person, role FROM seat ORDER BY " ++
+    codes "rowid;"
 
-abbrev pub after_seats_copied : List ℕ
-after_seats_copied = codes " INSERT INTO entry_v2 (rowid, matter, no, kind, day, amount, state, fund, of_no, text_a, text_b, text_c, day_done, day_undone, day_bank, bank_ref, part, left_now) SELECT rowid, matter, no, kind, day, amount, state, fund, of_no, text_a, text_b, text_c, day_done, day_undone, day_bank, bank_ref, part, left_now FROM entry ORDER BY rowid; DELETE FROM entry; DELETE FROM seat; DELETE FROM matter; UPDATE book SET version = 2"
-
--- an SQL statement with its semicolon, and the text that follows it
 abbrev pub entries_copied_part : List ℕ
-entries_copied_part = codes " INSERT INTO entry_v2 (rowid, matter, no, kind, day, amount, state, fund, of_no, text_a, text_b, text_c, day_done, day_undone, day_bank, bank_ref, part, left_now) SELECT rowid, matter, no, kind, day, amount, state, fund, of_no, text_a, text_b, text_c, day_done, day_undone, day_bank, bank_ref, part, left_now FROM entry ORDER BY rowid;"
+entries_copied_part =
+    codes " INSERT INTO entry_v2 (rowid, matter, no, kind, day, amount, state, fund, of_no, text_a, text_b, text_c, " ++
+    codes "day_done, day_undone, day_bank, bank_ref, part, left_now) SELECT rowid, matter, no, kind, day, amount, " ++
+    codes "state, fund, of_no, text_a, text_b, text_c, day_done, day_undone, day_bank, bank_ref, part, left_now " ++
+    codes "FROM entry ORDER BY rowid;"
 
-abbrev pub after_entries_copied : List ℕ
-after_entries_copied = codes " DELETE FROM entry; DELETE FROM seat; DELETE FROM matter; UPDATE book SET version = 2"
-
--- an SQL statement with its semicolon, and the text that follows it
 abbrev pub entries_emptied_part : List ℕ
 entries_emptied_part = codes " DELETE FROM entry;"
 
-abbrev pub after_entries_emptied : List ℕ
-after_entries_emptied = codes " DELETE FROM seat; DELETE FROM matter; UPDATE book SET version = 2"
-
--- an SQL statement with its semicolon, and the text that follows it
 abbrev pub seats_emptied_part : List ℕ
 seats_emptied_part = codes " DELETE FROM seat;"
 
-abbrev pub after_seats_emptied : List ℕ
-after_seats_emptied = codes " DELETE FROM matter; UPDATE book SET version = 2"
-
--- an SQL statement with its semicolon, and the text that follows it
 abbrev pub heads_emptied_part : List ℕ
 heads_emptied_part = codes " DELETE FROM matter;"
 
-abbrev pub after_heads_emptied : List ℕ
-after_heads_emptied = codes " UPDATE book SET version = 2"
-
--- an SQL statement with its semicolon, and the text that follows it
 abbrev pub version_set_part : List ℕ
 version_set_part = codes " UPDATE book SET version = 2"
+
+-- what follows each of them
+abbrev pub after_heads_emptied : List ℕ
+after_heads_emptied = version_set_part
+
+abbrev pub after_seats_emptied : List ℕ
+after_seats_emptied = heads_emptied_part ++ after_heads_emptied
+
+abbrev pub after_entries_emptied : List ℕ
+after_entries_emptied = seats_emptied_part ++ after_seats_emptied
+
+abbrev pub after_entries_copied : List ℕ
+after_entries_copied = entries_emptied_part ++ after_entries_emptied
+
+abbrev pub after_seats_copied : List ℕ
+after_seats_copied = entries_copied_part ++ after_entries_copied
+
+abbrev pub after_heads_copied : List ℕ
+after_heads_copied = seats_copied_part ++ after_seats_copied
+
+abbrev pub after_entries_made : List ℕ
+after_entries_made = heads_copied_part ++ after_heads_copied
+
+abbrev pub after_seats_made : List ℕ
+after_seats_made = entries_made_part ++ after_entries_made
+
+abbrev pub after_heads_made : List ℕ
+after_heads_made = seats_made_part ++ after_seats_made
+
+abbrev pub move_text : List ℕ
+move_text = heads_made_part ++ after_heads_made

@@ -1,5 +1,5 @@
 -- A book's tables as a database schema describes them, for each layout. Written by tools/book-tables.
-use Rattle.std.specs.Prelude.{ℕ, ℤ, pos, true, false, [], ◌∷◌, List, Some, None, codes}
+use Rattle.std.specs.Prelude.{ℕ, ℤ, pos, true, false, [], ◌∷◌, ◌++◌, List, Some, None, codes}
 use Rattle.sqlite_value.specs.declared.value.Value.TheVariants.{Null}
 use Rattle.sqlite_value.specs.declared.keys.Collation.TheVariants.{Binary}
 use Rattle.sqlite_value.specs.Keys.{plain}
@@ -166,7 +166,11 @@ book_table l = record {
 }
 
 abbrev pub old_matter_text : List ℕ
-old_matter_text = codes "CREATE TABLE matter (no INTEGER NOT NULL PRIMARY KEY, client TEXT NOT NULL, opened INTEGER NOT NULL, closed INTEGER NOT NULL, last INTEGER NOT NULL, entries INTEGER NOT NULL, held INTEGER NOT NULL, available INTEGER NOT NULL, disputed INTEGER NOT NULL, fees INTEGER NOT NULL, claims INTEGER NOT NULL, pending INTEGER NOT NULL) STRICT"
+old_matter_text =
+    codes "CREATE TABLE matter (no INTEGER NOT NULL PRIMARY KEY, client TEXT NOT NULL, opened INTEGER NOT NULL, " ++
+    codes "closed INTEGER NOT NULL, last INTEGER NOT NULL, entries INTEGER NOT NULL, held INTEGER NOT NULL, " ++
+    codes "available INTEGER NOT NULL, disputed INTEGER NOT NULL, fees INTEGER NOT NULL, claims INTEGER NOT NULL, " ++
+    codes "pending INTEGER NOT NULL) STRICT"
 
 abbrev pub old_matter_table : Table
 old_matter_table = record {
@@ -188,7 +192,9 @@ old_matter_table = record {
 }
 
 abbrev pub old_seat_text : List ℕ
-old_seat_text = codes "CREATE TABLE seat (matter INTEGER NOT NULL REFERENCES matter (no), person TEXT NOT NULL, role INTEGER NOT NULL, PRIMARY KEY (matter, person)) STRICT"
+old_seat_text =
+    codes "CREATE TABLE seat (matter INTEGER NOT NULL REFERENCES matter (no), person TEXT NOT NULL, role INTEGER " ++
+    codes "NOT NULL, PRIMARY KEY (matter, person)) STRICT"
 
 abbrev pub old_seat_table : Table
 old_seat_table = record {
@@ -207,7 +213,12 @@ old_seat_table = record {
 }
 
 abbrev pub old_entry_text : List ℕ
-old_entry_text = codes "CREATE TABLE entry (matter INTEGER NOT NULL REFERENCES matter (no), no INTEGER NOT NULL, kind INTEGER NOT NULL, day INTEGER NOT NULL, amount INTEGER NOT NULL, state INTEGER NOT NULL, fund INTEGER NOT NULL, of_no INTEGER NOT NULL, text_a TEXT NOT NULL, text_b TEXT NOT NULL, text_c TEXT NOT NULL, day_done INTEGER NOT NULL, day_undone INTEGER NOT NULL, day_bank INTEGER NOT NULL, bank_ref TEXT NOT NULL, part INTEGER NOT NULL, left_now INTEGER NOT NULL, PRIMARY KEY (matter, no)) STRICT"
+old_entry_text =
+    codes "CREATE TABLE entry (matter INTEGER NOT NULL REFERENCES matter (no), no INTEGER NOT NULL, kind INTEGER " ++
+    codes "NOT NULL, day INTEGER NOT NULL, amount INTEGER NOT NULL, state INTEGER NOT NULL, fund INTEGER NOT NULL, " ++
+    codes "of_no INTEGER NOT NULL, text_a TEXT NOT NULL, text_b TEXT NOT NULL, text_c TEXT NOT NULL, day_done " ++
+    codes "INTEGER NOT NULL, day_undone INTEGER NOT NULL, day_bank INTEGER NOT NULL, bank_ref TEXT NOT NULL, part " ++
+    codes "INTEGER NOT NULL, left_now INTEGER NOT NULL, PRIMARY KEY (matter, no)) STRICT"
 
 abbrev pub old_entry_table : Table
 old_entry_table = record {
@@ -231,7 +242,11 @@ old_entry_table = record {
 }
 
 abbrev pub matter_text : List ℕ
-matter_text = codes "CREATE TABLE matter_v2 (no INTEGER NOT NULL PRIMARY KEY, client TEXT NOT NULL, opened INTEGER NOT NULL, closed INTEGER NOT NULL, last INTEGER NOT NULL, entries INTEGER NOT NULL, held INTEGER NOT NULL, available INTEGER NOT NULL, disputed INTEGER NOT NULL, fees INTEGER NOT NULL, claims INTEGER NOT NULL, pending INTEGER NOT NULL, purged INTEGER NOT NULL) STRICT"
+matter_text =
+    codes "CREATE TABLE matter_v2 (no INTEGER NOT NULL PRIMARY KEY, client TEXT NOT NULL, opened INTEGER NOT NULL, " ++
+    codes "closed INTEGER NOT NULL, last INTEGER NOT NULL, entries INTEGER NOT NULL, held INTEGER NOT NULL, " ++
+    codes "available INTEGER NOT NULL, disputed INTEGER NOT NULL, fees INTEGER NOT NULL, claims INTEGER NOT NULL, " ++
+    codes "pending INTEGER NOT NULL, purged INTEGER NOT NULL) STRICT"
 
 abbrev pub matter_table : Layout → Table
 matter_table l = record {
@@ -254,7 +269,9 @@ matter_table l = record {
 }
 
 abbrev pub seat_text : List ℕ
-seat_text = codes "CREATE TABLE seat_v2 (matter INTEGER NOT NULL REFERENCES matter_v2 (no), person TEXT NOT NULL, role INTEGER NOT NULL, PRIMARY KEY (matter, person)) STRICT"
+seat_text =
+    codes "CREATE TABLE seat_v2 (matter INTEGER NOT NULL REFERENCES matter_v2 (no), person TEXT NOT NULL, role " ++
+    codes "INTEGER NOT NULL, PRIMARY KEY (matter, person)) STRICT"
 
 abbrev pub seat_table : Layout → Table
 seat_table l = record {
@@ -273,7 +290,12 @@ seat_table l = record {
 }
 
 abbrev pub entry_text : List ℕ
-entry_text = codes "CREATE TABLE entry_v2 (matter INTEGER NOT NULL REFERENCES matter_v2 (no), no INTEGER NOT NULL, kind INTEGER NOT NULL, day INTEGER NOT NULL, amount INTEGER NOT NULL, state INTEGER NOT NULL, fund INTEGER NOT NULL, of_no INTEGER NOT NULL, text_a TEXT NOT NULL, text_b TEXT NOT NULL, text_c TEXT NOT NULL, day_done INTEGER NOT NULL, day_undone INTEGER NOT NULL, day_bank INTEGER NOT NULL, bank_ref TEXT NOT NULL, part INTEGER NOT NULL, left_now INTEGER NOT NULL, PRIMARY KEY (matter, no)) STRICT"
+entry_text =
+    codes "CREATE TABLE entry_v2 (matter INTEGER NOT NULL REFERENCES matter_v2 (no), no INTEGER NOT NULL, kind " ++
+    codes "INTEGER NOT NULL, day INTEGER NOT NULL, amount INTEGER NOT NULL, state INTEGER NOT NULL, fund INTEGER " ++
+    codes "NOT NULL, of_no INTEGER NOT NULL, text_a TEXT NOT NULL, text_b TEXT NOT NULL, text_c TEXT NOT NULL, " ++
+    codes "day_done INTEGER NOT NULL, day_undone INTEGER NOT NULL, day_bank INTEGER NOT NULL, bank_ref TEXT NOT " ++
+    codes "NULL, part INTEGER NOT NULL, left_now INTEGER NOT NULL, PRIMARY KEY (matter, no)) STRICT"
 
 abbrev pub entry_table : Layout → Table
 entry_table l = record {
@@ -297,7 +319,9 @@ entry_table l = record {
 }
 
 abbrev pub journal_text : List ℕ
-journal_text = codes "CREATE TABLE journal (seq INTEGER NOT NULL PRIMARY KEY AUTOINCREMENT, matter INTEGER NOT NULL, entry INTEGER NOT NULL, day INTEGER NOT NULL, amount INTEGER NOT NULL) STRICT"
+journal_text =
+    codes "CREATE TABLE journal (seq INTEGER NOT NULL PRIMARY KEY AUTOINCREMENT, matter INTEGER NOT NULL, entry " ++
+    codes "INTEGER NOT NULL, day INTEGER NOT NULL, amount INTEGER NOT NULL) STRICT"
 
 abbrev pub journal_table : Layout → Table
 journal_table l = record {
@@ -317,7 +341,9 @@ journal_table l = record {
 }
 
 abbrev pub firm_line_text : List ℕ
-firm_line_text = codes "CREATE TABLE firm_line (seq INTEGER NOT NULL PRIMARY KEY AUTOINCREMENT, day INTEGER NOT NULL, bank_ref TEXT NOT NULL, amount INTEGER NOT NULL, text TEXT NOT NULL) STRICT"
+firm_line_text =
+    codes "CREATE TABLE firm_line (seq INTEGER NOT NULL PRIMARY KEY AUTOINCREMENT, day INTEGER NOT NULL, bank_ref " ++
+    codes "TEXT NOT NULL, amount INTEGER NOT NULL, text TEXT NOT NULL) STRICT"
 
 abbrev pub firm_line_table : Layout → Table
 firm_line_table l = record {
@@ -337,7 +363,9 @@ firm_line_table l = record {
 }
 
 abbrev pub exception_text : List ℕ
-exception_text = codes "CREATE TABLE exception (day INTEGER NOT NULL, reference TEXT NOT NULL, bank_ref TEXT NOT NULL, amount INTEGER NOT NULL, text TEXT NOT NULL, PRIMARY KEY (day, reference, bank_ref, amount, text)) STRICT"
+exception_text =
+    codes "CREATE TABLE exception (day INTEGER NOT NULL, reference TEXT NOT NULL, bank_ref TEXT NOT NULL, amount " ++
+    codes "INTEGER NOT NULL, text TEXT NOT NULL, PRIMARY KEY (day, reference, bank_ref, amount, text)) STRICT"
 
 abbrev pub exception_table : Layout → Table
 exception_table l = record {
@@ -357,7 +385,9 @@ exception_table l = record {
 }
 
 abbrev pub balance_text : List ℕ
-balance_text = codes "CREATE TABLE balance (kind INTEGER NOT NULL, day INTEGER NOT NULL, amount INTEGER NOT NULL, PRIMARY KEY (kind, day)) STRICT"
+balance_text =
+    codes "CREATE TABLE balance (kind INTEGER NOT NULL, day INTEGER NOT NULL, amount INTEGER NOT NULL, PRIMARY KEY " ++
+    codes "(kind, day)) STRICT"
 
 abbrev pub balance_table : Layout → Table
 balance_table l = record {

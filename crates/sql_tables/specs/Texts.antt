@@ -1,5 +1,5 @@
 -- The SQL text of each statement, and its meaning. Written by tools/book-tables.
-use Rattle.std.specs.Prelude.{ℕ, false, [], ◌∷◌, List, None, codes, pos, negsuc}
+use Rattle.std.specs.Prelude.{ℕ, false, [], ◌∷◌, ◌++◌, List, None, codes, pos, negsuc}
 use Rattle.sqlite_value.specs.declared.value.Value.TheVariants.{Null, Int, Text}
 use Rattle.sqlite_value.specs.declared.keys.Collation.TheVariants.{Binary}
 use Rattle.sqlite_sql.specs.declared.ops.BinaryOp.TheVariants.{Compare}
@@ -14,7 +14,9 @@ use Rattle.sql_schema.specs.declared.layout.Layout.{Layout}
 use Rattle.sql_schema.specs.Schema.{matter_tree, matter_place, seat_tree, seat_place, entry_tree, entry_place, journal_tree, journal_place, firm_line_tree, firm_line_place, exception_tree, exception_place, balance_tree, balance_place}
 
 abbrev pub head_read_text : List ℕ
-head_read_text = codes "SELECT client, opened, closed, last, entries, held, available, disputed, fees, claims, pending, purged FROM matter_v2 WHERE no = ?1 ORDER BY rowid"
+head_read_text =
+    codes "SELECT client, opened, closed, last, entries, held, available, disputed, fees, claims, pending, purged " ++
+    codes "FROM matter_v2 WHERE no = ?1 ORDER BY rowid"
 
 abbrev pub head_read_query : Layout → Query
 head_read_query l = record {
@@ -35,7 +37,9 @@ head_read_names = codes "client" ∷ codes "opened" ∷ codes "closed" ∷ codes
     codes "available" ∷ codes "disputed" ∷ codes "fees" ∷ codes "claims" ∷ codes "pending" ∷ codes "purged" ∷ []
 
 abbrev pub next_head_text : List ℕ
-next_head_text = codes "SELECT client, opened, closed, last, entries, held, available, disputed, fees, claims, pending, purged, no FROM matter_v2 WHERE no > ?1 ORDER BY no LIMIT 1"
+next_head_text =
+    codes "SELECT client, opened, closed, last, entries, held, available, disputed, fees, claims, pending, purged, " ++
+    codes "no FROM matter_v2 WHERE no > ?1 ORDER BY no LIMIT 1"
 
 abbrev pub next_head_query : Layout → Query
 next_head_query l = record {
@@ -96,7 +100,9 @@ abbrev pub seats_read_names : List (List ℕ)
 seats_read_names = codes "person" ∷ codes "role" ∷ []
 
 abbrev pub entries_read_text : List ℕ
-entries_read_text = codes "SELECT no, kind, day, amount, state, fund, of_no, text_a, text_b, text_c, day_done, day_undone, day_bank, bank_ref, part, left_now FROM entry_v2 WHERE matter = ?1 ORDER BY no, rowid"
+entries_read_text =
+    codes "SELECT no, kind, day, amount, state, fund, of_no, text_a, text_b, text_c, day_done, day_undone, " ++
+    codes "day_bank, bank_ref, part, left_now FROM entry_v2 WHERE matter = ?1 ORDER BY no, rowid"
 
 abbrev pub entries_read_query : Layout → Query
 entries_read_query l = record {
@@ -119,7 +125,9 @@ entries_read_names = codes "no" ∷ codes "kind" ∷ codes "day" ∷ codes "amou
     codes "day_bank" ∷ codes "bank_ref" ∷ codes "part" ∷ codes "left_now" ∷ []
 
 abbrev pub entry_read_text : List ℕ
-entry_read_text = codes "SELECT no, kind, day, amount, state, fund, of_no, text_a, text_b, text_c, day_done, day_undone, day_bank, bank_ref, part, left_now FROM entry_v2 WHERE matter = ?1 AND no = ?2 ORDER BY rowid"
+entry_read_text =
+    codes "SELECT no, kind, day, amount, state, fund, of_no, text_a, text_b, text_c, day_done, day_undone, " ++
+    codes "day_bank, bank_ref, part, left_now FROM entry_v2 WHERE matter = ?1 AND no = ?2 ORDER BY rowid"
 
 abbrev pub entry_read_query : Layout → Query
 entry_read_query l = record {
@@ -198,7 +206,9 @@ abbrev pub firm_scan_names : List (List ℕ)
 firm_scan_names = codes "day" ∷ codes "bank_ref" ∷ codes "amount" ∷ codes "text" ∷ []
 
 abbrev pub exception_scan_text : List ℕ
-exception_scan_text = codes "SELECT day, reference, bank_ref, amount, text FROM exception ORDER BY day, reference, bank_ref, amount, text, rowid"
+exception_scan_text =
+    codes "SELECT day, reference, bank_ref, amount, text FROM exception ORDER BY day, reference, bank_ref, amount, " ++
+    codes "text, rowid"
 
 abbrev pub exception_scan_query : Layout → Query
 exception_scan_query l = record {
@@ -243,7 +253,9 @@ abbrev pub balance_scan_names : List (List ℕ)
 balance_scan_names = codes "kind" ∷ codes "day" ∷ codes "amount" ∷ []
 
 abbrev pub head_write_text : List ℕ
-head_write_text = codes "INSERT OR REPLACE INTO matter_v2 (no, client, opened, closed, last, entries, held, available, disputed, fees, claims, pending, purged) VALUES (?1, ?2, ?3, ?4, ?5, ?6, ?7, ?8, ?9, ?10, ?11, ?12, ?13)"
+head_write_text =
+    codes "INSERT OR REPLACE INTO matter_v2 (no, client, opened, closed, last, entries, held, available, disputed, " ++
+    codes "fees, claims, pending, purged) VALUES (?1, ?2, ?3, ?4, ?5, ?6, ?7, ?8, ?9, ?10, ?11, ?12, ?13)"
 
 abbrev pub head_write_terms : List Term
 head_write_terms = col 0 0 ∷ lit Null ∷ col 0 1 ∷ col 0 2 ∷ col 0 3 ∷ col 0 4 ∷ col 0 5 ∷ col 0 6 ∷ col 0 7 ∷
@@ -253,7 +265,9 @@ abbrev pub head_write_command : Layout → Command
 head_write_command l = InsertOr (matter_place l) Replace (Values head_write_terms 14) []
 
 abbrev pub totals_write_text : List ℕ
-totals_write_text = codes "UPDATE matter_v2 SET last = ?2, entries = ?3, held = ?4, available = ?5, disputed = ?6, fees = ?7, claims = ?8, pending = ?9 WHERE no = ?1"
+totals_write_text =
+    codes "UPDATE matter_v2 SET last = ?2, entries = ?3, held = ?4, available = ?5, disputed = ?6, fees = ?7, " ++
+    codes "claims = ?8, pending = ?9 WHERE no = ?1"
 
 abbrev pub totals_write_query : Layout → Query
 totals_write_query l = record {
@@ -313,7 +327,10 @@ abbrev pub purged_write_command : Layout → Command
 purged_write_command l = Update (matter_place l) (record { lets = []; body = purged_write_query l })
 
 abbrev pub entry_write_text : List ℕ
-entry_write_text = codes "INSERT OR REPLACE INTO entry_v2 (matter, no, kind, day, amount, state, fund, of_no, text_a, text_b, text_c, day_done, day_undone, day_bank, bank_ref, part, left_now) VALUES (?1, ?2, ?3, ?4, ?5, ?6, ?7, ?8, ?9, ?10, ?11, ?12, ?13, ?14, ?15, ?16, ?17)"
+entry_write_text =
+    codes "INSERT OR REPLACE INTO entry_v2 (matter, no, kind, day, amount, state, fund, of_no, text_a, text_b, " ++
+    codes "text_c, day_done, day_undone, day_bank, bank_ref, part, left_now) VALUES (?1, ?2, ?3, ?4, ?5, ?6, ?7, " ++
+    codes "?8, ?9, ?10, ?11, ?12, ?13, ?14, ?15, ?16, ?17)"
 
 abbrev pub entry_write_terms : List Term
 entry_write_terms = lit Null ∷ col 0 0 ∷ col 0 1 ∷ col 0 2 ∷ col 0 3 ∷ col 0 4 ∷ col 0 5 ∷ col 0 6 ∷ col 0 7 ∷
@@ -389,7 +406,8 @@ abbrev pub firm_insert_command : Layout → Command
 firm_insert_command l = Insert (firm_line_place l) (Values firm_insert_terms 6)
 
 abbrev pub exception_insert_text : List ℕ
-exception_insert_text = codes "INSERT OR IGNORE INTO exception (day, reference, bank_ref, amount, text) VALUES (?1, ?2, ?3, ?4, ?5)"
+exception_insert_text =
+    codes "INSERT OR IGNORE INTO exception (day, reference, bank_ref, amount, text) VALUES (?1, ?2, ?3, ?4, ?5)"
 
 abbrev pub exception_insert_terms : List Term
 exception_insert_terms = lit Null ∷ col 0 0 ∷ col 0 1 ∷ col 0 2 ∷ col 0 3 ∷ col 0 4 ∷ []
@@ -398,7 +416,8 @@ abbrev pub exception_insert_command : Layout → Command
 exception_insert_command l = InsertOr (exception_place l) Ignore (Values exception_insert_terms 6) []
 
 abbrev pub exception_delete_text : List ℕ
-exception_delete_text = codes "DELETE FROM exception WHERE day = ?1 AND reference = ?2 AND bank_ref = ?3 AND amount = ?4 AND text = ?5"
+exception_delete_text =
+    codes "DELETE FROM exception WHERE day = ?1 AND reference = ?2 AND bank_ref = ?3 AND amount = ?4 AND text = ?5"
 
 abbrev pub exception_delete_query : Layout → Query
 exception_delete_query l = record {

@@ -4,8 +4,8 @@ use Rattle.std.proofs.Math.Logic.{∥∥₁_map}
 use Rattle.sqlite_disk.specs.declared.Disk as disk
 use Rattle.sqlite.specs.Files.{over_files}
 use Rattle.firm_rows.specs.Firm.{Firm}
-use Rattle.trust_desk.specs.OnceOnly.{DayRun, RunsOn}
-use Rattle.trust_desk.proofs.Once.{line-once-only, once-only}
+use Rattle.desk_laws.specs.OnceOnly.{DayRun, RunsOn}
+use Rattle.desk_laws.proofs.Once.{line-once-only, once-only}
 use Rattle.sql_book.specs.Books.{firm_of}
 use Rattle.system_store.specs.Runs.{BookOf}
 use Rattle.system_store.specs.SentAgain.{AsksAreSpentAfterStops, IsRunAfterStop, LinesAreOverAfterStops}

@@ -14,7 +14,7 @@ use Rattle.statement_csv.specs.declared.item.Item.{Item}
 use Rattle.statement_csv.specs.declared.item.Item.TheVariants as item
 use Rattle.trust_desk.specs.FirmStep.{after_ask}
 use Rattle.trust_desk.specs.ItemStep.{after_items, counted_of}
-use Rattle.trust_desk.specs.OnceOnly.{ComesAgain, DayRun, IsAskSpent, IsLineOver, RunsOn}
+use Rattle.desk_laws.specs.OnceOnly.{ComesAgain, DayRun, IsAskSpent, IsLineOver, RunsOn}
 use Rattle.trust_desk.specs.declared.importing.Counted.TheVariants as counted
 use Rattle.sql_book.specs.Books.{firm_of, IsLasting, MayLeave}
 use Rattle.system_store.specs.Runs.{BookOf, IsFoundIn}

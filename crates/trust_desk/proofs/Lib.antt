@@ -1,4 +1,4 @@
-pub mod DismissedLines
+pub mod SearchedLines
 pub mod Refused
 pub mod ItemsApplied
 pub mod Beside
@@ -10,8 +10,6 @@ pub mod MadeRows
 pub mod ItemsRead
 pub mod OwnItems
 pub mod Own
-pub mod ToldOwn
-pub mod ReasonsTold
 pub mod Steps
 pub mod Answered
 pub mod DayReports
@@ -19,15 +17,7 @@ pub mod ImportSteps
 pub mod Runs
 pub mod LineFacts
 pub mod AlwaysCovered
-pub mod Once
-pub mod OnceBank
-pub mod OnceRuns
 pub mod OfRows
-pub mod Awaiting
-pub mod FilledLines
-pub mod MatchedAgain
-pub mod Gathered
-pub mod SecondMatch
 mod ReconciliationAnswers
 mod ReportTexts
 pub use Rattle.trust_reports.proofs.Cards

@@ -6,7 +6,7 @@ use Rattle.trust_reports.specs.Openings.{AreClosings}
 use Rattle.trust_reports.specs.Purged.{is_period_purged}
 use Rattle.trust_reports.specs.Reconciliations.{ReconciliationTold}
 use Rattle.firm_figures.specs.Reconciliations.{nothing_kept, with_balance_noted, with_exception_kept, with_movement_kept, with_own_kept, with_row_kept}
-use Rattle.trust_reports.proofs.ReconciliationRows.{reconciliation-kept}
+use Rattle.figure_laws.proofs.ReconciliationRows.{reconciliation-kept}
 use Rattle.trust_desk.specs.declared.day_reports.Limits.{Limits}
 use Rattle.trust_desk.specs.DayReports.{IsAppended}
 use Rattle.trust_desk.proofs.ReportTexts.{handed-before}

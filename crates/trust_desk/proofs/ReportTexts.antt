@@ -1,11 +1,10 @@
 -- The texts of what the sinks kept are the reports.
 use Rattle.trust_desk.proofs.Names.{◌≡◌, ℕ, Result, StoreFault, AreHanded, subst, List, [], ◌∷◌, ◌++◌, fold, sym, ap, ◌∙◌, append_assoc, append-nil, codes, Firm, FirmSound, JournalKept, TrialKept, no_journal, trial_kept, trial_of, trial_sum, with_moved, Retained, none_retained, with_row_retained, exception_line, exceptions_text, journal_text, retention_text, trial_text, exceptions_report, journal_report, retention_report, trial_report, sound-covered, ClientsKept, clients_of, clients_sum, clients_text, clients_report, no_clients, with_client_own, with_client_row, arith, ints, nat_tests, AreCountable, IsFirmLineInRange, IsMovementInRange, IsRowInRange}
 use Rattle.std.proofs.Common.{flat_map}
-use Rattle.trust_reports.proofs.ClientRows.{clients-kept}
-use Rattle.trust_reports.proofs.ClientTotal as client_total
-use Rattle.trust_reports.proofs.Lists.{journal-kept}
-use Rattle.trust_reports.proofs.Lists.{retention-kept}
-use Rattle.trust_reports.proofs.Trial.{total-kept, trial-kept}
+use Rattle.figure_laws.proofs.ClientRows.{clients-kept}
+use Rattle.figure_laws.proofs.ClientTotal as client_total
+use Rattle.figure_laws.proofs.Lists.{journal-kept, retention-kept}
+use Rattle.figure_laws.proofs.Trial.{total-kept, trial-kept}
 use Rattle.trust_reports.specs.Texts.{heading}
 
 pub trial-told : (today : ℕ) (firm : Firm) (kept : TrialKept) → FirmSound firm → AreCountable IsRowInRange firm.rows → AreCountable IsFirmLineInRange firm.firm_lines → kept ≡ trial_kept firm → trial_text today kept.lines kept.own (trial_sum kept) ≡ trial_report today firm

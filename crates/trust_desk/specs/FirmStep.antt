@@ -1,6 +1,5 @@
 -- One step of the firm, and a run of steps.
 use Rattle.std.specs.Prelude.{ℕ, ◌≡◌, ◌⊎◌, true, false, List, [], ◌∷◌, Option, Some, None, MatchBool}
-use Rattle.trust_base.specs.Refusals.{status_of}
 use Rattle.trust_base.specs.declared.refusal.Refusal.{Refusal}
 use Rattle.trust_base.specs.declared.refusal.Refusal.TheVariants.{Store, Memory}
 use Rattle.trust_matter.specs.Facts.{Asked}
@@ -9,7 +8,6 @@ use Rattle.trust_matter.specs.Step.{refusal, edit_on}
 use Rattle.firm_rows.specs.Firm.{Firm, of, after_edit}
 use Rattle.firm_rows.specs.FirmSound.{FirmSound}
 use Rattle.statement_csv.specs.declared.item.Item.{Item}
-use Rattle.trust_desk.specs.declared.requests.Body.TheVariants.{Refused}
 use Rattle.trust_desk.specs.declared.requests.Reply.{Reply}
 use Rattle.trust_desk.specs.Heard.{Heard, Kind, OfMatter, OfItems, Dismisses, OnlyTold, OnlyShown, NotRead, kind_of, asked_on, concerns}
 use Rattle.trust_desk.specs.Replies.{refused, reply_of, json_reply, text_reply, is_fault_reply}
@@ -79,15 +77,6 @@ Steps day firm h reply new =
     MatchBool (is_fault_reply reply)
     (IsStopped day firm h reply new)
     ((reply ≡ (firm_step day firm h).reply) × (new ≡ (firm_step day firm h).firm))
-
--- if the reply's body is a refusal, its status is the refusal's
-abbrev pub HasItsStatus : Reply → Type 0
-HasItsStatus reply = (r : Refusal) → reply.body ≡ Refused r → reply.status ≡ status_of r
-
--- this is so for each reply of a step, even after a fault
-abbrev pub RefusalsHaveTheirStatus : Type 0
-RefusalsHaveTheirStatus =
-    (day : ℕ) (firm new : Firm) (h : Heard) (reply : Reply) → Steps day firm h reply new → HasItsStatus reply
 
 -- one step after another, each with its reply
 abbrev pub Runs : ℕ → Firm → List Heard → List Reply → Firm → Type 0

@@ -1,5 +1,5 @@
 -- What the items of a statement do to the firm.
-use Rattle.std.specs.Prelude.{◌≡◌, ℕ, ◌+◌, ◌==◌, Bool, false, List, [], ◌∷◌, length, Option, Some, None}
+use Rattle.std.specs.Prelude.{◌≡◌, ℕ, ◌+◌, ◌==◌, Bool, false, List, [], ◌∷◌, Option, Some, None}
 use Rattle.trust_matter.specs.declared.bank_line.BankLine.{BankLine}
 use Rattle.trust_matter.specs.declared.line_verdict.LineEffect.{LineEffect}
 use Rattle.trust_matter.specs.declared.line_verdict.LineEffect.TheVariants as told
@@ -135,11 +135,3 @@ abbrev pub counts_after : ℕ → Firm → List Item → ImportReply → ImportR
 counts_after day firm [] c = c
 counts_after day firm (it ∷ items) c =
     counts_after day (after_item day firm it) items (count_item it (counted_of day firm it) c)
-
-abbrev pub count_sum : ImportReply → ℕ
-count_sum c = c.applied + c.exceptions + c.repeated + c.unreadable
-
--- each item is counted exactly once
-abbrev pub EveryItemIsCounted : Type 0
-EveryItemIsCounted =
-    (day : ℕ) (firm : Firm) (items : List Item) → count_sum (counts_after day firm items none_counted) ≡ length items

@@ -1,4 +1,3 @@
-pub mod Purging
 pub mod Replies
 pub mod ItemStep
 pub mod Imports
@@ -7,16 +6,12 @@ pub mod ReportStep
 pub mod DayReports
 pub mod ListStep
 pub mod Dismissing
-pub mod Dismissed
 pub mod MatchStep
 pub mod Heard
 pub mod FirmStep
 pub mod Solo
-pub mod ToldOwn
-pub mod ReasonsTold
 pub mod Isolation
 pub mod NeverBelowZero
-pub mod OnceOnly
 pub mod Counts
 pub mod Plan
 pub mod Calls
@@ -25,7 +20,6 @@ pub mod Crashes
 pub mod Answered
 pub mod Applied
 pub mod Beside
-pub mod Matching
 pub mod Kept
 pub mod Reports
 pub use Rattle.trust_reports.specs.TextsOfLedgers

@@ -7,17 +7,9 @@ pub mod DepositSteps
 pub mod PaymentSteps
 pub mod ClaimSteps
 pub mod LineSteps
-pub mod Reasons
 pub mod LineDecided
 pub mod Steps
-pub mod Repeats
-pub mod LineRepeats
-pub mod LastNumber
-pub mod Purging
-pub mod HeadSteps
 pub use Rattle.matter_rows.proofs.Days
 pub use Rattle.matter_rows.proofs.Entries
 pub use Rattle.matter_rows.proofs.Sums
-pub mod SoundExamples
-pub mod CasesLastNumber
 mod Names

@@ -1,7 +1,6 @@
 pub mod ClaimTables
 pub mod Conditions
 pub mod Facts
-pub mod HeadLaws
 pub mod Laws
 pub mod KeptFacts
 pub mod LineStep
@@ -20,9 +19,4 @@ pub use Rattle.matter_rows.specs.declared.head
 pub use Rattle.matter_rows.specs.declared.movement
 pub use Rattle.matter_rows.specs.declared.payment
 pub use Rattle.matter_rows.specs.declared.seat
-pub mod Cases
-pub mod CasesLines
-pub mod CasesClaims
-pub mod CasesPayments
-pub mod CasesPurging
 pub mod Examples

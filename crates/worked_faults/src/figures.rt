@@ -2,7 +2,7 @@
 
 use crate::answers::{Answers, ask};
 use crate::messages::HISTORY;
-use firm_figures::{journal_list, reconcile_at, retention_list, trial_balance};
+use figure_laws::{journal_list, reconcile_at, retention_list, trial_balance};
 use firm_rows::MatterRow;
 use std::alloc::Global;
 use trust_base::{Day, MatterNo};

@@ -1,5 +1,5 @@
 use Rattle.firm_figures.proofs.Names.{◌<◌, sym, ap, ◌∙◌, arith, rules, Some, nat_lt, IsPartitionPoint-from_clause, IsPartitionedBy-ltb, BalanceRow}
-use Rattle.firm_figures.proofs.OpeningRows.{latest-none, latest-at}
+use Rattle.firm_figures.proofs.LatestClosing.{latest-none, latest-at}
 use Rattle.firm_figures.proofs.day_lists.latest_before.Goals as goal
 
 pub returns-then-passed-eq0 : goal.returns-then-passed-eq0

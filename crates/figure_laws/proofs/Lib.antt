@@ -1,0 +1,20 @@
+pub mod ClientRows
+pub mod ClientTotal
+pub mod Clients
+pub mod DifferenceTold
+pub mod FigureSizes
+pub mod IssuedRows
+pub mod LedgersMoved
+pub mod Listing
+pub mod Lists
+pub mod OfLists
+pub mod Open
+pub mod OpeningRows
+pub mod PurgedClients
+pub mod PurgedFigures
+pub mod PurgedLists
+pub mod PurgedPeriods
+pub mod ReconciliationRows
+pub mod Reconciling
+pub mod Trial
+mod Names

@@ -1,0 +1,4 @@
+pub mod Agree
+pub mod Kept
+pub mod OfLists
+pub mod Purging

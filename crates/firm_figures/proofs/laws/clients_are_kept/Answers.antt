@@ -1,9 +1,0 @@
-use Rattle.firm_figures.proofs.ClientRows.{clients-kept}
-use Rattle.firm_figures.proofs.ClientTotal.{total-kept}
-use Rattle.firm_figures.proofs.laws.clients_are_kept.Goals as goal
-
-pub returns-clause-lines : goal.returns-clause-lines
-returns-clause-lines c = clients-kept
-
-pub returns-clause-total : goal.returns-clause-total
-returns-clause-total c = total-kept c.sound_is_covered.ensures

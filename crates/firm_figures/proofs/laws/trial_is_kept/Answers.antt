@@ -1,8 +1,0 @@
-use Rattle.firm_figures.proofs.Trial.{trial-kept, total-kept}
-use Rattle.firm_figures.proofs.laws.trial_is_kept.Goals as goal
-
-pub returns-clause-lines : goal.returns-clause-lines
-returns-clause-lines c = trial-kept
-
-pub returns-clause-total : goal.returns-clause-total
-returns-clause-total c = total-kept

@@ -1,5 +1,0 @@
-use Rattle.trust_matter.proofs.Purging.{line-unchanged, line-repeat}
-use Rattle.trust_matter.proofs.laws.line_at_most_once.Goals as goal
-
-pub returns : goal.returns
-returns c = record { unchanged = line-unchanged; repeat = line-repeat }

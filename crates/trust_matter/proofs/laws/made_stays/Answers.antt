@@ -1,5 +1,0 @@
-use Rattle.trust_matter.proofs.Repeats.{made-stays, made-stays-or-goes, lines-leave-made}
-use Rattle.trust_matter.proofs.laws.made_stays.Goals as goal
-
-pub returns : goal.returns
-returns c = record { asks = made-stays; or_goes = made-stays-or-goes; lines = lines-leave-made }

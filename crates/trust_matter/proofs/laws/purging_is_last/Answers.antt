@@ -1,5 +1,0 @@
-use Rattle.trust_matter.proofs.Purging.{stub-is-sound, purged-stays}
-use Rattle.trust_matter.proofs.laws.purging_is_last.Goals as goal
-
-pub returns : goal.returns
-returns c = record { stays = purged-stays; stub = stub-is-sound }
