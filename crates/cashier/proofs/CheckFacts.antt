@@ -1,7 +1,7 @@
 -- What a check that was printed says of the firm, and what its reads leave of the book.
 use Rattle.cashier.proofs.Names.{◌≡◌, ◌⊎◌, Result, Err, Output, IfOk, OnOk, inl, inr, StoreFault, Firm, Seen, IsAny, KeepsBook, Outcome, arith, ints, nat_tests}
 use Rattle.trust_base.specs.declared.refusal.StoreFault.TheVariants as faults
-use Rattle.trust_desk.specs.Checking.{AreReads}
+use Rattle.book_reports.specs.Checking.{AreReads}
 use Rattle.cashier.specs.Check.{CheckEnds, IsCheckTrue, IsSaid, IsSaidRefused, IsSaidSound, IsSaidUnsound, IsTrueOf, IsUnsoundBy, PrintsCheck, found_outcome}
 use Rattle.cashier.specs.declared.check.CheckFound.{CheckFound}
 use Rattle.cashier.specs.declared.check.CheckFound.TheVariants as found

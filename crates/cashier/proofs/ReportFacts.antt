@@ -1,9 +1,9 @@
 -- What the reply to a report says of the program's end, and that a report makes no rows.
 use Rattle.cashier.proofs.Names.{◌≡◌, ℕ, Option, inl, inr, Refusal, Firm, Seen, LeavesOr, IsMade, MayLeave, after_asked, Asks, asked_on, arith, ints, nat_tests}
 use Rattle.trust_matter.specs.declared.ask.Ask.TheVariants.{Account, Accounting}
-use Rattle.trust_matter.specs.declared.ask.Caller.TheVariants.{Cashier}
 use Rattle.command_line.specs.declared.command.ReportCommand.{ReportCommand}
 use Rattle.trust_base.specs.Periods.{Span}
+use Rattle.matter_rows.specs.declared.act.Caller.TheVariants.{Cashier}
 use Rattle.cashier.specs.Report.{asked_for}
 
 -- an accounting changes nothing, whether it is refused or not

@@ -10,10 +10,10 @@ use Rattle.firm_audit.specs.declared.flaw.Flaw.{Flaw}
 use Rattle.firm_audit.specs.declared.flaw.Flaw.TheVariants as flaws
 use Rattle.firm_rows.specs.Firm.{Firm}
 use Rattle.firm_rows.specs.FirmSound.{FirmSound}
-use Rattle.trust_desk.specs.Checking.{AreCountsOf}
-use Rattle.trust_desk.specs.declared.checking.RowCounts.{RowCounts}
-use Rattle.trust_desk.specs.declared.unread.Unread.{Unread}
-use Rattle.trust_desk.specs.declared.unread.Unread.TheVariants as unread
+use Rattle.book_reports.specs.Checking.{AreCountsOf}
+use Rattle.book_reports.specs.declared.checking.RowCounts.{RowCounts}
+use Rattle.book_reports.specs.declared.unread.Unread.{Unread}
+use Rattle.book_reports.specs.declared.unread.Unread.TheVariants as unread
 use Rattle.sql_schema.specs.Schema.{balance_table_name, entry_table_name, exception_table_name, firm_line_table_name}
 use Rattle.sql_schema.specs.Schema.{journal_table_name, matter_table_name, seat_table_name}
 use Rattle.portal_http.specs.Output.{Output}

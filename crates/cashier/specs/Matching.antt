@@ -4,7 +4,7 @@ use Rattle.std.specs.Prelude.{Option, Some, None, IfSome, Result, Ok, Err, Match
 use Rattle.std.specs.Io.KnownBytes.{Appends}
 use Rattle.trust_base.specs.declared.refusal.Refusal.{Refusal}
 use Rattle.trust_base.specs.declared.refusal.Refusal.TheVariants.{TooLarge}
-use Rattle.trust_matter.specs.declared.ask.Caller.TheVariants.{Cashier}
+use Rattle.matter_rows.specs.declared.act.Caller.TheVariants.{Cashier}
 use Rattle.firm_rows.specs.Firm.{Firm}
 use Rattle.statement_match.specs.Matched.{Matched, is_left}
 use Rattle.trust_desk.specs.MatchStep.{IsMatched}

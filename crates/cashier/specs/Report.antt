@@ -2,8 +2,8 @@
 use Rattle.std.specs.Prelude.{ℕ}
 use Rattle.trust_base.specs.declared.refusal.Refusal.{Refusal}
 use Rattle.trust_base.specs.declared.refusal.Refusal.TheVariants.{Memory, Store}
+use Rattle.matter_rows.specs.declared.act.Caller.TheVariants.{Cashier}
 use Rattle.trust_matter.specs.declared.ask.Ask.TheVariants.{Account, Accounting}
-use Rattle.trust_matter.specs.declared.ask.Caller.TheVariants.{Cashier}
 use Rattle.firm_rows.specs.Firm.{Firm}
 use Rattle.trust_desk.specs.FirmStep.{Steps}
 use Rattle.trust_desk.specs.Heard.{Asks}

@@ -4,7 +4,7 @@ use Rattle.clap.specs.Words.{Text}
 use Rattle.firm_rows.specs.Firm.{Firm, empty_firm}
 use Rattle.firm_rows.specs.FirmSound.{FirmSound}
 use Rattle.trust_base.specs.declared.refusal.StoreFault.{StoreFault}
-use Rattle.trust_desk.specs.Checking.{AreReads}
+use Rattle.book_reports.specs.Checking.{AreReads}
 use Rattle.portal_http.specs.Output.{Output}
 use Rattle.command_line.specs.Program.{Means, MeansCheck, MeansNothing, db_of}
 use Rattle.command_line.specs.declared.command.Task.{Task}

@@ -1,6 +1,6 @@
 // The lines that an import applied, and which of them are like one that an earlier import applied.
 
-ghost use Rattle.trust_desk.specs.Checking.{AreReads};
+ghost use Rattle.book_reports.specs.Checking.{AreReads};
 
 use cashier_remarks::{LineRemark, Plain, Reference, Remark, Remarks};
 use firm_rows::Owner;

@@ -11,8 +11,8 @@ ghost use Rattle.cashier.specs.Check.{counts_text, flaw_text, found_outcome, unr
 ghost use Rattle.firm_audit.specs.Flaws.{IsFlawOf};
 ghost use Rattle.firm_rows.specs.Firm.{Firm};
 ghost use Rattle.firm_rows.specs.FirmSound.{FirmSound};
-ghost use Rattle.trust_desk.specs.Checking.{AreCountsOf, AreReads};
-ghost use Rattle.trust_desk.specs.declared.checking.RowCounts.{RowCounts};
+ghost use Rattle.book_reports.specs.Checking.{AreCountsOf, AreReads};
+ghost use Rattle.book_reports.specs.declared.checking.RowCounts.{RowCounts};
 
 use crate::outcome::{Outcome, outcome_of_refusal, write_refusal};
 use cashier_remarks::{Remark, Remarks};
@@ -147,7 +147,7 @@ fn found_of(checked: Checked) -> CheckFound
 }
 
 // Checks the rows of a desk's book on a business day.
-#[tactic(auto, using(trust_desk::proofs::Calls::reads_of_read))]
+#[tactic(auto, using(book_reports::proofs::ReadCalls::reads_of_read))]
 fn find_flaw<B: Book>(
     alloc: Global,
     desk: &mut Desk<B>,

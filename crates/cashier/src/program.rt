@@ -16,7 +16,7 @@ ghost use Rattle.command_line.specs.declared.command.Task.{Task};
 ghost use Rattle.cashier.specs.Views.{books_of, known_of};
 ghost use Rattle.portal_http.specs.Clients.{clients_of};
 ghost use Rattle.portal_http.specs.Output.{output_of};
-ghost use Rattle.trust_desk.specs.Checking.{AreReads};
+ghost use Rattle.book_reports.specs.Checking.{AreReads};
 
 use crate::applied_lines::{AppliedLines, tell_of_earlier};
 use crate::beginning::{is_past, tell_of_day, tell_of_new_book, tell_of_no_book};

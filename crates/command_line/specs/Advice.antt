@@ -19,7 +19,7 @@ use Rattle.command_line.specs.declared.faults.Front.{Front}
 use Rattle.command_line.specs.declared.faults.Front.TheVariants as fronts
 use Rattle.command_line.specs.declared.table.CommandName.{CommandName}
 use Rattle.command_line.specs.declared.table.CommandName.TheVariants as commands
-use Rattle.trust_desk.specs.declared.requests.Report.TheVariants as reports
+use Rattle.book_reports.specs.declared.report.Report.TheVariants as reports
 
 -- ---- texts
 

@@ -21,7 +21,7 @@ use Rattle.command_line.specs.declared.command.ReportCommand.{ReportCommand}
 use Rattle.command_line.specs.declared.command.ReportCommand.TheVariants.{Reconcile, AsOf, Within, Ledger, Account, Firm}
 use Rattle.command_line.specs.declared.table.CommandName.{CommandName}
 use Rattle.command_line.specs.declared.table.CommandName.TheVariants as commands
-use Rattle.trust_desk.specs.declared.requests.Report.TheVariants as reports
+use Rattle.book_reports.specs.declared.report.Report.TheVariants as reports
 
 -- `--today DAY`, required
 unfoldable pub today_rule : Rule

@@ -3,9 +3,9 @@ use Rattle.std.specs.Prelude.{◌++◌, List, [], ◌∷◌, Option, Some, None,
 use Rattle.clap.specs.Words.{Text}
 use Rattle.command_line.specs.declared.table.CommandName.{CommandName}
 use Rattle.command_line.specs.declared.table.CommandName.TheVariants as commands
-use Rattle.trust_desk.specs.declared.requests.DayReport.TheVariants as day_reports
-use Rattle.trust_desk.specs.declared.requests.PeriodReport.TheVariants as period_reports
-use Rattle.trust_desk.specs.declared.requests.Report.TheVariants as reports
+use Rattle.book_reports.specs.declared.report.DayReport.TheVariants as day_reports
+use Rattle.book_reports.specs.declared.report.PeriodReport.TheVariants as period_reports
+use Rattle.book_reports.specs.declared.report.Report.TheVariants as reports
 
 -- how a command is typed
 pub record Form : Type 0 where

@@ -11,9 +11,9 @@ use Rattle.trust_base.specs.Texts.{amount_of, amount_or_zero_of, matter_of}
 use Rattle.trust_base.specs.declared.refusal.Field.{Field}
 use Rattle.trust_base.specs.declared.refusal.Field.TheVariants as field
 use Rattle.trust_base.specs.declared.refusal.Refusal.TheVariants.{BadField}
+use Rattle.matter_rows.specs.declared.act.Caller.TheVariants.{Cashier}
 use Rattle.trust_matter.specs.declared.ask.Ask.{Ask}
 use Rattle.trust_matter.specs.declared.ask.Ask.TheVariants as ask
-use Rattle.trust_matter.specs.declared.ask.Caller.TheVariants.{Cashier}
 use Rattle.ask_fields.specs.Asks.{claiming, depositing, dropping, naming, opening, proposing, seating, splitting}
 use Rattle.ask_fields.specs.Fields.{fund_in, of_entry, on_general, role_of}
 use Rattle.trust_desk.specs.Heard.{Asks, Heard, Unread}

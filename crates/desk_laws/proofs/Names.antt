@@ -69,7 +69,6 @@ pub use Rattle.trust_matter.specs.Laws.{ALine, AnAsk, Doing, IsSameLine, all_aft
 pub use Rattle.trust_matter.specs.LineStep.{IsApplied, LineFacts, after_line_effect, awaits_no_line, dated_by, first_reason, has_no_line, is_of_another_amount, last_by, line_effect, line_facts, line_on, matched, reasons, rows_after_line, told_by}
 pub use Rattle.trust_matter.specs.Step.{edit_on, first, refusal, rows_after}
 pub use Rattle.trust_matter.specs.declared.ask.Ask.{Ask}
-pub use Rattle.trust_matter.specs.declared.ask.Caller.{Caller}
 pub use Rattle.trust_matter.specs.declared.bank_line.BankLine.{BankLine}
 pub use Rattle.trust_matter.specs.declared.line_verdict.DatedEdit.{DatedEdit}
 pub use Rattle.trust_matter.specs.declared.line_verdict.LineEffect.{LineEffect}
@@ -78,3 +77,4 @@ pub use Rattle.desk_laws.specs.Counts.{count_sum}
 pub use Rattle.desk_laws.specs.Matching.{AreNameless, FilledLinesAreApplied, FilledLinesAreInBook, SecondMatchFillsNothing, items_of}
 pub use Rattle.desk_laws.specs.OnceOnly.{BalanceOnce, DayRun, FirmLineOnce, IsBalanceOver, IsRepeated, IsSameFirmLine, IsUnmatched, LineOnceOnly, OnceOnly, RunsOn}
 pub use Rattle.desk_laws.specs.Statuses.{HasItsStatus}
+pub use Rattle.matter_rows.specs.declared.act.Caller.{Caller}

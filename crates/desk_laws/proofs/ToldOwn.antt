@@ -2,8 +2,8 @@
 use Rattle.desk_laws.proofs.Names.{Bool, List, Some, ap, arith, false, refl, subst, sym, true, ℕ, ◌∙◌, ◌≡◌, ints, nat_tests, Rows, Ask, refusal, Firm, of, Asks, asked_on, firm_step, import_refusal, replied, refused, reply_of, json_reply}
 use Rattle.std.specs.Prelude.{is_some, ◌||◌, Ok}
 use Rattle.trust_base.specs.declared.refusal.Refusal.TheVariants.{NoMatter}
-use Rattle.trust_matter.specs.declared.ask.Caller.{Caller}
-use Rattle.trust_matter.specs.declared.ask.Caller.TheVariants.{Person}
+use Rattle.matter_rows.specs.declared.act.Caller.{Caller}
+use Rattle.matter_rows.specs.declared.act.Caller.TheVariants.{Person}
 use Rattle.firm_rows.specs.FirmSound.{IsInOrder}
 use Rattle.firm_lists.specs.Laws.{AgreeFor, AreListedAlike, has_seat}
 use Rattle.firm_lists.proofs.Own.{persons-own}

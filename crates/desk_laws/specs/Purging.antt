@@ -1,6 +1,6 @@
 -- Purging a matter at the desk changes nothing in what is reported of a day.
 use Rattle.std.specs.Prelude.{◌≡◌, ℕ, false}
-use Rattle.trust_matter.specs.declared.ask.Caller.{Caller}
+use Rattle.matter_rows.specs.declared.act.Caller.{Caller}
 use Rattle.trust_matter.specs.declared.ask.Ask.TheVariants as ask
 use Rattle.firm_rows.specs.Firm.{Firm}
 use Rattle.firm_rows.specs.FirmSound.{FirmSound}

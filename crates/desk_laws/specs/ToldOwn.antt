@@ -1,6 +1,6 @@
 -- What a person is told depends on the rows of the matters in which the person has a seat, and on no others.
 use Rattle.std.specs.Prelude.{◌≡◌, ℕ, List}
-use Rattle.trust_matter.specs.declared.ask.Caller.TheVariants.{Person}
+use Rattle.matter_rows.specs.declared.act.Caller.TheVariants.{Person}
 use Rattle.firm_rows.specs.Firm.{Firm}
 use Rattle.firm_rows.specs.FirmSound.{IsInOrder}
 use Rattle.firm_lists.specs.Laws.{AgreeFor}

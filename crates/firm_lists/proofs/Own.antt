@@ -6,10 +6,10 @@ use Rattle.std.specs.List.{AllByRecursion, filter, flat_map}
 use Rattle.std.specs.Prelude.{codes, is_some, ◌&&◌, ◌==◌, ◌||◌}
 use Rattle.serde_json.specs.Written.{compact_text}
 use Rattle.matter_rows.specs.Rows.{Rows}
+use Rattle.matter_rows.specs.declared.act.Caller.{Caller}
+use Rattle.matter_rows.specs.declared.act.Caller.TheVariants.{Person}
 use Rattle.matter_bodies.specs.Json.{array_of, object_of}
 use Rattle.firm_rows.proofs.Ordered.{all-map}
-use Rattle.trust_matter.specs.declared.ask.Caller.{Caller}
-use Rattle.trust_matter.specs.declared.ask.Caller.TheVariants.{Person}
 use Rattle.firm_rows.specs.Firm.{Row, HeadRow, SeatRow, EntryRow, Firm, head_among, headed, of, rows_of}
 use Rattle.firm_rows.specs.FirmSound.{IsInOrder}
 use Rattle.firm_figures.proofs.Tidy.{After, Tidy, ordered-tidy}

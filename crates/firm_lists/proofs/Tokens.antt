@@ -1,12 +1,12 @@
 -- The tokens of an object that has one list.
 use Rattle.std.proofs.Common.{Bool, List, [], ap, append-nil, append_assoc, cond, false, refl, sym, true, ℕ, ◌++◌, ◌∙◌, ◌∷◌, ◌≡◌}
 use Rattle.std.specs.List.{filter, flat_map}
+use Rattle.matter_rows.specs.declared.act.Caller.{Caller}
 use Rattle.json.specs.Token.{Token}
 use Rattle.json.specs.Tree.{items_tokens}
 use Rattle.serde_json.specs.Data.{Data}
 use Rattle.serde_json.specs.Written.{items_outline}
 use Rattle.matter_bodies.specs.Json.{array_of, items_of, object_of, value_tokens}
-use Rattle.trust_matter.specs.declared.ask.Caller.{Caller}
 use Rattle.firm_rows.specs.Firm.{Firm, of}
 use Rattle.matter_bodies.specs.Listed.{listed_object, waiting_in}
 use Rattle.firm_lists.specs.Listed.{is_shown, listed_objects, waiting_objects}

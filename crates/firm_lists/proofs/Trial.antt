@@ -5,8 +5,8 @@ use Rattle.std.specs.List.{AllByRecursion, filter}
 use Rattle.std.specs.Prelude.{◌&&◌, ◌==◌}
 use Rattle.matter_rows.specs.Rows.{Rows, is_purged}
 use Rattle.matter_rows.specs.Sound.{Sound}
-use Rattle.trust_matter.specs.declared.ask.Caller.{Caller}
-use Rattle.trust_matter.specs.declared.ask.Caller.TheVariants.{Cashier, Person}
+use Rattle.matter_rows.specs.declared.act.Caller.{Caller}
+use Rattle.matter_rows.specs.declared.act.Caller.TheVariants.{Cashier, Person}
 use Rattle.firm_rows.specs.Firm.{Row, HeadRow, SeatRow, EntryRow, head_among, headed, of, rows_of}
 use Rattle.firm_figures.specs.Lists.{is_open, open_matters}
 use Rattle.firm_figures.proofs.Tidy.{Tidy, ordered-tidy}

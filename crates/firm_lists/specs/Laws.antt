@@ -3,8 +3,8 @@ use Rattle.std.specs.Prelude.{◌≡◌, ℕ, Bool, true, false, ◌==◌, ◌||
 use Rattle.std.specs.List.{filter, list_any}
 use Rattle.matter_rows.specs.Rows.{Rows, is_purged, role_in}
 use Rattle.matter_rows.specs.Balances.{ledger}
-use Rattle.trust_matter.specs.declared.ask.Caller.{Caller}
-use Rattle.trust_matter.specs.declared.ask.Caller.TheVariants.{Cashier, Person}
+use Rattle.matter_rows.specs.declared.act.Caller.{Caller}
+use Rattle.matter_rows.specs.declared.act.Caller.TheVariants.{Cashier, Person}
 use Rattle.trust_matter.specs.declared.ask.Ask.TheVariants as ask
 use Rattle.trust_matter.specs.Step.{refusal}
 use Rattle.firm_rows.specs.Firm.{Firm, of}

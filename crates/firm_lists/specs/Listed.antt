@@ -4,7 +4,7 @@ use Rattle.std.specs.List.{filter, flat_map}
 use Rattle.serde_json.specs.Data.{Data}
 use Rattle.serde_json.specs.Written.{compact_text}
 use Rattle.matter_rows.specs.Rows.{Rows}
-use Rattle.trust_matter.specs.declared.ask.Caller.{Caller}
+use Rattle.matter_rows.specs.declared.act.Caller.{Caller}
 use Rattle.trust_matter.specs.declared.ask.Ask.TheVariants as ask
 use Rattle.trust_matter.specs.Facts.{Asked}
 use Rattle.trust_matter.specs.Step.{refusal}

@@ -6,13 +6,13 @@ use Rattle.json.specs.Token.{Token}
 use Rattle.matter_rows.specs.declared.entry.Entry.{Entry}
 use Rattle.matter_rows.specs.Rows.{Rows}
 use Rattle.matter_rows.specs.Balances.{left_of, pending}
+use Rattle.matter_rows.specs.declared.act.Caller.{Caller}
 use Rattle.matter_parts.specs.declared.figures.Balances.{Balances}
 use Rattle.matter_parts.specs.declared.figures.Figures.{Figures}
 use Rattle.matter_parts.specs.declared.kept.Kept.{Kept}
 use Rattle.matter_parts.specs.Parts.{AreBalances, IsPart, IsWhole, Part, entries_kept}
 use Rattle.matter_parts.specs.Audit.{AreInPlace, IsInPlace}
 use Rattle.matter_parts.proofs.InPlace.{in-place}
-use Rattle.trust_matter.specs.declared.ask.Caller.{Caller}
 use Rattle.trust_matter.specs.Step.{natural}
 use Rattle.matter_bodies.specs.Bodies.{balance_sums, entry_object, sums_of}
 use Rattle.matter_bodies.specs.Json.{object_of, value_tokens}

@@ -10,9 +10,9 @@ use Rattle.matter_rows.specs.declared.entry.Entry.TheVariants as entry
 use Rattle.matter_rows.specs.Rows.{Rows, closed_on, entry_at, is_proposed_state, is_same_fund, role_in, role_name}
 use Rattle.matter_rows.specs.Shares.{fund_no, has_settled}
 use Rattle.matter_rows.specs.Balances.{available, fund_left, held, left_in, left_of, pending, total_of}
+use Rattle.matter_rows.specs.declared.act.Caller.{Caller}
+use Rattle.matter_rows.specs.declared.act.Caller.TheVariants as caller
 use Rattle.matter_parts.specs.declared.kept.Kept.{Kept}
-use Rattle.trust_matter.specs.declared.ask.Caller.{Caller}
-use Rattle.trust_matter.specs.declared.ask.Caller.TheVariants as caller
 use Rattle.trust_matter.specs.Step.{natural}
 use Rattle.matter_bodies.specs.Bodies.{Sums, client_value, entry_object, opened_value, sums_of}
 use Rattle.matter_bodies.specs.Json.{array_of, count_value, day_value, matter_value, object_of, or_null, sum_value}

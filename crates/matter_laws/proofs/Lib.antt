@@ -6,4 +6,5 @@ pub mod LastNumber
 pub mod Reasons
 pub mod SoundExamples
 pub mod CasesLastNumber
+pub mod Unfolded
 mod Names

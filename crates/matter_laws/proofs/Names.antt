@@ -37,10 +37,10 @@ pub use Rattle.trust_matter.specs.Laws.{ALine, AnAsk, AskRepeat, AskUnchanged, D
 pub use Rattle.trust_matter.specs.LineStep.{IsApplied, after_line_effect, dated_by, first_reason, last_by, line_facts, line_on, matched, reasons, rows_after_line, told_by}
 pub use Rattle.trust_matter.specs.Step.{after, claim_of, conditions, deposit_of, early_conditions, edit_of, edit_on, fee_of, first, opening, payment_of, refusal, refusal_of, rows_after}
 pub use Rattle.trust_matter.specs.declared.ask.Ask.{Ask}
-pub use Rattle.trust_matter.specs.declared.ask.Caller.{Caller}
 pub use Rattle.trust_matter.specs.declared.ask.OpenAsk.{OpenAsk}
 pub use Rattle.trust_matter.specs.declared.bank_line.BankLine.{BankLine}
 pub use Rattle.trust_matter.specs.declared.line_verdict.DatedEdit.{DatedEdit}
 pub use Rattle.trust_matter.specs.declared.line_verdict.LineEffect.{LineEffect}
 pub use Rattle.trust_matter.specs.declared.line_verdict.Reason.{Reason}
 pub use Rattle.matter_parts.specs.Purging.{stub_rows}
+pub use Rattle.matter_rows.specs.declared.act.Caller.{Caller}

@@ -12,7 +12,7 @@ use Rattle.matter_rows.specs.declared.entry.Entry.{Entry}
 use Rattle.matter_rows.specs.declared.entry.Entry.TheVariants as entry
 use Rattle.matter_rows.specs.Balances.{held, available, ledger}
 use Rattle.matter_rows.specs.Rows.{is_of_nobody, Rows}
-use Rattle.trust_matter.specs.declared.ask.Caller.TheVariants as caller
+use Rattle.matter_rows.specs.declared.act.Caller.TheVariants as caller
 use Rattle.trust_matter.specs.declared.ask.Ask.{Ask}
 use Rattle.trust_matter.specs.declared.ask.Ask.TheVariants as ask
 use Rattle.trust_matter.specs.Conditions.{is_repeat}

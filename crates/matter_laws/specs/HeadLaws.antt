@@ -6,8 +6,8 @@ use Rattle.matter_rows.specs.declared.head.Head.{Head}
 use Rattle.matter_rows.specs.declared.seat.Seat.{Seat}
 use Rattle.matter_rows.specs.Rows.{Rows, last_of, seen_on}
 use Rattle.matter_rows.specs.Sound.{Sound}
+use Rattle.matter_rows.specs.declared.act.Caller.{Caller}
 use Rattle.matter_parts.specs.Purging.{stub_rows}
-use Rattle.trust_matter.specs.declared.ask.Caller.{Caller}
 use Rattle.trust_matter.specs.declared.ask.OpenAsk.{OpenAsk}
 use Rattle.trust_matter.specs.declared.ask.Ask.{Ask}
 use Rattle.trust_matter.specs.declared.ask.Ask.TheVariants as ask

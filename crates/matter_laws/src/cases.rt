@@ -1,5 +1,5 @@
 //! Worked cases over the definitions. Each clause is one ask of a matter, and its answer.
-#![tactic(auto, unfolding(matter_rows::specs::Shares::held_share, matter_rows::specs::Shares::available_share, matter_rows::specs::Shares::disputed_share, matter_rows::specs::Shares::total_share, matter_rows::specs::Shares::pending_share, matter_rows::specs::Shares::worth, matter_rows::specs::Shares::draw, trust_base::specs::Names::is_cash_label))]
+#![tactic(auto, unfolding(crate::proofs::Unfolded::worked_cases))]
 
 ghost use Rattle.std.specs.Prelude.{Some, pos, codes};
 ghost use Rattle.matter_rows.specs.declared.deposit.DepositState.TheVariants as deposit;

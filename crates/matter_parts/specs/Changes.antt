@@ -4,6 +4,7 @@ use Rattle.matter_rows.specs.declared.head.Head.{Head}
 use Rattle.matter_rows.specs.declared.seat.Seat.{Seat}
 use Rattle.matter_rows.specs.declared.entry.Entry.{Entry}
 use Rattle.matter_rows.specs.declared.movement.EntryMovement.{EntryMovement}
+use Rattle.matter_rows.specs.declared.act.Act.{Act}
 use Rattle.matter_rows.specs.Rows.{Rows, entry_at, with_entry, as_made, last_of, closed_on, is_purged, role_in, seats_with, seats_without, purged_head, closed_head, seen_on}
 use Rattle.matter_rows.specs.Events.{Event, events_of, events_in, moved_beyond}
 use Rattle.matter_rows.specs.Shares.{target}
@@ -17,12 +18,14 @@ use Rattle.matter_parts.specs.declared.change.Left.{Left}
 use Rattle.matter_parts.specs.declared.change.TotalsAfter.{TotalsAfter}
 use Rattle.matter_parts.specs.Parts.{AreFigures, AreSmall}
 
--- a change: the edit, the matter's last day after it, the totals after it, and its movement in the journal
+-- a change: the edit, the matter's last day after it, the totals after it, its movement in the journal, and the act that
+-- it is remembered by: None if nothing changes, and of a purge
 pub record MatterChange : Type 0 where
   pub edit : Edit
   pub last : ℕ
   pub moves : TotalsAfter
   pub movement : Option EntryMovement
+  pub act : Option Act
 
 abbrev pub IsSmallOther : Option Left → Type 0
 IsSmallOther o = (p : Left) → o ≡ Some p → p.left ≤ MAX_TOTAL

@@ -1,13 +1,15 @@
-//! A change of a matter: its edit, the totals after it, and its movement in the journal.
+//! A change of a matter: its edit, the totals after it, its movement in the journal, and the act that it is remembered
+//! by.
 
 ghost use Rattle.std.specs.Prelude.{◌≡◌, ◌+◌, ◌-◌, ◌<◌, ◌≤◌, ◌≤ℤ◌, ◌-ℤ◌, ◌+ℤ◌, pos, IfOk, IfErr, IfSome, IfNone, OnErr, None};
+ghost use Rattle.std.specs.Option.{option_copied};
 ghost use Rattle.matter_parts.specs.Changes.{AreSmallTotals};
 ghost use Rattle.matter_parts.specs.TotalsAfter.{IsSmallBefore, EntryMoved, EditMoved, IsMade, TheTotalsAfter};
 
 use crate::edit::Edit;
 use crate::figures::Figures;
 use crate::matter::Matter;
-use matter_rows::{Entry, EntryMovement, Shares, moved, no_shares};
+use matter_rows::{Act, Entry, EntryMovement, Shares, moved, no_shares};
 use std::marker::Model;
 use trust_base::{Day, EntryNo, MAX_ENTRY, Refusal};
 
@@ -27,13 +29,14 @@ pub struct TotalsAfter {
     pub other: Option<Left>,
 }
 
-/// A change of a matter: the edit, the matter's last day after it, the totals after it, and its movement in the
-/// journal.
+/// A change of a matter: the edit, the matter's last day after it, the totals after it, its movement in the journal,
+/// and the act that it is remembered by.
 pub struct Change {
     edit: Edit,
     last: Day,
     moves: TotalsAfter,
     movement: Option<EntryMovement>,
+    act: Option<Act>,
 }
 
 // Written by hand, so that a function that holds a change makes one call at each exit.
@@ -44,6 +47,7 @@ impl Drop for Change {
             last: _last,
             moves: _moves,
             movement: _movement,
+            act: _act,
         } = self;
     }
 }
@@ -53,7 +57,13 @@ impl Model for Change {
 
     ghost Value = { MatterChange };
 
-    ghost view = { λ c. record { edit = c.edit; last = c.last; moves = c.moves; movement = c.movement } };
+    ghost view = { λ c. record {
+      edit = c.edit;
+      last = c.last;
+      moves = c.moves;
+      movement = c.movement;
+      act = c.act;
+    } };
 
     ghost invariant = { λ c. AreSmallTotals c.moves };
 }
@@ -86,6 +96,13 @@ impl Change {
         ensures { result ≡ self.now.movement }
     {
         self.movement
+    }
+
+    /// The act that the change is remembered by. None if nothing changes, and of a purge.
+    pub fn act(&self) -> Option<&Act>
+        ensures { option_copied result ≡ self.now.act }
+    {
+        self.act.as_ref()
     }
 }
 
@@ -144,10 +161,16 @@ fn written(matter: &Matter, entries: u64, before: &Before, new: &Entry) -> Optio
     }
 }
 
-/// Returns the change that an edit makes, with the matter's last day after it. `Store` if a total or what is left would
-/// go out of range, or if an entry that is needed is not loaded.
-pub fn change_of(matter: &Matter, edit: Edit, last: Day) -> Result<Change, Refusal>
+/// Returns the change that an edit makes, with the matter's last day after it, and the act that it is remembered by.
+/// `Store` if a total or what is left would go out of range, or if an entry that is needed is not loaded.
+pub fn change_of(
+    matter: &Matter,
+    edit: Edit,
+    last: Day,
+    act: Option<Act>,
+) -> Result<Change, Refusal>
     ensures ok { IfOk result (λ c. IsMade matter.now edit last c) }
+    ensures act { IfOk result (λ c. c.act ≡ act) }
     ensures err { IfErr result (λ r. r ≡ Refusal.Store) }
     ensures store { OnErr result ((v : TheTotalsAfter) → AreSmallTotals v → EditMoved matter.now edit v → ⊥) }
 {
@@ -206,5 +229,6 @@ pub fn change_of(matter: &Matter, edit: Edit, last: Day) -> Result<Change, Refus
         last,
         moves,
         movement,
+        act,
     })
 }

@@ -6,6 +6,7 @@
 //!
 //! By public call, with the clauses of its contract in brackets.
 //!
+//! - `change_of`, `Change::act`: a change carries the act that it is remembered by, which is the one given (`act`).
 //! - `Matter::apply`: for all sound rows of which the matter is a part and the change is one: afterwards the matter is
 //!   a part of the changed rows (`ok`), holds what it held (`held`), and if it was whole it stays whole (`whole`). If
 //!   memory runs out it is unchanged (`err`).

@@ -13,4 +13,5 @@ pub mod Sums
 pub mod Tested
 pub mod Days
 pub mod SeatOrder
+pub mod Unfolded
 mod Names

@@ -191,7 +191,7 @@ impl Claim {
     }
 
     // What the claim adds to each balance.
-    #[tactic(auto, unfolding(crate::specs::Shares::held_share, crate::specs::Shares::available_share, crate::specs::Shares::disputed_share, crate::specs::Shares::fee_share, crate::specs::Shares::claim_share, crate::specs::Shares::pending_share))]
+    #[tactic(auto, unfolding(crate::proofs::Unfolded::shares_of_an_entry))]
     pub(crate) fn shares(&self) -> Shares
         ensures is { result ≡ shares_of (Entry.Claim self.now) }
         ensures small { AreSmallShares result }

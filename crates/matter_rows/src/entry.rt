@@ -44,7 +44,7 @@ impl Entry {
 
     /// What the entry adds to each balance, in cents, and to the count of pending payments. No share is larger than
     /// twice the greatest amount, positive or negative.
-    #[tactic(auto, unfolding(crate::specs::Shares::held_share, crate::specs::Shares::available_share, crate::specs::Shares::disputed_share, crate::specs::Shares::fee_share, crate::specs::Shares::claim_share, crate::specs::Shares::pending_share))]
+    #[tactic(auto, unfolding(crate::proofs::Unfolded::shares_of_an_entry))]
     pub fn shares(&self) -> Shares
         ensures is { result ≡ shares_of self.now }
         ensures small { AreSmallShares result }

@@ -7,10 +7,13 @@
 //!
 //! - `Matter::part`, `Matter::holds`: the part of the named entries and of those that they draw on; whether an entry is
 //!   kept or isn't there.
+//! - `Caller::copied`: a deep copy. An `Act` is what a change of a matter is remembered as: of which entry, on which
+//!   business day, by whom, and what was done.
 //! - `laws` `sound_is_covered`: a matter's cleared deposits less its payments are what is available, disputed, left of
 //!   fees and left of claims, each at least zero.
 #![tactic(auto)]
 
+mod act;
 mod claim;
 mod clearing;
 mod deposit;
@@ -26,6 +29,7 @@ mod shares;
 mod soundness;
 mod totals;
 
+pub use act::{Act, Caller, Deed};
 pub use claim::{Against, Claim, ClaimState, Settlement};
 pub use clearing::Clearing;
 pub use deposit::{Deposit, DepositState, ReturnedDeposit};

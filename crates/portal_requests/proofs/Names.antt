@@ -7,6 +7,7 @@ pub use Rattle.matchit.specs.Rows.{RowsOf, catch_all_token, comes_before, param_
 pub use Rattle.matchit.specs.Seek.{first, has_slash, longest_suffix, or_else, own, same_text, segment, step, with_suffix}
 unfoldable pub use Rattle.matchit.specs.Seek.{param_step, seek}
 pub use Rattle.matchit.specs.declared.error.InsertError.{InsertError}
+pub use Rattle.matter_rows.specs.declared.act.Caller.{Caller}
 pub use Rattle.portal_messages.specs.Fields.{path_of}
 pub use Rattle.portal_messages.specs.declared.message.Message.{Message}
 pub use Rattle.serde_json.specs.View.{members_view, view}
@@ -24,11 +25,10 @@ pub use Rattle.trust_base.specs.declared.refusal.Refusal.TheVariants.{BadField, 
 pub use Rattle.trust_desk.specs.Heard.{Asks, Unread, is_the, names}
 pub use Rattle.trust_base.specs.Periods.{Span}
 pub use Rattle.trust_desk.specs.declared.requests.CallerList.{CallerList}
-pub use Rattle.trust_desk.specs.declared.requests.DayReport.{DayReport}
-pub use Rattle.trust_desk.specs.declared.requests.PeriodReport.{PeriodReport}
+pub use Rattle.book_reports.specs.declared.report.DayReport.{DayReport}
+pub use Rattle.book_reports.specs.declared.report.PeriodReport.{PeriodReport}
 pub use Rattle.trust_desk.specs.declared.requests.Request.{Request}
 pub use Rattle.trust_matter.specs.declared.ask.Ask.{Ask}
-pub use Rattle.trust_matter.specs.declared.ask.Caller.{Caller}
 pub use Rattle.portal_requests.specs.Asked.{entry_ask, matter_ask, numbered_ask}
 pub use Rattle.portal_requests.specs.Bodies.{body_in, has_keys, is_key, is_object, object_with, text_in, texts}
 pub use Rattle.portal_requests.specs.Callers.{caller_of}

@@ -5,7 +5,7 @@ use Rattle.trust_base.specs.declared.line.Line.{Line}
 use Rattle.trust_base.specs.declared.refusal.Field.TheVariants as field
 use Rattle.trust_base.specs.declared.refusal.Refusal.{Refusal}
 use Rattle.trust_base.specs.declared.refusal.Refusal.TheVariants.{BadField}
-use Rattle.trust_matter.specs.declared.ask.Caller.{Caller}
+use Rattle.matter_rows.specs.declared.act.Caller.{Caller}
 use Rattle.statement_csv.specs.Lines.{line_of_texts}
 use Rattle.trust_desk.specs.declared.requests.Request.{Request}
 use Rattle.trust_desk.specs.declared.requests.Request.TheVariants.{Dismiss}

@@ -7,10 +7,10 @@ use Rattle.trust_base.specs.declared.refusal.Refusal.{Refusal}
 use Rattle.trust_base.specs.declared.refusal.Refusal.TheVariants.{BadField, BadMethod, NoCaller, NoRoute}
 use Rattle.trust_base.specs.declared.refusal.Field.{Field}
 use Rattle.trust_base.specs.declared.refusal.Field.TheVariants as field
-use Rattle.trust_matter.specs.declared.ask.Caller.{Caller}
+use Rattle.matter_rows.specs.declared.act.Caller.{Caller}
 use Rattle.trust_matter.specs.declared.ask.Ask.{Ask}
-use Rattle.trust_desk.specs.declared.requests.DayReport.{DayReport}
-use Rattle.trust_desk.specs.declared.requests.PeriodReport.{PeriodReport}
+use Rattle.book_reports.specs.declared.report.DayReport.{DayReport}
+use Rattle.book_reports.specs.declared.report.PeriodReport.{PeriodReport}
 use Rattle.trust_desk.specs.declared.requests.Request.{Request}
 use Rattle.trust_desk.specs.declared.requests.Request.TheVariants as requests
 use Rattle.trust_desk.specs.Heard.{Heard, Asks, Unread}

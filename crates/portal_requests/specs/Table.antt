@@ -9,9 +9,9 @@ use Rattle.matchit.specs.declared.error.InsertError.{InsertError}
 use Rattle.portal_requests.specs.declared.routes.MatterPlace.TheVariants as matter
 use Rattle.portal_requests.specs.declared.routes.EntryPlace.TheVariants as entry
 use Rattle.trust_desk.specs.declared.requests.CallerList.TheVariants as caller_list
-use Rattle.trust_desk.specs.declared.requests.DayReport.TheVariants as day_report
-use Rattle.trust_desk.specs.declared.requests.PeriodReport.TheVariants as period_report
-use Rattle.trust_desk.specs.declared.requests.Report.TheVariants as report
+use Rattle.book_reports.specs.declared.report.DayReport.TheVariants as day_report
+use Rattle.book_reports.specs.declared.report.PeriodReport.TheVariants as period_report
+use Rattle.book_reports.specs.declared.report.Report.TheVariants as report
 use Rattle.trust_desk.specs.declared.requests.MatchText.TheVariants as text
 use Rattle.portal_requests.specs.declared.routes.Place.{Place}
 use Rattle.portal_requests.specs.declared.routes.Place.TheVariants.{AsOf, Dismissal, Entry, Import, Listed, Match, Matter, Reasons, Reconciliation, Report, Within}

@@ -30,7 +30,7 @@ pub use Rattle.std.proofs.lemmas.Bool.{and_from, cond-false, cond_both, eqb-fals
 pub use Rattle.std.proofs.lemmas.Bool.Decides.{nat_tests}
 pub use Rattle.std.proofs.lemmas.Result.{IfOk-weaker, err_from_is_err_and}
 pub use Rattle.std.specs.List.{list_any}
-pub use Rattle.std.specs.Prelude.{IfOk, IfSome, IsOk, MatchBool, OnErr, OnOk, codes, is_none, nat_lt, option_map, unwrap_or, ⊤, ◌==◌}
+pub use Rattle.std.specs.Prelude.{IfOk, IfSome, IsOk, MatchBool, OnErr, OnOk, is_none, nat_lt, option_map, unwrap_or, ⊤, ◌==◌}
 pub use Rattle.trust_base.specs.Refusals.{is_fault, refused_by}
 pub use Rattle.trust_base.specs.declared.line.Line.{Line}
 pub use Rattle.trust_base.specs.declared.refusal.Refusal.{Refusal}
@@ -42,20 +42,12 @@ pub use Rattle.trust_matter.specs.KeptFacts.{holds_for, holds_for_line}
 pub use Rattle.trust_matter.specs.LineStep.{LineDecides, after_line_effect, line_on, rows_after_line}
 pub use Rattle.trust_matter.specs.Step.{HasAmount, IsDecided, MayRefuse, cancelled, decided, edit_on, first, refusal, rows_after, with_claim, with_payment}
 pub use Rattle.trust_matter.specs.declared.ask.Ask.{Ask}
-pub use Rattle.trust_matter.specs.declared.ask.Caller.{Caller}
 pub use Rattle.trust_matter.specs.declared.bank_line.BankLine.{BankLine}
 pub use Rattle.trust_matter.specs.declared.line_verdict.DatedEdit.{DatedEdit}
 pub use Rattle.trust_matter.specs.declared.line_verdict.LineEffect.{LineEffect}
-pub use Rattle.trust_reports.specs.Clients.{ClientsKept, clients_of, clients_sum, no_clients, with_client_own, with_client_row}
-pub use Rattle.trust_reports.specs.Lists.{JournalKept, TrialKept, no_journal, trial_kept, trial_of, trial_sum, with_moved, with_trial_own, with_trial_row}
-pub use Rattle.trust_reports.specs.Reconciliations.{ReconciliationKept, kept_told, reconciled, reconciliation_on}
-pub use Rattle.trust_reports.specs.Lists.{Retained, none_retained, with_row_retained}
-pub use Rattle.trust_reports.specs.TextsOfClients.{clients_text}
-pub use Rattle.trust_reports.specs.TextsOfLedgers.{ledger_card, own_card_text}
-pub use Rattle.trust_reports.specs.TextsOfLists.{exception_line, exceptions_text, journal_text, retention_text, trial_text}
+pub use Rattle.trust_reports.specs.TextsOfLedgers.{ledger_card}
 pub use Rattle.trust_store.proofs.Named.{line-held, named-held}
 pub use Rattle.trust_store.specs.Books.{counted, counted_fault}
-pub use Rattle.firm_rows.specs.Handing.{AreHanded}
 pub use Rattle.trust_store.specs.Calls.{IsRead, IsWrite, IsWriteIf}
 pub use Rattle.trust_desk.specs.Answered.{IsAnswered}
 pub use Rattle.trust_desk.specs.Applied.{IsItemApplied, IsImported}
@@ -67,13 +59,10 @@ pub use Rattle.trust_desk.specs.Dismissing.{dismiss_refusal, dismissed_unless, i
 pub use Rattle.trust_desk.specs.FirmStep.{IsFaultReply, IsStopped, IsUnstopped, KindStopped, Runs, RunsSoundly, SoundRunsAreRuns, Steps, Stopped, after_ask, after_asked, firm_step, kind_step}
 pub use Rattle.trust_desk.specs.Heard.{Asks, Dismisses, Heard, Kind, NotRead, OfItems, OfMatter, OnlyShown, OnlyTold, Own, OwnAsk, OwnRefusal, asked_on, concerns, heard, is_the, kind_concerns, kind_names, kind_of, kind_own, names, own_if, own_of, own_of_item, own_of_items, project, told}
 pub use Rattle.trust_desk.specs.ImportStep.{IsAfterFront, counts_text, import_refusal, import_reply, imported, is_not_of_firm, items_unless}
-pub use Rattle.trust_desk.specs.ListStep.{list_body, list_for, reasons_for}
 pub use Rattle.trust_desk.specs.Imports.{AlwaysSound, AreBelow, AreFirst, AreRead, Imports, IsStop, IsUnnamed, KeepsAllUnnamed, Told, counted_stop, stop_at}
-pub use Rattle.trust_desk.specs.ItemStep.{after_item, after_items, after_told, balance_item, balance_on, count_item, counted_as, counted_by, counted_of, counted_verdict, counts_after, firm_line_on, names_item, none_counted, statement_day}
+pub use Rattle.trust_desk.specs.ItemStep.{after_item, after_items, after_told, balance_item, balance_on, count_item, counted_as, counted_by, counted_of, counted_verdict, counts_after, firm_line_on, names_item, none_counted}
 pub use Rattle.trust_desk.specs.Plan.{IsReadFor, status_of_edit, IsReadOf}
 pub use Rattle.trust_desk.specs.Replies.{body_of, is_fault_body, is_fault_reply, json_reply, made_text, refused, replied, reply_for, reply_of, said, shown_text, success_of, text_reply}
-pub use Rattle.trust_desk.specs.Reports.{text_of}
-unfoldable pub use Rattle.trust_desk.specs.Reports.{clients_report, exceptions_report, has_no_statement, journal_report, own_card_report, reconciliation_report, retention_report, trial_report}
 pub use Rattle.trust_desk.specs.Solo.{own_reply, own_rows, solo_replies, solo_rows}
 pub use Rattle.trust_desk.specs.declared.importing.Counted.{Counted}
 pub use Rattle.trust_desk.specs.declared.importing.ImportEnd.{ImportEnd}
@@ -85,7 +74,6 @@ pub use Rattle.trust_desk.specs.declared.requests.Request.{Request}
 pub use Rattle.std.proofs.lemmas.Int.{ints}
 pub use Rattle.statement_match.proofs.Picks.{found_passes}
 pub use Rattle.trust_store.specs.Named.{IsPartFor}
-pub use Rattle.firm_rows.specs.Countable.{AreCountable, IsBalanceInRange, IsFirmLineInRange, IsLineInRange, IsMovementInRange, IsRowInRange}
-pub use Rattle.trust_desk.specs.Kept.{IsKeptOf}
+pub use Rattle.matter_rows.specs.declared.act.Caller.{Caller}
 pub use Rattle.trust_base.specs.declared.refusal.Refusal.TheVariants.{Memory}
 pub use Rattle.trust_store.specs.Seen.{Seen}

@@ -3,7 +3,6 @@ pub mod ItemStep
 pub mod Imports
 pub mod ImportStep
 pub mod ReportStep
-pub mod DayReports
 pub mod ListStep
 pub mod Dismissing
 pub mod MatchStep
@@ -15,11 +14,8 @@ pub mod NeverBelowZero
 pub mod Counts
 pub mod Plan
 pub mod Calls
-pub mod Checking
 pub mod Crashes
 pub mod Answered
 pub mod Applied
 pub mod Beside
-pub mod Kept
-pub mod Reports
 pub use Rattle.trust_reports.specs.TextsOfLedgers

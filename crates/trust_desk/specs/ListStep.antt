@@ -1,7 +1,7 @@
 -- What a caller is listed: its matters, what waits in them, and, for the cashier, the exceptions with their reasons.
 use Rattle.std.specs.Prelude.{ℕ, List, Result, Ok}
 use Rattle.trust_base.specs.declared.refusal.Refusal.{Refusal}
-use Rattle.trust_matter.specs.declared.ask.Caller.{Caller}
+use Rattle.matter_rows.specs.declared.act.Caller.{Caller}
 use Rattle.firm_rows.specs.Firm.{Firm}
 use Rattle.trust_matter.specs.Step.{first}
 use Rattle.firm_lists.specs.Listed.{matters_body, waiting_body}

@@ -2,7 +2,7 @@
 use Rattle.std.specs.Prelude.{◌≡◌, ◌⊎◌, ℕ, true, List, None, Some, Result, Ok, Err}
 use Rattle.trust_base.specs.declared.refusal.Refusal.{Refusal}
 use Rattle.trust_base.specs.Refusals.{is_fault}
-use Rattle.trust_matter.specs.declared.ask.Caller.{Caller}
+use Rattle.matter_rows.specs.declared.act.Caller.{Caller}
 use Rattle.firm_rows.specs.Firm.{Firm}
 use Rattle.statement_match.specs.Matched.{Matched, matched}
 use Rattle.match_bodies.specs.UnmatchedBody.{unmatched_body}

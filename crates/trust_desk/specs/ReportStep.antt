@@ -1,19 +1,18 @@
 -- Why a request for a report of the firm is refused, and the text of the report.
-use Rattle.std.specs.Prelude.{ℕ, Bool, false, List, [], ◌∷◌, Option, Some, None, Result, Ok, Err}
+use Rattle.std.specs.Prelude.{ℕ, Bool, List, [], ◌∷◌, Option, Some, None, Result, Ok, Err}
 use Rattle.trust_base.specs.declared.refusal.Rule.TheVariants as rule
 use Rattle.trust_base.specs.declared.refusal.Refusal.{Refusal}
 use Rattle.trust_base.specs.declared.refusal.Refusal.TheVariants as refusals
-use Rattle.trust_matter.specs.declared.ask.Caller.{Caller}
 use Rattle.trust_matter.specs.Step.{first}
 use Rattle.firm_rows.specs.Firm.{Firm}
-use Rattle.trust_base.specs.Periods.{Span, first_of_month}
-use Rattle.trust_desk.specs.Reports.{clients_report, disbursements_report, exceptions_report, has_no_statement, is_period_purged, is_purged_since, journal_report, month_report, outstanding_report, own_card_report, receipts_report, reconciliation_report, retention_report, trial_report}
-use Rattle.trust_desk.specs.declared.requests.DayReport.{DayReport}
-use Rattle.trust_desk.specs.declared.requests.DayReport.TheVariants.{Clients, Month, Outstanding}
-use Rattle.trust_desk.specs.declared.requests.PeriodReport.{PeriodReport}
-use Rattle.trust_desk.specs.declared.requests.PeriodReport.TheVariants.{Disbursements, Receipts}
-use Rattle.trust_desk.specs.declared.requests.Report.{Report}
-use Rattle.trust_desk.specs.declared.requests.Report.TheVariants.{Exceptions, Trial, Journal, Retention, OwnLedger}
+use Rattle.trust_base.specs.Periods.{Span}
+use Rattle.matter_rows.specs.declared.act.Caller.{Caller}
+use Rattle.book_reports.specs.ReportTexts.{day_report_text, is_day_report_purged, lacks_statement, period_report_text, report_text}
+use Rattle.book_reports.specs.Reports.{has_no_statement, is_period_purged, is_purged_since, reconciliation_report}
+use Rattle.book_reports.specs.declared.day_reports.Limits.{Limits}
+use Rattle.book_reports.specs.declared.report.DayReport.{DayReport}
+use Rattle.book_reports.specs.declared.report.PeriodReport.{PeriodReport}
+use Rattle.book_reports.specs.declared.report.Report.{Report}
 use Rattle.trust_desk.specs.ImportStep.{is_not_of_firm}
 
 -- a text, unless it is refused
@@ -24,14 +23,6 @@ text_unless (Some r) text = Err r
 -- a report of the firm is refused only because of its caller
 abbrev pub report_conditions : Caller → List (Bool × Refusal)
 report_conditions caller = (is_not_of_firm caller, refusals.NotAllowed rule.Firm) ∷ []
-
--- the text of a report on a business day
-abbrev pub report_text : Report → ℕ → Firm → List ℕ
-report_text Exceptions today firm = exceptions_report today firm
-report_text Trial today firm = trial_report today firm
-report_text Journal today firm = journal_report today firm
-report_text Retention today firm = retention_report today firm
-report_text OwnLedger today firm = own_card_report today firm
 
 -- the result of a report on a business day: its text, or the refusal
 abbrev pub report_for : Caller → Report → ℕ → Firm → Result (List ℕ) Refusal
@@ -53,18 +44,6 @@ abbrev pub reconciliation_for : Caller → ℕ → ℕ → Firm → Result (List
 reconciliation_for caller day today firm =
     text_unless (first (reconciliation_conditions caller day firm)) (reconciliation_report day firm)
 
--- no closing balance is kept of the day, which only the packet of month's end wants
-abbrev pub lacks_statement : DayReport → ℕ → Firm → Bool
-lacks_statement Clients day firm = false
-lacks_statement Outstanding day firm = false
-lacks_statement Month day firm = has_no_statement day firm
-
--- the records that the report is made of are no longer complete: of the day, or of its month up to it
-abbrev pub is_day_report_purged : DayReport → ℕ → Firm → Bool
-is_day_report_purged Clients day firm = is_period_purged day firm
-is_day_report_purged Outstanding day firm = is_period_purged day firm
-is_day_report_purged Month day firm = is_purged_since (first_of_month day) firm
-
 -- each refusal of a report as of a day with its condition, in the order of their numbers, but for that of the caller
 abbrev pub day_report_limits : DayReport → ℕ → Firm → List (Bool × Refusal)
 day_report_limits report day firm =
@@ -75,12 +54,6 @@ day_report_limits report day firm =
 abbrev pub day_report_conditions : Caller → DayReport → ℕ → Firm → List (Bool × Refusal)
 day_report_conditions caller report day firm =
     (is_not_of_firm caller, refusals.NotAllowed rule.Firm) ∷ day_report_limits report day firm
-
--- the text of a report as of a day
-abbrev pub day_report_text : DayReport → ℕ → Firm → List ℕ
-day_report_text Clients day firm = clients_report day firm
-day_report_text Outstanding day firm = outstanding_report day firm
-day_report_text Month day firm = month_report day firm
 
 -- the result of a report as of a day, on any business day
 abbrev pub day_report_for : Caller → DayReport → ℕ → ℕ → Firm → Result (List ℕ) Refusal
@@ -95,13 +68,15 @@ period_report_conditions caller period firm =
     ∷ (is_purged_since period.from firm, refusals.PeriodPurged)
     ∷ []
 
--- the text of a report of a period
-abbrev pub period_report_text : PeriodReport → Span → Firm → List ℕ
-period_report_text Receipts period firm = receipts_report period firm
-period_report_text Disbursements period firm = disbursements_report period firm
-
 -- the result of a report of a period, on any business day: its text, or the refusal with the least number whose
 -- condition holds
 abbrev pub period_report_for : Caller → PeriodReport → Span → ℕ → Firm → Result (List ℕ) Refusal
 period_report_for caller report period today firm =
     text_unless (first (period_report_conditions caller period firm)) (period_report_text report period firm)
+
+-- the text, or the refusal with the least number whose condition holds
+abbrev pub told_within : Limits → List ℕ → Result (List ℕ) Refusal
+told_within limits text =
+    text_unless
+    (first ((limits.lacks_statement, refusals.NoStatement) ∷ (limits.is_purged, refusals.PeriodPurged) ∷ []))
+    text

@@ -13,21 +13,21 @@ ghost use Rattle.trust_store.specs.Calls.{IsRead};
 ghost use Rattle.trust_desk.specs.Isolation.{IsOwn, KeepsOthers};
 ghost use Rattle.trust_desk.specs.Replies.{is_fault_reply};
 ghost use Rattle.trust_desk.specs.ReportStep.{day_report_for, period_report_for, reconciliation_for};
-ghost use Rattle.trust_desk.specs.ReportStep.{report_for, report_text};
+ghost use Rattle.trust_desk.specs.ReportStep.{report_for};
 ghost use Rattle.trust_desk.specs.Answered.{IfServed, IsAnswered, IsReplied};
 ghost use Rattle.trust_desk.specs.Calls.{Counts, KeepsBook};
 
-use crate::cleared_lines::{Beside, ClearedLines};
-use crate::day_reports::{
-    append_day_report, append_period_report, append_reconciliation, tell_within,
-};
-use crate::exceptions::{ExceptionsSink, dismiss};
+use crate::exceptions::dismiss;
 use crate::importing::{ImportEnd, ImportStop};
 use crate::requests::{
-    Body, CallerList, DayReport, End, MatchText, PeriodReport, Reply, Report, Request, RunEnd,
-    check_import, is_not_of_firm,
+    Body, CallerList, End, MatchText, Reply, Request, RunEnd, check_import, is_not_of_firm,
+    tell_within,
 };
 use crate::watching::NoWatch;
+use book_reports::{
+    ClearedLines, DayReport, PeriodReport, Report, append_day_report, append_period_report,
+    append_reconciliation, find_report,
+};
 use exception_reasons::reasons_body;
 use firm_lists::{matters_body, waiting_body};
 use matter_bodies::{entries_body, entry_body, import_body, matter_body, purge_body, receipt_body};
@@ -36,10 +36,7 @@ use std::marker::Model;
 use trust_base::{Day, Line, MatterNo, OwnedBytes, Period, Refusal, Rule, StoreFault};
 use trust_matter::{Ask, Caller, Edit, Matter, decide};
 use trust_reports::laws::whole_account_is_of_rows;
-use trust_reports::{
-    JournalSink, RetentionSink, TrialSink, account_text, journal_text, ledger_card, own_card_text,
-    retention_text, trial_text,
-};
+use trust_reports::{account_text, ledger_card};
 use trust_store::Book;
 
 // Writes the text for the reply to an ask, by the matter with the ask's change made. The entry that the ask names is
@@ -126,55 +123,6 @@ fn answer_ask<B: Book>(
     };
     book.write_change(alloc, no, &change)?;
     Ok(reply)
-}
-
-// Returns the text of a report on a business day. What the rows of a trial balance show beside it is kept in `lines`.
-//
-// Returns `Store` if the book's store failed, and `Memory` if memory ran out.
-fn find_report<B: Book>(
-    alloc: Global,
-    book: &mut B,
-    report: Report,
-    today: Day,
-    lines: &mut ClearedLines,
-) -> Result<Vec<u8>, StoreFault>
-    ensures told { (B.seen book.new).clean → (B.seen book.old).stands
-        → IfOk result (λ text. text.items ≡ report_text report today (B.seen book.old).firm) }
-    ensures read { IsRead result (B.seen book.old) (B.seen book.new) }
-{
-    let mut text = Vec::new(alloc);
-    match report {
-        Report::Exceptions => {
-            let mut exceptions = ExceptionsSink::new(alloc, today)?;
-            book.each_exception(&mut exceptions)?;
-            Ok(exceptions.finish())
-        }
-        Report::Trial => {
-            let mut trial = Beside::of(alloc, TrialSink::new(alloc), lines);
-            book.each_row(&mut trial)?;
-            book.each_firm_line(&mut trial)?;
-            let balance = trial.into_sink(lines).finish();
-            trial_text(today, &balance.lines, balance.own, balance.total, &mut text)?;
-            Ok(text)
-        }
-        Report::Journal => {
-            let mut journal = JournalSink::new(alloc);
-            book.each_movement(&mut journal)?;
-            journal_text(today, &journal.finish(), &mut text)?;
-            Ok(text)
-        }
-        Report::Retention => {
-            let mut retention = RetentionSink::new(alloc, today);
-            book.each_row(&mut retention)?;
-            retention_text(today, &retention.finish(), &mut text)?;
-            Ok(text)
-        }
-        Report::OwnLedger => {
-            let ledger = book.firm(alloc)?;
-            own_card_text(today, &ledger, &mut text)?;
-            Ok(text)
-        }
-    }
 }
 
 // Returns the body of a caller's list.

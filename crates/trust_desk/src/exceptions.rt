@@ -1,9 +1,8 @@
-//! The exceptions of a book: their text, and how one is dismissed.
+//! How an exception of a book is dismissed.
 
-ghost use Rattle.std.specs.Prelude.{◌≡◌, ◌++◌, ◌||◌, [], IfOk, false};
+ghost use Rattle.std.specs.Prelude.{◌≡◌, ◌||◌, IfOk, false};
 ghost use Rattle.trust_base.specs.LineOrder.{is_same_line};
 ghost use Rattle.trust_store.specs.Calls.{IsRead};
-ghost use Rattle.trust_reports.specs.TextsOfLists.{exception_line, exceptions_text};
 ghost use Rattle.trust_desk.specs.Calls.{Counts, KeepsBook};
 ghost use Rattle.trust_desk.specs.Dismissing.{EndsDismiss, after_dismissing, is_exception};
 ghost use Rattle.trust_desk.specs.Counts.{counted_end};
@@ -13,53 +12,9 @@ ghost use Rattle.trust_desk.specs.Crashes.{MayLeaveChange, is_fault_end};
 use crate::requests::{Body, Reply, is_not_of_firm};
 use firm_rows::ExceptionSink;
 use std::alloc::{AllocError, Global};
-use std::marker::Model;
-use trust_base::{Day, Line, OwnedBytes, Refusal, Rule, StoreFault};
+use trust_base::{Line, OwnedBytes, Refusal, Rule, StoreFault};
 use trust_matter::Caller;
-use trust_reports::{exception_line, exceptions_text};
 use trust_store::Book;
-
-/// Writes the exceptions on a business day, each as it is received.
-///
-/// Contracts see it as the text so far.
-#[derive(Drop)]
-pub struct ExceptionsSink {
-    text: Vec<u8>,
-}
-
-impl Model for ExceptionsSink {
-    ghost use Rattle.std.specs.Prelude.{ℕ, List};
-
-    ghost Value = { List ℕ };
-
-    ghost view = { λ s. s.text.items };
-}
-
-impl ExceptionsSink {
-    /// Begins with the heading. The only error is out of memory.
-    pub fn new(alloc: Global, today: Day) -> Result<ExceptionsSink, AllocError>
-        ensures { IfOk result (λ sink. sink ≡ exceptions_text today []) }
-    {
-        let mut text = Vec::new(alloc);
-        exceptions_text(today, &[], &mut text)?;
-        Ok(ExceptionsSink { text })
-    }
-
-    /// Returns the text.
-    pub fn finish(self) -> Vec<u8>
-        ensures { result.items ≡ self }
-    {
-        self.text
-    }
-}
-
-impl ExceptionSink for ExceptionsSink {
-    ghost noted = { λ text line. text ++ exception_line line };
-
-    fn exception(&mut self, line: &Line) -> Result<(), AllocError> {
-        exception_line(line, &mut self.text)
-    }
-}
 
 // Searches for a line among those that it receives.
 #[derive(Drop)]

@@ -1,24 +1,13 @@
-//! The desk of the firm: it answers what callers ask about matters, and writes the reports of a firm from the rows of
-//! any book, one row at a time.
+//! The desk of the firm: it answers what callers ask about matters and of the firm, and imports what the bank sends,
+//! over any book.
 //!
 //! # What is promised
 //!
 //! By public call, with the clauses of its contract in brackets.
 //!
-//! - within the crate `find_report`: over every book: the bytes of each report on the firm are those of the definition,
-//!   of the book's rows (`told`); nothing changes, after a crash neither (`read`).
 //! - within the crate `answer_reconciliation`: of the cashier's request: NoStatement exactly if no closing balance of
 //!   the day is kept, else PeriodPurged exactly if a matter that was closed after the day has been purged, else the
 //!   text; nothing changes, after a crash neither (`IsAnswered`, `reconciliation_for`).
-//! - within the crate `append_day_report`, `append_period_report`: over every book: the bytes of each report as of a
-//!   day and of a period, the packet of month's end among them, are those of the definition, of one state of the book's
-//!   rows, and whether they may be told is found of the same rows (`told`); nothing changes, after a crash neither
-//!   (`read`).
-//!
-//! Each report goes over the rows one at a time, and keeps sums and what it prints; the reconciliation also keeps the
-//! payments issued and not voided by its day, of which it lists those with another's instrument, and the balances dated
-//! by its day.
-//!
 //! - `Desk::answer`: over every book: reply and rows are those of the firm's step; or the store or memory stopped it,
 //!   which the reply says with the status 503, and nothing changed, except that the first items of an import may have
 //!   been applied (`step` of `replied`). The rows of every matter that the request does not concern stay (`others`);
@@ -39,14 +28,9 @@
 //! - `Desk::match_statement`: over every book: a statement whose references may be empty is refused as an import of it
 //!   would be, or becomes the statement for the import and the records that are left, as the definition gives them for
 //!   the day and the firm's rows (`matched`); the firm stays as it is (`same`), also after a crash (`crash`).
-//! - `Desk::check`: over every book whose store can be read as rows, **sound or not: it finds no flaw exactly if the
-//!   rows are those of a sound firm** (`sound`), and a flaw that it finds is there (`flaw`); there are as many matters,
-//!   entries, movements, lines of the firm's own, exceptions and balances as it says (`counts`); the book stays as it
-//!   is, after a crash too (`read`). An error wants no cause.
-//! - `Desk::find_unread`: it reads, and any of its reads may fail: the book stays as it is, also after a crash if the
-//!   store still serves (`reads`), as it does after an Ok (`serves`). No clause says what it finds.
-//! - `Desk::tell_exceptions`, `tell_rows`, `tell_outstanding`: the book stays as it is, after a crash too (`read`). No
-//!   clause says what is reported.
+//! - `Desk::check`, `find_unread`, `tell_rows`, `tell_earlier`, `tell_outstanding`: what `book_reports` promises of the
+//!   same names, of the desk's book.
+//! - `Desk::tell_exceptions`: the book stays as it is, after a crash too (`read`). No clause says what is reported.
 //! - `Desk::apply_line`: an item of a statement, a matter's line, one of the firm's own, or a balance, is a step of the
 //!   definition and is counted as it says, or nothing changed (`step`, `err`). A matter that the item does not name
 //!   does not change (`others`), and of the one that it names it leaves the rows that the matter's own machine leaves
@@ -75,32 +59,23 @@
 //! The laws of its runs are in the crate `desk_laws`.
 #![tactic(auto)]
 
-mod checking;
-mod cleared_lines;
-mod day_reports;
 mod desk;
 mod exceptions;
 mod explaining;
 mod importing;
 mod matching;
-mod outstanding;
+mod reading;
 mod requests;
-mod unread;
 mod watching;
 
-pub use checking::{Checked, RowCounts};
-pub use cleared_lines::ClearedLines;
+pub use book_reports::{
+    AppliedLine, Checked, ClearedLine, ClearedLines, DayReport, EarlierWatch, Flaw, PaymentWatch,
+    PeriodReport, Report, RowCounts, RowWatch, Unread,
+};
 pub use desk::Desk;
-pub use firm_audit::Flaw;
 pub use importing::{Counted, ImportEnd, ImportStop};
 pub use matter_bodies::{ImportReply, entry_body, import_body, matter_body, receipt_body};
-pub use requests::{
-    Body, CallerList, DayReport, End, MatchText, PeriodReport, Reply, Report, Request, RunEnd,
-};
+pub use requests::{Body, CallerList, End, MatchText, Reply, Request, RunEnd};
 pub use statement_match::Matched;
 pub use trust_base::OwnedBytes;
-pub use unread::Unread;
-pub use watching::{
-    AppliedLine, At, ClearedLine, EarlierWatch, ItemWatch, NoWatch, NotApplied, PaymentWatch,
-    RowWatch,
-};
+pub use watching::{At, ItemWatch, NoWatch, NotApplied};

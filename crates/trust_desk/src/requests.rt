@@ -1,47 +1,16 @@
 //! The requests that the desk takes, and its replies.
 
-ghost use Rattle.std.specs.Prelude.{◌≡◌};
+ghost use Rattle.std.specs.Prelude.{◌≡◌, IfOk, false};
+ghost use Rattle.trust_desk.specs.Crashes.{is_fault_end};
 ghost use Rattle.trust_desk.specs.ImportStep.{IsChecked, import_refusal, is_not_of_firm};
+ghost use Rattle.trust_desk.specs.Replies.{is_fault_reply, reply_for, text_reply};
+ghost use Rattle.trust_desk.specs.ReportStep.{told_within};
 
+use book_reports::{DayReport, Limits, PeriodReport, Report};
 use statement_csv::{Lines, ReadFault};
 use std::alloc::Global;
 use trust_base::{Day, Field, Line, MAX_FILE_BYTES, MatterNo, OwnedBytes, Period, Refusal, Rule};
 use trust_matter::{Ask, Caller};
-
-/// A report on the whole firm on a business day. The cashier is refused none of these.
-#[derive(Clone, Copy)]
-pub enum Report {
-    /// The exceptions: the unmatched bank lines.
-    Exceptions,
-    /// The trial balance: the ledger of each open matter, the firm's own, and their sum.
-    Trial,
-    /// The journal: all movements in the order of acceptance.
-    Journal,
-    /// The retention list: how long the records of each closed matter are kept.
-    Retention,
-    /// The ledger card of the firm's own money.
-    OwnLedger,
-}
-
-/// A report on the whole firm as of a day, which only the cashier may ask for.
-#[derive(Clone, Copy)]
-pub enum DayReport {
-    /// The list of clients: the ledger of each matter that was open, its client, the firm's own, and their sum.
-    Clients,
-    /// What waits for the bank: the deposits in transit and the outstanding payments, with their names.
-    Outstanding,
-    /// The packet of month's end: the reconciliation, the two above, and the receipts and disbursements of the month.
-    Month,
-}
-
-/// A report on the whole firm of a period, which only the cashier may ask for.
-#[derive(Clone, Copy)]
-pub enum PeriodReport {
-    /// The journal of receipts, with names.
-    Receipts,
-    /// The journal of disbursements, with names.
-    Disbursements,
-}
 
 /// A list of what a caller may see of the matters: each that is not purged for the cashier, and for a person each in
 /// which the person has a seat.
@@ -191,6 +160,24 @@ impl Reply {
             body: Body::Refused(refusal),
         }
     }
+}
+
+/// The reply that tells a report, unless it is refused.
+pub(crate) fn tell_within(limits: Limits, text: Vec<u8>) -> Result<Reply, Refusal>
+    ensures says { reply_for result ≡ text_reply (told_within limits text.items) }
+    ensures plain { IfOk result (λ reply. is_fault_reply reply ≡ false) }
+    ensures fine { is_fault_end result ≡ false }
+{
+    if limits.lacks_statement {
+        return Err(Refusal::NoStatement);
+    }
+    if limits.is_purged {
+        return Err(Refusal::PeriodPurged);
+    }
+    Ok(Reply {
+        status: 200,
+        body: Body::Text(OwnedBytes::new(text)),
+    })
 }
 
 /// How a run of requests ended.

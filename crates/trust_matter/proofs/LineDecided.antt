@@ -1,5 +1,6 @@
 -- What is decided of a line on what is kept is decided on the rows.
 use Rattle.trust_matter.proofs.Names.{AreSmallTotals, BankLine, DatedEdit, EditMoved, Entry, Head, IsApplied, IsLineDecided, IsMade, IsPart, LineEffect, LineFacts, MatterChange, None, Option, Part, Reason, Rows, Some, Sound, TotalsAfter, ap, arith, common_steps, dated_by, entry_at, entry_in, false, first_reason, held-entry, holds_for_line, is_held, is_held_or_none, is_line_again, kept_at, kept_line_facts, line_effect, line_on, never-store, reasons, refl, subst, sym, target_in, true, ℕ, ℤ, ◌∙◌, ◌≡◌}
+use Rattle.trust_matter.specs.LineStep.{line_act}
 use Rattle.trust_matter.specs.declared.line_verdict.LineEffect.TheVariants as told
 use Rattle.trust_matter.proofs.LineSteps.{applied-step}
 use Rattle.trust_matter.proofs.Parts.{both, made-is}
@@ -25,14 +26,18 @@ line-same : (m : Part) (rows : Rows) (l : BankLine) (today : ℕ) → holds_for_
 line-same m rows l today h p = grind (arith, line_effect, entry-same)
 
 -- the change made of an applied line is one of the rows
-pub line-made : (m : Part) (l : BankLine) (today : ℕ) (d : DatedEdit) (c : MatterChange) → holds_for_line m l.entry ≡ true → told.Applied d ≡ kept_edit m l today → IsMade m d.edit d.last c → (rows : Rows) → Sound rows → IsPart m rows → IsLineDecided rows l today c
-line-made m l today d c h is made rows s p =
+pub line-made : (m : Part) (l : BankLine) (today : ℕ) (d : DatedEdit) (c : MatterChange) (e : Entry)
+    → holds_for_line m l.entry ≡ true → told.Applied d ≡ kept_edit m l today → IsMade m d.edit d.last c
+    → entry_in (kept_at m l.entry) ≡ Some e → c.act ≡ Some (line_act (Some e) l today) → (rows : Rows) → Sound rows
+    → IsPart m rows → IsLineDecided rows l today c
+line-made m l today d c e h is made there has rows s p =
     let on-rows : line_on rows l today ≡ told.Applied d = sym (is ∙ line-same m rows l today h p) in
     record {
       applied = on-rows ∙ rw (made.of_edit, made.on_day) refl;
       change =
           made-is m rows (target_in (entry_at rows.entries l.entry)) l.entry d.last d.edit c p s
           (applied-step rows l today d s on-rows) made;
+      act = has ∙ ap (λ (o : Option Entry). Some (line_act o l today)) (sym there ∙ entry-same m rows l h p);
     }
 
 -- and there is such a change

@@ -24,6 +24,7 @@ pub use Rattle.matter_rows.specs.Shares.{against_no, cleared_deposit, from_gener
 unfoldable pub use Rattle.matter_rows.specs.Shares.{available_share, draw, held_share, pending_share, worth}
 pub use Rattle.matter_rows.specs.Sound.{AreBacked, AreDated, AreInOrder, IsAtRestIfClosed, IsBy, IsHeaded, IsRanged, IsRising, Sound, deposit_bank, deposit_days, part_of, payment_bank, payment_days, settlement_day}
 unfoldable pub use Rattle.matter_rows.specs.Sound.{days_of}
+pub use Rattle.matter_rows.specs.declared.act.Caller.{Caller}
 pub use Rattle.matter_rows.specs.declared.claim.Against.{Against}
 pub use Rattle.matter_rows.specs.declared.claim.ClaimState.{ClaimState}
 pub use Rattle.matter_rows.specs.declared.deposit.Deposit.{Deposit}
@@ -54,7 +55,6 @@ pub use Rattle.trust_matter.specs.LineStep.{IsApplied, IsLineDecided, LineDecide
 pub use Rattle.trust_matter.specs.Policy.{changes_matter, rule_against, rule_of, allows}
 pub use Rattle.trust_matter.specs.Step.{Answers, AnswersBy, AnswersLateBy, Decides, HasAmount, MayRefuse, after, cancelled, claim_of, conditions, decided, deposit_of, early_conditions, edit_of, edit_on, fee_of, first, late_refusal, later_conditions, opening, payment_of, refusal, refusal_of, settled, voided, with_claim, with_payment}
 pub use Rattle.trust_matter.specs.declared.ask.Ask.{Ask}
-pub use Rattle.trust_matter.specs.declared.ask.Caller.{Caller}
 pub use Rattle.trust_matter.specs.declared.ask.DepositAsk.{DepositAsk}
 pub use Rattle.trust_matter.specs.declared.ask.FeeAsk.{FeeAsk}
 pub use Rattle.trust_matter.specs.declared.ask.OpenAsk.{OpenAsk}

@@ -5,9 +5,9 @@ use Rattle.matter_rows.specs.declared.claim.Against.TheVariants as against
 use Rattle.matter_rows.specs.declared.deposit.DepositState.TheVariants as deposit
 use Rattle.matter_rows.proofs.Funding.{funded-added, funded-exchanged}
 use Rattle.matter_rows.proofs.SeatOrder.{order-with, order-without}
+use Rattle.matter_rows.specs.declared.act.Caller.TheVariants as caller
 use Rattle.matter_parts.specs.declared.edit.Edit.TheVariants as edit
 use Rattle.trust_matter.specs.declared.ask.Ask.TheVariants as ask
-use Rattle.trust_matter.specs.declared.ask.Caller.TheVariants as caller
 
 -- the seats of an open matter change
 rows-seats : (h : Head) (seats new : List Seat) (es : List Entry) (last : ℕ) → Sound (rows-of (Some h) seats es)

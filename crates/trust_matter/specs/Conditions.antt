@@ -17,12 +17,12 @@ use Rattle.matter_rows.specs.declared.entry.Entry.TheVariants as entry
 use Rattle.matter_rows.specs.Shares.{has_settled}
 use Rattle.matter_rows.specs.Balances.{is_fee, is_general_claim, exceeds, fund_left}
 use Rattle.matter_rows.specs.Rows.{is_purged, role_in, last_of, closed_on, next_number, has_other_lawyer, is_held_state, is_issued_state, is_lawyer, is_number, is_proposed_state, is_same_against, is_same_fund}
+use Rattle.matter_rows.specs.declared.act.Caller.{Caller}
+use Rattle.matter_rows.specs.declared.act.Caller.TheVariants as caller
 use Rattle.trust_matter.specs.declared.ask.DepositAsk.{DepositAsk}
 use Rattle.trust_matter.specs.declared.payment.PaymentAsk.{PaymentAsk}
 use Rattle.trust_matter.specs.declared.ask.FeeAsk.{FeeAsk}
 use Rattle.trust_matter.specs.declared.claim.ClaimAsk.{ClaimAsk}
-use Rattle.trust_matter.specs.declared.ask.Caller.{Caller}
-use Rattle.trust_matter.specs.declared.ask.Caller.TheVariants as caller
 use Rattle.trust_matter.specs.declared.ask.Ask.{Ask}
 use Rattle.trust_matter.specs.declared.ask.Ask.TheVariants as ask
 use Rattle.trust_matter.specs.Policy.{rule_of, changes_matter, allows}

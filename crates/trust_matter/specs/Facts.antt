@@ -1,12 +1,12 @@
 -- What is known about a matter and an ask: everything that the answer depends on.
-use Rattle.std.specs.Prelude.{ℕ, List, length, ℤ, Option}
+use Rattle.std.specs.Prelude.{ℕ, List, length, ℤ, Option, Some, None}
 use Rattle.matter_rows.specs.declared.head.Head.{Head}
 use Rattle.matter_rows.specs.declared.seat.Seat.{Seat}
 use Rattle.matter_rows.specs.declared.entry.Entry.{Entry}
 use Rattle.matter_rows.specs.Rows.{Rows, entry_at}
 use Rattle.matter_rows.specs.Shares.{fund_no, against_no, target_in}
 use Rattle.matter_rows.specs.Balances.{available, ledger, pending, left_in}
-use Rattle.trust_matter.specs.declared.ask.Caller.{Caller}
+use Rattle.matter_rows.specs.declared.act.Caller.{Caller}
 use Rattle.trust_matter.specs.declared.ask.Ask.{Ask}
 use Rattle.trust_matter.specs.declared.ask.Ask.TheVariants as ask
 
@@ -54,6 +54,23 @@ number_named ask.ShowEntries = 0
 number_named ask.Accounting = 0
 number_named (ask.Account p) = 0
 number_named (ask.ShowEntry n) = n
+
+-- the number of the entry that an ask names, if any
+abbrev pub entry_named : Ask → Option ℕ
+entry_named (ask.Deposit a) = Some a.number
+entry_named (ask.CancelDeposit n) = Some n
+entry_named (ask.Propose a) = Some a.number
+entry_named (ask.Approve n) = Some n
+entry_named (ask.Decline n) = Some n
+entry_named (ask.Withdraw n) = Some n
+entry_named (ask.VoidPayment n) = Some n
+entry_named (ask.EarnFee a) = Some a.number
+entry_named (ask.RaiseClaim a) = Some a.number
+entry_named (ask.Offer a) = Some a.number
+entry_named (ask.Accept a) = Some a.number
+entry_named (ask.Award a) = Some a.number
+entry_named (ask.ShowEntry n) = Some n
+entry_named _ = None
 
 -- the number of the fee or claim that the ask itself names, or 0
 abbrev pub fund_named : Ask → ℕ

@@ -1,3 +1,4 @@
+pub mod Acts
 pub mod ClaimTables
 pub mod Conditions
 pub mod Facts

@@ -6,9 +6,12 @@ use Rattle.trust_base.specs.declared.refusal.StoreFault.TheVariants as faults
 use Rattle.matter_rows.specs.declared.head.Head.{Head}
 use Rattle.matter_rows.specs.declared.entry.Entry.{Entry}
 use Rattle.matter_rows.specs.declared.entry.Entry.TheVariants as entry
+use Rattle.matter_rows.specs.declared.act.Act.{Act}
+use Rattle.matter_rows.specs.declared.act.Deed.TheVariants as deed
 use Rattle.matter_rows.specs.Rows.{is_gone, Rows, entry_at, last_of, entry_amount, is_held_state, is_issued_state}
 use Rattle.matter_rows.specs.Balances.{available, exceeds}
 use Rattle.matter_rows.specs.Clearings.{cleared_payment, deposit_by, has_its_amount, is_line_again, is_return}
+use Rattle.matter_rows.specs.declared.act.Caller.TheVariants as caller
 use Rattle.matter_parts.specs.declared.edit.Edit.{Edit}
 use Rattle.matter_parts.specs.declared.edit.Edit.TheVariants as edit
 use Rattle.matter_parts.specs.Changes.{MatterChange, IsChange, changed_by}
@@ -131,10 +134,20 @@ after_line_effect (told.Unmatched r) rows = rows
 abbrev pub rows_after_line : Rows → BankLine → ℕ → Rows
 rows_after_line rows l today = after_line_effect (line_on rows l today) rows
 
--- the line is applied, and the change is that of the rows
+-- what an applied line is remembered as: an act of the cashier on the business day, of the entry that the line names
+abbrev pub line_act : Option Entry → BankLine → ℕ → Act
+line_act e l today = record {
+  entry = Some l.entry;
+  day = today;
+  caller = caller.Cashier;
+  deed = if is_return e l.line then deed.Returned else deed.Cleared;
+}
+
+-- the line is applied, and the change is that of the rows, with the act that it is remembered by
 pub record IsLineDecided (rows : Rows) (l : BankLine) (today : ℕ) (c : MatterChange) : Type 0 where
   pub applied : line_on rows l today ≡ told.Applied (record { edit = c.edit; last = c.last })
   pub change : IsChange rows c
+  pub act : c.act ≡ Some (line_act (entry_at rows.entries l.entry) l today)
 
 abbrev pub IsApplied : LineEffect → Type 0
 IsApplied (told.Applied e) = Unit {0}

@@ -10,8 +10,8 @@ use Rattle.matter_rows.specs.declared.seat.Seat.{Seat}
 use Rattle.matter_rows.specs.declared.claim.Against.{Against}
 use Rattle.matter_rows.specs.declared.claim.Against.TheVariants as against
 use Rattle.matter_rows.specs.Rows.{role_in}
-use Rattle.trust_matter.specs.declared.ask.Caller.{Caller}
-use Rattle.trust_matter.specs.declared.ask.Caller.TheVariants as caller
+use Rattle.matter_rows.specs.declared.act.Caller.{Caller}
+use Rattle.matter_rows.specs.declared.act.Caller.TheVariants as caller
 use Rattle.trust_matter.specs.declared.ask.Ask.{Ask}
 use Rattle.trust_matter.specs.declared.ask.Ask.TheVariants as ask
 

@@ -13,11 +13,14 @@ use Rattle.matter_rows.specs.declared.claim.ClaimState.{ClaimState}
 use Rattle.matter_rows.specs.declared.claim.ClaimState.TheVariants as claim
 use Rattle.matter_rows.specs.declared.entry.Entry.{Entry}
 use Rattle.matter_rows.specs.declared.entry.Entry.TheVariants as entry
+use Rattle.matter_rows.specs.declared.act.Act.{Act}
 use Rattle.matter_rows.specs.Rows.{Rows, last_of, closed_on, next_number}
 use Rattle.matter_parts.specs.declared.edit.Opening.{Opening}
 use Rattle.matter_parts.specs.declared.edit.Edit.{Edit}
 use Rattle.matter_parts.specs.declared.edit.Edit.TheVariants as edit
-use Rattle.matter_parts.specs.Changes.{MatterChange, IsChange, changed_by, last_after}
+use Rattle.matter_parts.specs.Changes.{MatterChange, IsChange, AreSmallTotals, changed_by, last_after}
+use Rattle.matter_parts.specs.Parts.{Part}
+use Rattle.matter_parts.specs.TotalsAfter.{EditMoved, TheTotalsAfter}
 use Rattle.trust_matter.specs.declared.ask.OpenAsk.{OpenAsk}
 use Rattle.trust_matter.specs.declared.ask.DepositAsk.{DepositAsk}
 use Rattle.trust_matter.specs.declared.payment.PaymentAsk.{PaymentAsk}
@@ -25,6 +28,7 @@ use Rattle.trust_matter.specs.declared.ask.FeeAsk.{FeeAsk}
 use Rattle.trust_matter.specs.declared.claim.ClaimAsk.{ClaimAsk}
 use Rattle.trust_matter.specs.declared.ask.Ask.{Ask}
 use Rattle.trust_matter.specs.declared.ask.Ask.TheVariants as ask
+use Rattle.trust_matter.specs.Acts.{act_by}
 use Rattle.trust_matter.specs.Policy.{rule_of}
 use Rattle.trust_matter.specs.Facts.{Facts, Asked, facts_of}
 use Rattle.trust_matter.specs.Conditions.{has_no_seat, was_purged, is_not_allowed, is_opened_already, is_closed, goes_backwards, misses, is_not_next, is_not_there, is_of_another_kind, is_in_another_state, is_to_cash, is_to_wrong_payee, is_bad_split, is_short, left_for, has_a_seat_already, has_none_to_drop, would_lose_its_last_lawyer, is_not_empty, is_too_early, purge_day, is_repeat}
@@ -205,6 +209,10 @@ refusal rows a = refusal_of (facts_of rows a.ask) a
 abbrev pub edit_on : Rows → Asked → Edit
 edit_on rows a = decided (facts_of rows a.ask) a
 
+-- what an accepted ask is remembered as: nothing if it changes nothing, and nothing of a purge, which leaves no records
+abbrev pub act_on : Rows → Asked → Option Act
+act_on rows a = act_by (edit_on rows a) a
+
 abbrev pub after : Option Refusal → Edit → ℕ → Rows → Rows
 after None e day rows = changed_by e (last_after rows.head e day) rows
 after (Some r) e day rows = rows
@@ -221,12 +229,13 @@ HasAmount (ask.EarnFee a) = IsAmount a.amount
 HasAmount (ask.RaiseClaim a) = IsAmount a.amount
 HasAmount _ = Unit {0}
 
--- the ask is accepted, and the change is that of the rows
+-- the ask is accepted, and the change is that of the rows, with the act that it is remembered by
 pub record IsDecided (rows : Rows) (a : Asked) (c : MatterChange) : Type 0 where
   pub accepted : refusal rows a ≡ None
   pub edit : c.edit ≡ edit_on rows a
   pub last : c.last ≡ last_after rows.head (edit_on rows a) a.day
   pub change : IsChange rows c
+  pub act : c.act ≡ act_on rows a
 
 -- the possible refusals: the ask's own, or out of memory if it has none; never a store fault
 abbrev pub MayRefuse : Option Refusal → Refusal → Type 0
@@ -251,3 +260,9 @@ AnswersBy f a result = Answers (refusal_of f a) (decided f a) result
 -- the same, if the caller may ask and the matter was not purged
 abbrev pub AnswersLateBy : Facts → Asked → Result Edit Refusal → Type 0
 AnswersLateBy f a result = Answers (late_refusal f a) (decided f a) result
+
+-- why no change is made of an edit: for want of memory, or as no totals are those after it
+abbrev pub WhyNotMade : Part → Edit → Refusal → Type 0
+WhyNotMade m e refusals.Memory = Unit {0}
+WhyNotMade m e refusals.Store = (v : TheTotalsAfter) → AreSmallTotals v → EditMoved m e v → ⊥
+WhyNotMade m e _ = ⊥

@@ -1,21 +1,14 @@
-//! Asks of a matter: who asks, and for what.
+//! Asks of a matter.
 
 ghost use Rattle.std.specs.Prelude.{◌≡◌};
 ghost use Rattle.matter_rows.specs.Shares.{number_or_none};
 ghost use Rattle.trust_matter.specs.Conditions.{is_text, is_whole};
-ghost use Rattle.trust_matter.specs.Facts.{fund_named, number_named};
+ghost use Rattle.trust_matter.specs.Facts.{entry_named, fund_named, number_named};
 
 use crate::claim::{ClaimAsk, SplitAsk};
 use crate::payment::PaymentAsk;
 use matter_rows::Seat;
 use trust_base::{Cents, EntryNo, Label, Period, PersonId};
-
-/// The cashier of the firm, or a person by name.
-#[derive(Drop)]
-pub enum Caller {
-    Cashier,
-    Person(PersonId),
-}
 
 /// Asks to open a matter for a client, with a first lawyer.
 #[derive(Drop)]
@@ -107,7 +100,8 @@ impl Ask {
 
     /// The number of the entry that it names, if any.
     pub fn number(&self) -> Option<EntryNo>
-        ensures { number_or_none result ≡ number_named self.now }
+        ensures is { number_or_none result ≡ number_named self.now }
+        ensures named { result ≡ entry_named self.now }
     {
         match self {
             Ask::Deposit(asked) => Some(asked.number),

@@ -4,8 +4,8 @@ ghost use Rattle.std.specs.Prelude.{◌≡◌, IfOk, MatchResult, None, Some, po
 ghost use Rattle.std.specs.Option.{option_copied};
 ghost use Rattle.trust_base.specs.Limits.{IsAmount};
 ghost use Rattle.matter_rows.specs.Shares.{against_no};
+ghost use Rattle.matter_rows.specs.declared.act.Caller.{Caller as AnyCaller};
 ghost use Rattle.matter_parts.specs.Parts.{kept_at, entry_in, left_kept};
-ghost use Rattle.trust_matter.specs.declared.ask.Caller.{Caller as AnyCaller};
 ghost use Rattle.trust_matter.specs.Conditions.{against_left, is_claim_asked};
 ghost use Rattle.trust_matter.specs.KeptFacts.{kept_facts};
 ghost use Rattle.trust_matter.specs.ClaimTables.{against_conditions, split_conditions};

@@ -6,19 +6,23 @@ ghost use Rattle.trust_base.specs.declared.refusal.Refusal.TheVariants as refusa
 ghost use Rattle.trust_base.specs.Limits.{IsAmount};
 ghost use Rattle.matter_rows.specs.Rows.{Rows, next_number};
 ghost use Rattle.matter_rows.specs.Sound.{Sound};
+ghost use Rattle.matter_rows.specs.declared.act.Caller.{Caller as AnyCaller};
+ghost use Rattle.matter_parts.specs.Changes.{last_after};
 ghost use Rattle.matter_parts.specs.Parts.{IsPart};
-ghost use Rattle.trust_matter.specs.declared.ask.Caller.{Caller as AnyCaller};
+ghost use Rattle.matter_parts.specs.TotalsAfter.{IsMade};
+ghost use Rattle.trust_matter.specs.Acts.{act_by};
 ghost use Rattle.trust_matter.specs.KeptFacts.{kept_facts, holds_for};
-ghost use Rattle.trust_matter.specs.Step.{AnswersLateBy, Decides, change_conditions, early_conditions, first};
+ghost use Rattle.trust_matter.specs.Step.{AnswersLateBy, Decides, WhyNotMade, change_conditions, early_conditions, first};
 
-use crate::ask::{Ask, Caller, DepositAsk, FeeAsk};
+use crate::act::act_by;
+use crate::ask::{Ask, DepositAsk, FeeAsk};
 use crate::claim::{decide_accept, decide_award, decide_claim, decide_offer};
 use crate::head::{decide_add_seat, decide_close, decide_drop_seat, decide_open, decide_purge};
 use crate::payment::{
     decide_approve, decide_decline, decide_propose, decide_void, decide_withdraw,
 };
 use matter_parts::{Change, Edit, Kept, Matter, Numbered, change_of};
-use matter_rows::{Against, Deposit, DepositState, Entry, Fee, Role};
+use matter_rows::{Against, Caller, Deposit, DepositState, Entry, Fee, Role};
 use trust_base::{Day, EntryNo, Refusal, Rule};
 
 /// Decides an ask of a caller on a business day. Returns the change that it makes, or the refusal with the least number
@@ -68,12 +72,29 @@ pub fn decide(matter: &Matter, caller: &Caller, ask: &Ask, day: Day) -> Result<C
         Ask::ShowEntry(number) => decide_show_entry(matter, *number, day),
     };
     let edit = decided?;
+    change_by(matter, caller, ask, edit, day)
+}
+
+// The change of an edit that an ask makes, with the act that it is remembered by.
+fn change_by(
+    matter: &Matter,
+    caller: &Caller,
+    ask: &Ask,
+    edit: Edit,
+    day: Day,
+) -> Result<Change, Refusal>
+    ensures { MatchResult result
+        (λ c. IsMade matter.now edit (last_after matter.now.head edit day) c
+        × (c.act ≡ act_by edit (record { caller = caller.now; ask = ask.now; day = day })))
+        (λ r. WhyNotMade matter.now edit r) }
+{
     // What changes nothing leaves the last day as it is.
     let last = match (matter.head(), &edit) {
         (Some(head), Edit::Nothing) => head.last,
         _ => day,
     };
-    change_of(matter, edit, last)
+    let act = act_by(&edit, caller, ask, day)?;
+    change_of(matter, edit, last, act)
 }
 
 // Refuses a caller for whom the matter does not exist, any ask of a purged matter, and what the policy forbids.

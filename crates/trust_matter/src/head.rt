@@ -1,7 +1,7 @@
 //! Asks to open, close or purge a matter, and about its seats.
 
 ghost use Rattle.std.specs.Prelude.{◌≡◌};
-ghost use Rattle.trust_matter.specs.declared.ask.Caller.{Caller as AnyCaller};
+ghost use Rattle.matter_rows.specs.declared.act.Caller.{Caller as AnyCaller};
 ghost use Rattle.trust_matter.specs.KeptFacts.{kept_facts};
 ghost use Rattle.trust_matter.specs.Step.{AnswersLateBy};
 

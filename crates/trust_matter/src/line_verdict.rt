@@ -8,6 +8,7 @@ ghost use Rattle.matter_parts.specs.Parts.{IsPart, kept_at};
 ghost use Rattle.trust_matter.specs.LineStep.{LineDecides, dated_by, first_reason, reasons};
 ghost use Rattle.trust_matter.specs.KeptFacts.{kept_line_facts, holds_for_line};
 
+use crate::act::line_act;
 use crate::bank_line::BankLine;
 use matter_parts::{Change, Edit, Kept, Matter, Numbered, change_of};
 use matter_rows::{Clearing, DepositState, Entry, PaymentState, ReturnedDeposit};
@@ -195,7 +196,8 @@ pub fn decide_line(matter: &Matter, line: &BankLine, today: Day) -> Result<LineV
         Err(reason) => return Ok(LineVerdict::Unmatched(reason)),
     };
     let dated = edit_by_line(matter, kept, line, today)?;
-    match change_of(matter, dated.edit, dated.last) {
+    let act = line_act(&kept.entry, line, today);
+    match change_of(matter, dated.edit, dated.last, Some(act)) {
         Ok(change) => Ok(LineVerdict::Applied(change)),
         Err(_) => Err(StoreFault::Store),
     }

@@ -10,13 +10,14 @@ use Rattle.desk_laws.specs.Purging.{IsReportedAsBefore}
 use Rattle.trust_desk.proofs.LineFacts.{kept-by_step}
 use Rattle.desk_laws.proofs.laws.purging_changes_no_figure.Goals as goal
 
--- what a purge leaves is the head alone: no entry, so no total, nothing that is left and nothing that moves
+-- what a purge leaves is the head alone: no entry, so no total, nothing that is left and nothing that moves, and no act
 abbrev purge_of : ℕ → ℕ → MatterChange
 purge_of day last = record {
   edit = edit.Purge day;
   last = last;
   moves = record { figures = no_figures; left = 0; other = None };
   movement = None;
+  act = None;
 }
 
 is-change : (rows : Rows) (day last : ℕ) → IsKept rows (edit.Purge day) last → IsChange rows (purge_of day last)

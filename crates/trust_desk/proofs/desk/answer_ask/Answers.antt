@@ -19,7 +19,7 @@ loaded g c =
       | else-is_whole w ↦ rw (w.read-is, w.book-is) (record {
         found = λ clean stands.
             IfOk-weaker w.matter_for-read.result _ _
-            (λ part is. named-for rows ask _ _ part w.number.ensures w.fund_number.ensures (sym c.is_whole.ensures ∙ w.if-is_whole.false) is)
+            (λ part is. named-for rows ask _ _ part w.number.ensures.is w.fund_number.ensures (sym c.is_whole.ensures ∙ w.if-is_whole.false) is)
             (w.matter_for-read.ensures.found clean stands);
         read = w.matter_for-read.ensures.read;
       })

@@ -1,4 +1,4 @@
-use Rattle.trust_matter.proofs.Names.{AnswersBy, Edit, HasAmount, IfOk, IsMade, Refusal, Result, kept_facts, arith, common_steps, last_after, refl, rules, subst, ℕ, ◌≡◌}
+use Rattle.trust_matter.proofs.Names.{AnswersBy, Edit, HasAmount, Refusal, Result, kept_facts, refl, subst}
 use Rattle.trust_matter.proofs.Decided.{DecidesAll, decided-made, decided-refused}
 use Rattle.trust_matter.proofs.Late.{early-refused, gives-asked, handed-up}
 use Rattle.trust_matter.proofs.StepForms.{asked}
@@ -62,7 +62,4 @@ returns-clause-decided c =
     let told = given (goal.at.returns-clause-decided c).Joined-ask-2 in
     let late =
     subst (λ (r : Result Edit Refusal). AnswersBy (kept_facts m c.args.ask.now) q r) c.in_ok-edit.was told.0 in
-    let last : c.match-head.last ≡ last_after m.head c.in_ok-edit.edit c.args.day = first_of (search rules, grind (arith, common_steps)) in
-    let made =
-    subst (λ (n : ℕ). IfOk c.change_of.result (λ x. IsMade m c.in_ok-edit.edit n x)) last c.change_of.ensures.ok in
-    decided-made m q c.in_ok-edit.edit c.change_of.result held told.1 late made c.change_of.ensures.store
+    decided-made m q c.in_ok-edit.edit c.change_by.result held told.1 late c.change_by.ensures

@@ -1,4 +1,5 @@
-use Rattle.trust_matter.proofs.Names.{Err, IsPart, LineDecides, Result, Rows, Sound, arith, common_steps, entry_in, false, is_line_again, kept_at, rules, true, ◌≡◌}
+use Rattle.matter_rows.specs.declared.act.Act.{Act}
+use Rattle.trust_matter.proofs.Names.{Err, IsPart, LineDecides, Result, Rows, Some, Sound, ap, arith, common_steps, entry_in, false, is_line_again, kept_at, rules, true, ◌∙◌, ◌≡◌}
 use Rattle.trust_base.specs.declared.refusal.StoreFault.{StoreFault}
 use Rattle.trust_base.specs.declared.refusal.StoreFault.TheVariants as faults
 use Rattle.trust_matter.specs.declared.line_verdict.LineVerdict.{LineVerdict}
@@ -39,8 +40,9 @@ returns-in-Ok-change_of-clause-decided c =
     let new = is-new (goal.at.returns-in-Ok-change_of-clause-decided c).Else-is_again in
     let applied =
     applied-by c.args.matter.now c.args.line.now c.args.today _ new c.in-Ok.ensures.0 c.in_ok-dated.ensures in
-    line-made c.args.matter.now c.args.line.now c.args.today _ c.in-Ok-change_of.change held applied
-    c.in-Ok-change_of.ensures.ok
+    line-made c.args.matter.now c.args.line.now c.args.today _ c.in-Ok-change_of.change c.in-Ok.kept.now.entry held
+    applied c.in-Ok-change_of.ensures.ok (ap entry_in c.in-Ok.ensures.1)
+    (c.in-Ok-change_of.ensures.act ∙ ap (λ (a : Act). Some a) c.line_act-act.ensures)
 
 pub returns-in-Err-change_of-clause-decided : goal.returns-in-Err-change_of-clause-decided
 returns-in-Err-change_of-clause-decided c =

@@ -1,8 +1,9 @@
 use Rattle.trust_desk.proofs.Names.{◌≡◌, ◌∙◌, ◌++◌, ap, sym, Ok, IsRead, subst, text_reply}
-use Rattle.trust_desk.specs.ReportStep.{day_report_for, day_report_text, is_day_report_purged, lacks_statement}
-use Rattle.trust_desk.specs.DayReports.{IsAppended}
+use Rattle.book_reports.specs.ReportTexts.{day_report_text, is_day_report_purged, lacks_statement}
+use Rattle.trust_desk.specs.ReportStep.{day_report_for}
+use Rattle.book_reports.specs.DayReports.{IsAppended}
 use Rattle.trust_desk.proofs.Answered.{told-answered}
-use Rattle.trust_desk.proofs.DayReports.{both-limits}
+use Rattle.trust_desk.proofs.Limits.{both-limits}
 use Rattle.trust_desk.proofs.desk.Desk.answer_day_report.Goals as goal
 
 pub returns : goal.returns

@@ -1,9 +1,10 @@
 use Rattle.trust_desk.proofs.Names.{◌≡◌, ◌∙◌, ◌++◌, ap, sym, false, Ok, IsRead, subst, text_reply}
-use Rattle.trust_desk.specs.ReportStep.{period_report_for, period_report_text}
-use Rattle.trust_desk.specs.DayReports.{IsAppended}
-use Rattle.trust_desk.specs.Reports.{is_purged_since}
+use Rattle.book_reports.specs.ReportTexts.{period_report_text}
+use Rattle.trust_desk.specs.ReportStep.{period_report_for}
+use Rattle.book_reports.specs.DayReports.{IsAppended}
+use Rattle.book_reports.specs.Reports.{is_purged_since}
 use Rattle.trust_desk.proofs.Answered.{told-answered}
-use Rattle.trust_desk.proofs.DayReports.{one-limit}
+use Rattle.trust_desk.proofs.Limits.{one-limit}
 use Rattle.trust_desk.proofs.desk.Desk.answer_period_report.Goals as goal
 
 pub returns : goal.returns

@@ -1,9 +1,9 @@
 use Rattle.trust_desk.proofs.Names.{◌≡◌, ◌∙◌, ◌++◌, ap, sym, Ok, IsRead, subst, text_reply}
 use Rattle.trust_desk.specs.ReportStep.{reconciliation_for}
-use Rattle.trust_desk.specs.DayReports.{IsAppended}
-use Rattle.trust_desk.specs.Reports.{has_no_statement, is_period_purged, reconciliation_report}
+use Rattle.book_reports.specs.DayReports.{IsAppended}
+use Rattle.book_reports.specs.Reports.{has_no_statement, is_period_purged, reconciliation_report}
 use Rattle.trust_desk.proofs.Answered.{told-answered}
-use Rattle.trust_desk.proofs.DayReports.{both-limits}
+use Rattle.trust_desk.proofs.Limits.{both-limits}
 use Rattle.trust_desk.proofs.desk.Desk.answer_reconciliation.Goals as goal
 
 pub returns : goal.returns

@@ -1,0 +1,7 @@
+pub mod ReadCalls
+pub mod FlawsFound
+pub mod Counting
+pub mod DayReports
+mod ReconciliationAnswers
+mod ReportTexts
+mod Names

@@ -1,0 +1,40 @@
+use Rattle.book_reports.proofs.Names.{◌≡◌, fold, ap, rules, ◌∙◌, Firm, no_journal, trial_kept, with_moved, with_trial_own, with_trial_row, none_retained, with_row_retained, own_card_text, exception_line, exceptions_text, journal_text, retention_text, trial_text, own_card_report, arith, ints, nat_tests}
+use Rattle.book_reports.proofs.ReportTexts.{exceptions-told, handed-before, journal-told, retention-told, trial-told}
+use Rattle.book_reports.proofs.business_day.find_report.Goals as goal
+
+pub returns-in_ok-each_exception-in-Exceptions-clause-told : goal.returns-in_ok-each_exception-in-Exceptions-clause-told
+returns-in_ok-each_exception-in-Exceptions-clause-told g c =
+    grind (arith, ints, nat_tests, fold, exception_line, exceptions_text, exceptions-told)
+
+pub returns-in_ok-trial_text-in-Trial-clause-told : goal.returns-in_ok-trial_text-in-Trial-clause-told
+returns-in_ok-trial_text-in-Trial-clause-told g c =
+    λ clean stands.
+    let B = g.B.Book in
+    let firm : Firm = (B.seen c.args.book.now).firm in
+    let first = c.in_ok-each_row-in-Trial.ensures in
+    let second = c.in_ok-each_firm_line-in-Trial.ensures in
+    let served = second.read.was_clean clean in
+    let rows = first.handed served stands in
+    let lines = handed-before (λ (f : Firm). f.firm_lines) (first.read.same served stands) (second.handed clean (first.read.still_stands served stands)) in
+    let began = c.of-trial.ensures ∙ c.new-in-Trial.ensures in
+    let kept : c.into_sink.result ≡ trial_kept firm =
+    c.into_sink.ensures ∙ lines.all ∙ ap (λ s. fold with_trial_own s firm.firm_lines) (rows.all ∙ ap (λ s. fold with_trial_row s firm.rows) began) in
+    let balance = c.finish-balance.ensures in
+    let written : c.trial_text.new.out.items ≡ trial_text c.args.today c.finish-balance.result.lines.items c.finish-balance.result.own c.finish-balance.result.total = search rules in
+    let told =
+    written
+    ∙ ((λ i. trial_text c.args.today (balance.lines i) (balance.own i) (balance.total i))
+    ∙ trial-told c.args.today firm c.into_sink.result ((B.seen c.args.book.now).sound stands) rows.countable lines.countable kept) in
+    rw c.in-Trial.is told
+
+pub returns-in_ok-journal_text-in-Journal-clause-told : goal.returns-in_ok-journal_text-in-Journal-clause-told
+returns-in_ok-journal_text-in-Journal-clause-told g c =
+    grind (arith, ints, nat_tests, fold, with_moved, no_journal, journal_text, journal-told)
+
+pub returns-in_ok-retention_text-in-Retention-clause-told : goal.returns-in_ok-retention_text-in-Retention-clause-told
+returns-in_ok-retention_text-in-Retention-clause-told g c =
+    grind (arith, ints, nat_tests, fold, with_row_retained, none_retained, retention_text, retention-told)
+
+pub returns-in_ok-own_card_text-in-OwnLedger-clause-told : goal.returns-in_ok-own_card_text-in-OwnLedger-clause-told
+unfolding own_card_report
+returns-in_ok-own_card_text-in-OwnLedger-clause-told g c = grind (arith, ints, nat_tests, own_card_text)

@@ -1,0 +1,5 @@
+pub mod Reports
+pub mod ReportTexts
+pub mod DayReports
+pub mod Kept
+pub mod Checking

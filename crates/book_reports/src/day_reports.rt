@@ -1,0 +1,262 @@
+//! The reports of a firm as of a day and of a period, each made of one state of a book.
+
+ghost use Rattle.std.specs.Prelude.{IfOk, false};
+ghost use Rattle.trust_base.specs.Periods.{first_of_month};
+ghost use Rattle.book_reports.specs.DayReports.{IsAppended, IsListed};
+ghost use Rattle.book_reports.specs.Kept.{IsKeptOf};
+ghost use Rattle.book_reports.specs.ReportTexts.{day_report_text, is_day_report_purged, lacks_statement, period_report_text};
+ghost use Rattle.book_reports.specs.Reports.{clients_report, disbursements_report, has_no_statement, is_period_purged, is_purged_since, month_report, outstanding_report, receipts_report, reconciliation_report};
+ghost use Rattle.trust_store.specs.Calls.{IsRead};
+
+use crate::cleared_lines::{Beside, ClearedLines};
+use crate::report::{DayReport, PeriodReport};
+use firm_periods::{NamedList, NamedSink, Pick};
+use std::alloc::Global;
+use trust_base::{Day, Period, StoreFault};
+use trust_reports::{
+    ClientsSink, ReconciliationSink, clients_text, disbursements_text, outstanding_text,
+    receipts_text, reconciliation_text,
+};
+use trust_store::Book;
+
+/// Why a report may be refused.
+#[derive(Clone, Copy)]
+pub struct Limits {
+    /// No closing balance is kept of the day, and the report wants one.
+    pub lacks_statement: bool,
+    /// A matter has been purged since whose records the report wants.
+    pub is_purged: bool,
+}
+
+// Hands all rows of a book to the sink of a reconciliation. What the rows of matters and the firm's own lines show
+// beside it is kept in `lines`.
+//
+// Returns `Store` if the book's store failed, and `Memory` if memory ran out.
+fn read_reconciliation<B: Book>(
+    alloc: Global,
+    book: &mut B,
+    as_of: Day,
+    lines: &mut ClearedLines,
+) -> Result<ReconciliationSink, StoreFault>
+    ensures kept { (B.seen book.new).clean → (B.seen book.old).stands
+        → IfOk result (λ sink. IsKeptOf as_of (B.seen book.old).firm sink) }
+    ensures read { IsRead result (B.seen book.old) (B.seen book.new) }
+{
+    let mut sink = Beside::of(alloc, ReconciliationSink::new(alloc, as_of), lines);
+    book.each_row(&mut sink)?;
+    book.each_movement(&mut sink)?;
+    book.each_firm_line(&mut sink)?;
+    book.each_exception(&mut sink)?;
+    book.each_balance(&mut sink)?;
+    Ok(sink.into_sink(lines))
+}
+
+/// Appends the reconciliation of a day; nothing if no closing balance of the day is kept. What the rows of matters and
+/// the firm's own lines show beside it is kept in `lines`.
+///
+/// Returns `Store` if the book's store failed, and `Memory` if memory ran out.
+pub fn append_reconciliation<B: Book>(
+    alloc: Global,
+    book: &mut B,
+    as_of: Day,
+    lines: &mut ClearedLines,
+    text: &mut Vec<u8>,
+) -> Result<Limits, StoreFault>
+    ensures told { (B.seen book.new).clean → (B.seen book.old).stands → IfOk result (λ limits. IsAppended limits
+        (has_no_statement as_of (B.seen book.old).firm) (is_period_purged as_of (B.seen book.old).firm)
+        text.old.items (reconciliation_report as_of (B.seen book.old).firm) text.new.items) }
+    ensures read { IsRead result (B.seen book.old) (B.seen book.new) }
+{
+    let sink = read_reconciliation(alloc, book, as_of, lines)?;
+    let is_purged = sink.is_period_purged();
+    let Some(reconciliation) = sink.finish(alloc)? else {
+        return Ok(Limits {
+            lacks_statement: true,
+            is_purged,
+        });
+    };
+    reconciliation_text(as_of, &reconciliation, text)?;
+    Ok(Limits {
+        lacks_statement: false,
+        is_purged,
+    })
+}
+
+// Appends the list of clients as of a day.
+fn append_clients<B: Book>(
+    alloc: Global,
+    book: &mut B,
+    as_of: Day,
+    text: &mut Vec<u8>,
+) -> Result<Limits, StoreFault>
+    ensures told { (B.seen book.new).clean → (B.seen book.old).stands → IfOk result (λ limits. IsAppended limits
+        false (is_period_purged as_of (B.seen book.old).firm)
+        text.old.items (clients_report as_of (B.seen book.old).firm) text.new.items) }
+    ensures read { IsRead result (B.seen book.old) (B.seen book.new) }
+{
+    let mut clients = ClientsSink::new(alloc, as_of);
+    book.each_row(&mut clients)?;
+    book.each_firm_line(&mut clients)?;
+    let is_purged = clients.is_period_purged();
+    let list = clients.finish();
+    clients_text(as_of, &list.lines, list.own, list.total, text)?;
+    Ok(Limits {
+        lacks_statement: false,
+        is_purged,
+    })
+}
+
+// Movements with their names, and whether a purge may have cut their list.
+#[derive(Drop)]
+struct ReadList {
+    list: NamedList,
+    is_purged: bool,
+}
+
+// Reads the movements of a list.
+fn read_named<B: Book>(alloc: Global, book: &mut B, pick: Pick) -> Result<ReadList, StoreFault>
+    ensures told { (B.seen book.new).clean → (B.seen book.old).stands
+        → IfOk result (λ named. IsListed pick (B.seen book.old).firm named) }
+    ensures read { IsRead result (B.seen book.old) (B.seen book.new) }
+{
+    let mut moves = NamedSink::new(alloc, pick);
+    book.each_row(&mut moves)?;
+    book.each_firm_line(&mut moves)?;
+    let is_purged = moves.is_period_purged();
+    let list = moves.finish()?;
+    Ok(ReadList { list, is_purged })
+}
+
+// Appends what waits for the bank as of a day.
+fn append_outstanding<B: Book>(
+    alloc: Global,
+    book: &mut B,
+    as_of: Day,
+    text: &mut Vec<u8>,
+) -> Result<Limits, StoreFault>
+    ensures told { (B.seen book.new).clean → (B.seen book.old).stands → IfOk result (λ limits. IsAppended limits
+        false (is_period_purged as_of (B.seen book.old).firm)
+        text.old.items (outstanding_report as_of (B.seen book.old).firm) text.new.items) }
+    ensures read { IsRead result (B.seen book.old) (B.seen book.new) }
+{
+    let transit = read_named(alloc, book, Pick::Transit(as_of))?;
+    let out = read_named(alloc, book, Pick::Outstanding(as_of))?;
+    outstanding_text(as_of, &transit.list, &out.list, text)?;
+    Ok(Limits {
+        lacks_statement: false,
+        is_purged: out.is_purged,
+    })
+}
+
+// Appends the receipts of a period.
+fn append_receipts<B: Book>(
+    alloc: Global,
+    book: &mut B,
+    period: Period,
+    text: &mut Vec<u8>,
+) -> Result<Limits, StoreFault>
+    ensures told { (B.seen book.new).clean → (B.seen book.old).stands → IfOk result (λ limits. IsAppended limits
+        false (is_purged_since period.from (B.seen book.old).firm)
+        text.old.items (receipts_report period (B.seen book.old).firm) text.new.items) }
+    ensures read { IsRead result (B.seen book.old) (B.seen book.new) }
+{
+    let named = read_named(alloc, book, Pick::Receipts(period))?;
+    receipts_text(period, &named.list, text)?;
+    Ok(Limits {
+        lacks_statement: false,
+        is_purged: named.is_purged,
+    })
+}
+
+// Appends the disbursements of a period.
+fn append_disbursements<B: Book>(
+    alloc: Global,
+    book: &mut B,
+    period: Period,
+    text: &mut Vec<u8>,
+) -> Result<Limits, StoreFault>
+    ensures told { (B.seen book.new).clean → (B.seen book.old).stands → IfOk result (λ limits. IsAppended limits
+        false (is_purged_since period.from (B.seen book.old).firm)
+        text.old.items (disbursements_report period (B.seen book.old).firm) text.new.items) }
+    ensures read { IsRead result (B.seen book.old) (B.seen book.new) }
+{
+    let named = read_named(alloc, book, Pick::Disbursements(period))?;
+    disbursements_text(period, &named.list, text)?;
+    Ok(Limits {
+        lacks_statement: false,
+        is_purged: named.is_purged,
+    })
+}
+
+/// Appends a report of a period.
+///
+/// Returns `Store` if the book's store failed, and `Memory` if memory ran out.
+pub fn append_period_report<B: Book>(
+    alloc: Global,
+    book: &mut B,
+    report: PeriodReport,
+    period: Period,
+    text: &mut Vec<u8>,
+) -> Result<Limits, StoreFault>
+    ensures told { (B.seen book.new).clean → (B.seen book.old).stands → IfOk result (λ limits. IsAppended limits
+        false (is_purged_since period.from (B.seen book.old).firm)
+        text.old.items (period_report_text report period (B.seen book.old).firm) text.new.items) }
+    ensures read { IsRead result (B.seen book.old) (B.seen book.new) }
+{
+    match report {
+        PeriodReport::Receipts => append_receipts(alloc, book, period, text),
+        PeriodReport::Disbursements => append_disbursements(alloc, book, period, text),
+    }
+}
+
+// Appends the packet of month's end: the reconciliation of a day, the list of clients, what waits for the bank, and the
+// receipts and the disbursements from the first of the month to the day.
+fn append_month<B: Book>(
+    alloc: Global,
+    book: &mut B,
+    day: Day,
+    text: &mut Vec<u8>,
+) -> Result<Limits, StoreFault>
+    ensures told { (B.seen book.new).clean → (B.seen book.old).stands → IfOk result (λ limits. IsAppended limits
+        (has_no_statement day (B.seen book.old).firm) (is_purged_since (first_of_month day) (B.seen book.old).firm)
+        text.old.items (month_report day (B.seen book.old).firm) text.new.items) }
+    ensures read { IsRead result (B.seen book.old) (B.seen book.new) }
+{
+    let month = Period::month_to(day);
+    let mut lines = ClearedLines::none(alloc);
+    let stated = append_reconciliation(alloc, book, day, &mut lines, text)?;
+    text.push(b'\n')?;
+    append_clients(alloc, book, day, text)?;
+    text.push(b'\n')?;
+    append_outstanding(alloc, book, day, text)?;
+    text.push(b'\n')?;
+    append_receipts(alloc, book, month, text)?;
+    text.push(b'\n')?;
+    let cut = append_disbursements(alloc, book, month, text)?;
+    Ok(Limits {
+        lacks_statement: stated.lacks_statement,
+        is_purged: cut.is_purged,
+    })
+}
+
+/// Appends a report as of a day.
+///
+/// Returns `Store` if the book's store failed, and `Memory` if memory ran out.
+pub fn append_day_report<B: Book>(
+    alloc: Global,
+    book: &mut B,
+    report: DayReport,
+    as_of: Day,
+    text: &mut Vec<u8>,
+) -> Result<Limits, StoreFault>
+    ensures told { (B.seen book.new).clean → (B.seen book.old).stands → IfOk result (λ limits. IsAppended limits
+        (lacks_statement report as_of (B.seen book.old).firm) (is_day_report_purged report as_of (B.seen book.old).firm)
+        text.old.items (day_report_text report as_of (B.seen book.old).firm) text.new.items) }
+    ensures read { IsRead result (B.seen book.old) (B.seen book.new) }
+{
+    match report {
+        DayReport::Clients => append_clients(alloc, book, as_of, text),
+        DayReport::Outstanding => append_outstanding(alloc, book, as_of, text),
+        DayReport::Month => append_month(alloc, book, as_of, text),
+    }
+}

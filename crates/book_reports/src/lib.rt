@@ -1,0 +1,48 @@
+//! The reports of a firm, each made of one state of any book by going over its rows one at a time, and what else is
+//! read of a book at once: how many rows it has, whether they are sound, which of them can't be read, and what a
+//! report's reader should know of them.
+//!
+//! # What is promised
+//!
+//! By public call, with the clauses of its contract in brackets.
+//!
+//! - `find_report`: over every book: the bytes of each report on a business day are those of the definition, of the
+//!   book's rows (`told`); nothing changes, after a crash neither (`read`).
+//! - `append_reconciliation`: over every book: the reconciliation of a day is appended, or nothing where no closing
+//!   balance of the day is kept; whether it may be told is found of the same rows (`told`); nothing changes, after a
+//!   crash neither (`read`).
+//! - `append_day_report`, `append_period_report`: over every book: the bytes of each report as of a day and of a period,
+//!   the packet of month's end among them, are those of the definition, of one state of the book's rows, and whether
+//!   they may be told is found of the same rows (`told`); nothing changes, after a crash neither (`read`).
+//! - `check`: over every book whose store can be read as rows, **sound or not: it finds no flaw exactly if the rows are
+//!   those of a sound firm** (`sound`), and a flaw that it finds is there (`flaw`); there are as many matters, entries,
+//!   movements, lines of the firm's own, exceptions and balances as it says (`counts`); the book stays as it is, after
+//!   a crash too (`read`). An error wants no cause.
+//! - `find_unread`: it reads, and any of its reads may fail: the book stays as it is, also after a crash if the store
+//!   still serves (`reads`), as it does after an Ok (`serves`). No clause says what it finds.
+//! - `tell_rows`, `tell_earlier`, `tell_outstanding`: the book stays as it is, after a crash too. No clause says what is
+//!   reported.
+//!
+//! A report keeps sums and what it prints; the reconciliation also keeps the payments issued and not voided by its day,
+//! of which it lists those with another's instrument, and the balances dated by its day.
+#![tactic(auto)]
+
+mod business_day;
+mod checking;
+mod cleared_lines;
+mod day_reports;
+mod exceptions_sink;
+mod outstanding;
+mod report;
+mod unread;
+mod watching;
+
+pub use business_day::find_report;
+pub use checking::{Checked, RowCounts, check};
+pub use cleared_lines::{ClearedLines, tell_earlier, tell_rows};
+pub use day_reports::{Limits, append_day_report, append_period_report, append_reconciliation};
+pub use firm_audit::Flaw;
+pub use outstanding::tell_outstanding;
+pub use report::{DayReport, PeriodReport, Report};
+pub use unread::{Unread, find_unread};
+pub use watching::{AppliedLine, ClearedLine, EarlierWatch, PaymentWatch, RowWatch};

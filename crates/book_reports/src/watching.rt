@@ -1,0 +1,48 @@
+// Watchers, which are told of rows to go with a report.
+
+use firm_rows::Owner;
+use trust_base::{BankText, Day, EntryNo};
+
+/// A bank line that is in the book: one that cleared something or took it back, or one of the firm's own.
+#[derive(Drop)]
+pub struct ClearedLine {
+    pub owner: Owner,
+    /// The day on which the bank booked it.
+    pub date: Day,
+    /// The bank's own reference.
+    pub bank_ref: BankText,
+    /// The amount in cents, negative for money that went out.
+    pub amount: i64,
+}
+
+/// A line that an import applied.
+#[derive(Drop)]
+pub struct AppliedLine {
+    /// The number of its item; the first record after the header has number 1.
+    pub number: u64,
+    /// The line, with what it cleared or took back.
+    pub line: ClearedLine,
+}
+
+/// Is told which of the lines that an import applied stand on something else too. Nothing depends on whether it
+/// succeeds.
+pub trait EarlierWatch {
+    /// Called for a line that was applied, if the book has another line of the same date, bank reference and amount,
+    /// which an earlier import put on this.
+    fn stood_already(&self, line: &AppliedLine, earlier: Owner);
+}
+
+/// Is told what the rows of a book show in addition to a report. Nothing depends on whether it succeeds.
+pub trait RowWatch {
+    /// Called for two bank lines with the same date, bank reference and amount.
+    fn cleared_twice(&self, first: &ClearedLine, second: &ClearedLine);
+
+    /// Called with the last day on which a matter was changed.
+    fn worked_on(&self, last: Day);
+}
+
+/// Is told which payments of a matter the bank has not shown. Nothing depends on whether it succeeds.
+pub trait PaymentWatch {
+    /// Called for the payment of this number, which was issued on this day and which no line of the bank has cleared.
+    fn outstanding(&self, number: EntryNo, issued: Day);
+}

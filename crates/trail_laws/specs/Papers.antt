@@ -1,0 +1,65 @@
+-- A matter's papers: its rows, and the acts that it is remembered by. What an ask and a bank line leave of them.
+use Rattle.std.specs.Prelude.{ℕ, List, [], ◌∷◌, ◌++◌, Option, Some, None, fold}
+use Rattle.trust_base.specs.declared.refusal.Refusal.{Refusal}
+use Rattle.matter_rows.specs.declared.act.Act.{Act}
+use Rattle.matter_rows.specs.Rows.{Rows, unopened, entry_at}
+use Rattle.matter_parts.specs.declared.edit.Edit.{Edit}
+use Rattle.matter_parts.specs.declared.edit.Edit.TheVariants as edit
+use Rattle.trust_matter.specs.declared.bank_line.BankLine.{BankLine}
+use Rattle.trust_matter.specs.declared.line_verdict.LineEffect.{LineEffect}
+use Rattle.trust_matter.specs.declared.line_verdict.LineEffect.TheVariants as told
+use Rattle.trust_matter.specs.Facts.{Asked}
+use Rattle.trust_matter.specs.Laws.{Doing, AnAsk, ALine}
+use Rattle.trust_matter.specs.LineStep.{line_on, line_act, rows_after_line}
+use Rattle.trust_matter.specs.Step.{refusal, edit_on, act_on, rows_after}
+
+-- the rows of a matter, and what was accepted of it, in order
+pub record Papers : Type 0 where
+  pub rows : Rows
+  pub acts : List Act
+
+-- those of a matter that was never opened
+abbrev pub no_papers : Papers
+no_papers = record { rows = unopened; acts = [] }
+
+-- a purge leaves no acts, as it leaves no entries; any other edit leaves all of them
+abbrev pub kept_acts : Edit → List Act → List Act
+kept_acts (edit.Purge day) acts = []
+kept_acts _ acts = acts
+
+-- the act that is added, if any
+abbrev pub joined_act : Option Act → List Act
+joined_act None = []
+joined_act (Some act) = act ∷ []
+
+abbrev pub acts_after : Option Refusal → Edit → Option Act → List Act → List Act
+acts_after None e act acts = kept_acts e acts ++ joined_act act
+acts_after (Some r) e act acts = acts
+
+-- the papers after an ask
+abbrev pub papers_after : Papers → Asked → Papers
+papers_after p a = record {
+  rows = rows_after p.rows a;
+  acts = acts_after (refusal p.rows a) (edit_on p.rows a) (act_on p.rows a) p.acts;
+}
+
+abbrev pub acts_after_line : LineEffect → Act → List Act → List Act
+acts_after_line (told.Applied e) act acts = acts ++ act ∷ []
+acts_after_line told.Repeat act acts = acts
+acts_after_line (told.Unmatched r) act acts = acts
+
+-- the papers after a bank line on a business day
+abbrev pub papers_after_line : Papers → BankLine → ℕ → Papers
+papers_after_line p l today = record {
+  rows = rows_after_line p.rows l today;
+  acts = acts_after_line (line_on p.rows l today) (line_act (entry_at p.rows.entries l.entry) l today) p.acts;
+}
+
+-- the papers after a step, which is an ask, or a bank line on a business day
+abbrev pub papers_after_step : Papers → Doing → Papers
+papers_after_step p (AnAsk a) = papers_after p a
+papers_after_step p (ALine l today) = papers_after_line p l today
+
+-- the papers after a run of steps
+abbrev pub papers_after_run : Papers → List Doing → Papers
+papers_after_run p run = fold papers_after_step p run

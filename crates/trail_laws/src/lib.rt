@@ -1,0 +1,19 @@
+//! Laws of a matter's acts, which say who did what in it. A matter's papers are its rows with its acts, as asks and
+//! bank lines leave them. No book keeps acts.
+//!
+//! # What is promised
+//!
+//! By function, with the clauses of its contract in brackets. Each does nothing.
+//!
+//! - `laws` `acts_are_added`: an accepted ask that changes the matter adds exactly one act (`asked`), with its caller,
+//!   its day and its entry, and a line that is applied one of the cashier's (`applied`). A refusal, a repeat, a reading
+//!   and a line that is not applied add none, and a purge leaves none.
+//! - `laws` `seats_follow_acts`: a matter's seats are those that its acts left.
+//! - `laws` `acts_are_allowed`: the policy allowed each act to its caller, with the seats of that moment, and an
+//!   approval only to a person with a lawyer's seat.
+//! - `laws` `payments_are_signed`: after every run of asks and lines (`runs`) **each payment that is or was issued has
+//!   exactly one act of approval, on the day of its issue, by a person who had a lawyer's seat then** (`approved`).
+//!   Where the acts begin later than the matter, this is so of each payment that was not issued before.
+#![tactic(auto)]
+
+pub mod laws;

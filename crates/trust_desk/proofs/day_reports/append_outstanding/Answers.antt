@@ -1,9 +1,0 @@
-use Rattle.trust_desk.proofs.Names.{refl}
-use Rattle.trust_desk.proofs.DayReports.{outstanding-told}
-use Rattle.trust_desk.proofs.day_reports.append_outstanding.Goals as goal
-
-pub returns-clause-told : goal.returns-clause-told
-returns-clause-told g c =
-    outstanding-told c.args.as_of _ c.args.text.now.items c.outstanding_text.new.out.items
-    c.in_ok-transit.ensures.read c.in_ok-transit.ensures.told c.in_ok-out.ensures.read c.in_ok-out.ensures.told
-    refl refl c.in_ok-outstanding_text.ensures.ok

@@ -1,0 +1,96 @@
+//! What is read of the desk's book beside its requests.
+
+ghost use Rattle.std.specs.Prelude.{◌≡◌, ◌↔◌, IfOk, IfSome, None, OnOk};
+ghost use Rattle.firm_audit.specs.Flaws.{IsFlawOf};
+ghost use Rattle.firm_rows.specs.FirmSound.{FirmSound};
+ghost use Rattle.book_reports.specs.Checking.{AreCountsOf, AreReads};
+ghost use Rattle.trust_store.specs.Calls.{IsRead};
+
+use crate::desk::Desk;
+use book_reports::{
+    AppliedLine, Checked, EarlierWatch, PaymentWatch, RowWatch, Unread, check, find_unread,
+    tell_earlier, tell_outstanding, tell_rows,
+};
+use std::alloc::Global;
+use trust_base::{Day, MatterNo, StoreFault};
+use trust_store::Book;
+
+impl<B: Book> Desk<B> {
+    /// Reads all rows of the book, and returns how many there are and what is not sound in them. The store may hold
+    /// anything that can be read as rows. No flaw is returned exactly if the rows are those of a sound firm, and one
+    /// that is returned is there. It is never `Flaw::Matter`, since a book returns whole matters only. The book is
+    /// unchanged.
+    ///
+    /// Returns `Store` if the book's store failed, if a row is invalid, or if a matter is not the whole of sound rows;
+    /// `find_unread` then returns which. Returns `Memory` if memory ran out.
+    pub fn check(&mut self, alloc: Global) -> Result<Checked, StoreFault>
+        ensures sound { (B.seen self.new).clean → (B.seen self.old).readable
+            → IfOk result (λ c. c.flaw ≡ None ↔ FirmSound (B.seen self.old).firm) }
+        ensures flaw { (B.seen self.new).clean → (B.seen self.old).readable
+            → IfOk result (λ c. IfSome c.flaw (IsFlawOf (B.seen self.old).firm)) }
+        ensures counts { (B.seen self.new).clean → (B.seen self.old).readable
+            → IfOk result (λ c. AreCountsOf (B.seen self.old).firm c.counts) }
+        ensures read { IsRead result (B.seen self.old) (B.seen self.new) }
+    {
+        check(alloc, &mut self.book)
+    }
+
+    /// Returns which part of the book can't be read on a business day, after `check` returned `Store`: the first row
+    /// that a separate read does not pass on, or the first matter that it does not return. The book is unchanged.
+    ///
+    /// Returns `Store` if the book's store does not work, which one more read shows, and `Memory` if memory ran out.
+    pub fn find_unread(&mut self, alloc: Global, day: Day) -> Result<Unread, StoreFault>
+        ensures reads { AreReads (B.seen self.old) (B.seen self.new) }
+        ensures serves { (B.seen self.new).sure → OnOk result (B.seen self.new).clean }
+    {
+        find_unread(alloc, &mut self.book, day)
+    }
+
+    /// Reports to `watch` what the rows of a book show that a reader of a day's report should know, as
+    /// `ClearedLines::up_to` has it. The book is unchanged. The contract does not say what `watch` is told. A trial
+    /// balance and a reconciliation show it with the rows that they read (`answer_beside`).
+    ///
+    /// Returns `Store` if the book's store failed, and `Memory` if memory ran out.
+    pub fn tell_rows<V: RowWatch>(
+        &mut self,
+        alloc: Global,
+        day: Day,
+        watch: &V,
+    ) -> Result<(), StoreFault>
+        ensures { IsRead result (B.seen self.old) (B.seen self.new) }
+    {
+        tell_rows(alloc, &mut self.book, day, watch)
+    }
+
+    /// Reports to `watch`, in the order of their items, which of the lines that an import applied stand on something
+    /// else too, by an earlier import: those for which the book has another line of the same date, bank reference and
+    /// amount. The book is unchanged, and is not read if nothing was applied. The contract does not say what `watch` is
+    /// told.
+    ///
+    /// Returns `Store` if the book's store failed, and `Memory` if memory ran out.
+    pub fn tell_earlier<V: EarlierWatch>(
+        &mut self,
+        alloc: Global,
+        applied: Vec<AppliedLine>,
+        watch: &V,
+    ) -> Result<(), StoreFault>
+        ensures { AreReads (B.seen self.old) (B.seen self.new) }
+    {
+        tell_earlier(alloc, &mut self.book, applied, watch)
+    }
+
+    /// Reports to `watch`, in the order of their numbers, the payments of a matter that were issued and that no line of
+    /// the bank has cleared. The book is unchanged. The contract does not say what `watch` is told.
+    ///
+    /// Returns `Store` if the book's store failed, and `Memory` if memory ran out.
+    pub fn tell_outstanding<V: PaymentWatch>(
+        &mut self,
+        alloc: Global,
+        no: MatterNo,
+        watch: &V,
+    ) -> Result<(), StoreFault>
+        ensures { IsRead result (B.seen self.old) (B.seen self.new) }
+    {
+        tell_outstanding(alloc, &mut self.book, no, watch)
+    }
+}
