@@ -1,4 +1,4 @@
--- In signed papers each issue has its one approval, by a lawyer.
+-- In a signed dossier each issue has its one approval, by a lawyer.
 use Rattle.trail_laws.proofs.Names.{Act, Bool, Caller, Deed, List, None, Option, Role, Seat, Some, [], ap, arith, cond, false, false≢true, filter, is_number, map, nat_tests, option_map, refl, subst, sym, true, ℕ, ◌&&◌, ◌++◌, ◌∙◌, ◌∷◌, ◌≡◌}
 use Rattle.matter_rows.specs.Rows.{role_in}
 use Rattle.matter_rows.specs.declared.act.Caller.TheVariants as caller

@@ -43,4 +43,4 @@ pub use Rattle.trust_matter.specs.declared.ask.Ask.{Ask}
 pub use Rattle.trust_matter.specs.declared.bank_line.BankLine.{BankLine}
 pub use Rattle.trust_matter.specs.declared.line_verdict.DatedEdit.{DatedEdit}
 pub use Rattle.trust_matter.specs.declared.line_verdict.LineEffect.{LineEffect}
-pub use Rattle.trail_laws.specs.Papers.{Papers, acts_after, acts_after_line, joined_act, no_papers, papers_after_run, papers_after_step}
+pub use Rattle.trail_laws.specs.Dossier.{Dossier, acts_after, acts_after_line, joined_act, no_dossier, dossier_after_run, dossier_after_step}

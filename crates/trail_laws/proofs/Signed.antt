@@ -1,5 +1,5 @@
--- Each step and each run keeps the papers signed.
-use Rattle.trail_laws.proofs.Names.{AllByRecursion, append-nil, entry_at, AnAsk, ALine, Doing, List, Papers, Sound, [], false≢true, lines-sound, no_papers, papers_after_run, papers_after_step, refl, steps-sound, unopened, ◌∷◌}
+-- Each step and each run keeps the dossier signed.
+use Rattle.trail_laws.proofs.Names.{AllByRecursion, append-nil, entry_at, AnAsk, ALine, Doing, List, Dossier, Sound, [], false≢true, lines-sound, no_dossier, dossier_after_run, dossier_after_step, refl, steps-sound, unopened, ◌∷◌}
 use Rattle.matter_parts.proofs.Editing.{backed-none}
 use Rattle.trail_laws.proofs.Growing.{seated-more, allowed-more, signed-more, seated-bare, allowed-bare, signed-bare}
 use Rattle.trail_laws.proofs.Steps.{step-adds}
@@ -28,21 +28,21 @@ no-acts_are_signed rows = record {
 
 -- Runs.
 
-sound-step : (p : Papers) (step : Doing) → HasItsAmount step → Sound p.rows → Sound (papers_after_step p step).rows
+sound-step : (p : Dossier) (step : Doing) → HasItsAmount step → Sound p.rows → Sound (dossier_after_step p step).rows
 sound-step p (AnAsk a) amount sound = steps-sound p.rows a amount sound
 sound-step p (ALine l today) amount sound = lines-sound p.rows l today sound
 
 pub runs-keep_signed : RunsKeepSigned
 runs-keep_signed b p [] amounts sound s = s
 runs-keep_signed b p (step ∷ run) amounts sound s =
-    runs-keep_signed (beginning_after p step b) (papers_after_step p step) run amounts.1
+    runs-keep_signed (beginning_after p step b) (dossier_after_step p step) run amounts.1
     (sound-step p step amounts.0 sound) (steps-keep_signed b p step sound s)
 
 -- what begins with nothing stays so
-signed-run : (p : Papers) (run : List Doing) → AllByRecursion HasItsAmount run → Sound p.rows → IsSigned nothing_before p → IsSigned nothing_before (papers_after_run p run)
+signed-run : (p : Dossier) (run : List Doing) → AllByRecursion HasItsAmount run → Sound p.rows → IsSigned nothing_before p → IsSigned nothing_before (dossier_after_run p run)
 signed-run p [] amounts sound s = s
 signed-run p (step ∷ run) amounts sound s =
-    signed-run (papers_after_step p step) run amounts.1 (sound-step p step amounts.0 sound)
+    signed-run (dossier_after_step p step) run amounts.1 (sound-step p step amounts.0 sound)
     (step-adds nothing_before p step (λ begun after. IsSigned nothing_before after)
     (λ after adds. signed-more nothing_before p after adds sound s) signed-bare)
 
@@ -51,4 +51,4 @@ sound-unopened = record { backed = backed-none; seated = tt; headed = (refl, ref
 
 pub runs-are_signed : RunsAreSigned
 runs-are_signed run amounts =
-    signed-run no_papers run amounts sound-unopened (signed-bare no_papers (record { acts = refl; seats = refl; entries = refl }))
+    signed-run no_dossier run amounts sound-unopened (signed-bare no_dossier (record { acts = refl; seats = refl; entries = refl }))

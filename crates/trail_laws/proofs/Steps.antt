@@ -1,5 +1,5 @@
 -- What each step adds to a matter's acts, seats and issues.
-use Rattle.trail_laws.proofs.Names.{Act, Against, Ask, Asked, BankLine, Bool, Caller, DatedEdit, Deed, Doing, AnAsk, ALine, Edit, Entry, Head, Line, LineEffect, List, None, Option, Papers, Payment, PaymentState, Refusal, Rows, Seat, Some, [], act_by, after, allows, ap, append-nil, applied-matched, arith, asked, changed_by, cleared_payment, cond, claim_of, deposit_of, payment_of, fee_of, settled, deed_against, deed_of, done_by, edit_of, edited, entry_at, entry_at-append, entry_at-with, eqb, facts_of, false, false≢true, first, fold, has_no_seat, ints, is_not_allowed, is_number, is_in_another_state_for, is_not_yet_closed_for, is_opening, is_proposed_state, is_purging, is_repeat, is_return, is_some, joined_act, last_by, line_act, line_facts, line_on, nat_tests, none-is, none-past, not, not-false, number_named, option_map, papers_after_step, passes, Passes, refl, refusal, Rule, rule_against, rule_of, seats_after, subst, sym, told_by, true, voided, was_purged, with_entry, ℕ, ◌++◌, ◌∙◌, ◌∷◌, ◌≡◌, ◌&&◌}
+use Rattle.trail_laws.proofs.Names.{Act, Against, Ask, Asked, BankLine, Bool, Caller, DatedEdit, Deed, Doing, AnAsk, ALine, Edit, Entry, Head, Line, LineEffect, List, None, Option, Dossier, Payment, PaymentState, Refusal, Rows, Seat, Some, [], act_by, after, allows, ap, append-nil, applied-matched, arith, asked, changed_by, cleared_payment, cond, claim_of, deposit_of, payment_of, fee_of, settled, deed_against, deed_of, done_by, edit_of, edited, entry_at, entry_at-append, entry_at-with, eqb, facts_of, false, false≢true, first, fold, has_no_seat, ints, is_not_allowed, is_number, is_in_another_state_for, is_not_yet_closed_for, is_opening, is_proposed_state, is_purging, is_repeat, is_return, is_some, joined_act, last_by, line_act, line_facts, line_on, nat_tests, none-is, none-past, not, not-false, number_named, option_map, dossier_after_step, passes, Passes, refl, refusal, Rule, rule_against, rule_of, seats_after, subst, sym, told_by, true, voided, was_purged, with_entry, ℕ, ◌++◌, ◌∙◌, ◌∷◌, ◌≡◌, ◌&&◌}
 use Rattle.matter_rows.specs.declared.act.Caller.TheVariants as caller
 use Rattle.matter_rows.specs.declared.act.Deed.TheVariants as deed
 use Rattle.matter_rows.specs.declared.claim.Against.TheVariants as against
@@ -11,7 +11,7 @@ use Rattle.matter_parts.specs.declared.edit.Edit.TheVariants as edit
 use Rattle.trust_matter.specs.declared.ask.Ask.TheVariants as ask
 use Rattle.trust_matter.specs.declared.line_verdict.LineEffect.TheVariants as told
 use Rattle.trust_matter.proofs.StepForms.{either-false}
-use Rattle.trail_laws.proofs.Added.{papers-by, papers-by-line}
+use Rattle.trail_laws.proofs.Added.{dossier-by, dossier-by-line}
 use Rattle.trail_laws.proofs.Growing.{Adds, AreBare}
 use Rattle.trail_laws.specs.Signed.{AreAllowed, Beginning, RuleIsOfAsk, beginning_after, begins_with_opening, begun_after, days_of_approval, days_of_issue, issue_days, nothing_before, rule_done, seats_by, seats_by_deed}
 
@@ -191,7 +191,7 @@ issues-asked es c q (Some (entry.Claim l)) other day n at stays state =
 -- Asks.
 
 -- nothing changes
-adds-nothing : (p : Papers) (acts : List Act) → acts ≡ p.acts ++ [] → Adds p (record p { acts = acts })
+adds-nothing : (p : Dossier) (acts : List Act) → acts ≡ p.acts ++ [] → Adds p (record p { acts = acts })
 adds-nothing p acts is = record {
   more = [];
   acts = is;
@@ -209,17 +209,17 @@ no-purge : (q : Ask) (o : Option Entry) (day : ℕ) → is_purging q ≡ false �
 no-purge q o day stays = grind (arith, ints, nat_tests)
 
 abbrev HoldsOf : Type 1
-HoldsOf = Beginning → Papers → Type 0
+HoldsOf = Beginning → Dossier → Type 0
 
 -- an edit that is no purge, made by an ask
-edit-adds : (b : Beginning) (p : Papers) (a : Asked) (e : Edit) (P : HoldsOf) → IsNoPurge e → SeatsFollow p.rows.seats e a → AreAllowed p.rows.seats (joined_act (act_by e a)) → ((n : ℕ) → IssuesFollow p.rows.entries e a n) → (begins_with_opening (joined_act (act_by e a)) ≡ true → p.rows.head ≡ None) → ((after : Papers) → Adds p after → P b after) → P (begun_after None e b) (papers-by p a None e)
+edit-adds : (b : Beginning) (p : Dossier) (a : Asked) (e : Edit) (P : HoldsOf) → IsNoPurge e → SeatsFollow p.rows.seats e a → AreAllowed p.rows.seats (joined_act (act_by e a)) → ((n : ℕ) → IssuesFollow p.rows.entries e a n) → (begins_with_opening (joined_act (act_by e a)) ≡ true → p.rows.head ≡ None) → ((after : Dossier) → Adds p after → P b after) → P (begun_after None e b) (dossier-by p a None e)
 edit-adds b p a (edit.Purge day) P stays seats allowed issued fresh of = absurd stays
 edit-adds b p a e P stays seats allowed issued fresh of =
-    of (papers-by p a None e) (record { more = joined_act (act_by e a); acts = refl; seats = seats; allowed = allowed; issued = issued; fresh = fresh })
+    of (dossier-by p a None e) (record { more = joined_act (act_by e a); acts = refl; seats = seats; allowed = allowed; issued = issued; fresh = fresh })
 
 -- an ask that passes the table, by what is asked
-passed-adds : (b : Beginning) (p : Papers) (c : Caller) (q : Ask) (day : ℕ) (P : HoldsOf) → allows p.rows.seats c (rule_of q) ≡ true → Passes (facts_of p.rows q) (asked c q day) → ((after : Papers) → Adds p after → P b after) → ((after : Papers) → AreBare after → P nothing_before after) → P (begun_after None (edit_of q (entry_at p.rows.entries (number_named q)) day) b) (papers-by p (asked c q day) None (edit_of q (entry_at p.rows.entries (number_named q)) day))
-passed-adds b p c ask.Purge day P may passed of bare = bare (papers-by p (asked c ask.Purge day) None (edit.Purge day)) (record { acts = refl; seats = refl; entries = refl })
+passed-adds : (b : Beginning) (p : Dossier) (c : Caller) (q : Ask) (day : ℕ) (P : HoldsOf) → allows p.rows.seats c (rule_of q) ≡ true → Passes (facts_of p.rows q) (asked c q day) → ((after : Dossier) → Adds p after → P b after) → ((after : Dossier) → AreBare after → P nothing_before after) → P (begun_after None (edit_of q (entry_at p.rows.entries (number_named q)) day) b) (dossier-by p (asked c q day) None (edit_of q (entry_at p.rows.entries (number_named q)) day))
+passed-adds b p c ask.Purge day P may passed of bare = bare (dossier-by p (asked c ask.Purge day) None (edit.Purge day)) (record { acts = refl; seats = refl; entries = refl })
 passed-adds b p c q day P may passed of bare =
     let f = facts_of p.rows q in
     let e = edit_of q f.entry day in
@@ -229,7 +229,7 @@ passed-adds b p c q day P may passed of bare =
     (λ n. issues-asked p.rows.entries c q f.entry f.other day n refl refl (either-false (is_not_yet_closed_for q f.head) (is_in_another_state_for q f.entry f.other) passed.state).1)
     (fresh-asked c q day e p.rows.head passed.not_opened) of
 
-ask-adds : (b : Beginning) (p : Papers) (a : Asked) (r : Option Refusal) (again : Bool) (P : HoldsOf) → refusal p.rows a ≡ r → is_repeat (facts_of p.rows a.ask) a ≡ again → ((after : Papers) → Adds p after → P b after) → ((after : Papers) → AreBare after → P nothing_before after) → P (begun_after r (cond again edit.Nothing (edit_of a.ask (entry_at p.rows.entries (number_named a.ask)) a.day)) b) (papers-by p a r (cond again edit.Nothing (edit_of a.ask (entry_at p.rows.entries (number_named a.ask)) a.day)))
+ask-adds : (b : Beginning) (p : Dossier) (a : Asked) (r : Option Refusal) (again : Bool) (P : HoldsOf) → refusal p.rows a ≡ r → is_repeat (facts_of p.rows a.ask) a ≡ again → ((after : Dossier) → Adds p after → P b after) → ((after : Dossier) → AreBare after → P nothing_before after) → P (begun_after r (cond again edit.Nothing (edit_of a.ask (entry_at p.rows.entries (number_named a.ask)) a.day)) b) (dossier-by p a r (cond again edit.Nothing (edit_of a.ask (entry_at p.rows.entries (number_named a.ask)) a.day)))
 ask-adds b p a (Some r) again P none new of bare = of p (adds-nothing p p.acts (sym (append-nil p.acts)))
 ask-adds b p a None true P none new of bare = of (record p { acts = p.acts ++ [] }) (adds-nothing p (p.acts ++ []) refl)
 ask-adds b p a None false P none new of bare =
@@ -257,7 +257,7 @@ told-seats seats k (Some (entry.Fee f)) line today = refl
 told-seats seats k (Some (entry.Claim l)) line today = refl
 
 -- an act of the bank leaves the seats, is the cashier's to book, and is no approval and no opening
-line-act-adds : (p : Papers) (rows : Rows) (l : BankLine) (today : ℕ) (back : Bool) → rows.seats ≡ p.rows.seats → ((n : ℕ) → days_of_issue (entry_at rows.entries n) ≡ days_of_issue (entry_at p.rows.entries n)) → Adds p (record { rows = rows; acts = p.acts ++ record { entry = Some l.entry; day = today; caller = caller.Cashier; deed = cond back deed.Returned deed.Cleared } ∷ [] })
+line-act-adds : (p : Dossier) (rows : Rows) (l : BankLine) (today : ℕ) (back : Bool) → rows.seats ≡ p.rows.seats → ((n : ℕ) → days_of_issue (entry_at rows.entries n) ≡ days_of_issue (entry_at p.rows.entries n)) → Adds p (record { rows = rows; acts = p.acts ++ record { entry = Some l.entry; day = today; caller = caller.Cashier; deed = cond back deed.Returned deed.Cleared } ∷ [] })
 line-act-adds p rows l today true seats issued = record {
   more = record { entry = Some l.entry; day = today; caller = caller.Cashier; deed = deed.Returned } ∷ [];
   acts = refl;
@@ -275,18 +275,18 @@ line-act-adds p rows l today false seats issued = record {
   fresh = λ opens. absurd (false≢true opens);
 }
 
-line-adds : (p : Papers) (l : BankLine) (today : ℕ) (v : LineEffect) → line_on p.rows l today ≡ v → Adds p (papers-by-line p (line_act (entry_at p.rows.entries l.entry) l today) v)
+line-adds : (p : Dossier) (l : BankLine) (today : ℕ) (v : LineEffect) → line_on p.rows l today ≡ v → Adds p (dossier-by-line p (line_act (entry_at p.rows.entries l.entry) l today) v)
 line-adds p l today told.Repeat is = adds-nothing p p.acts (sym (append-nil p.acts))
 line-adds p l today (told.Unmatched r) is = adds-nothing p p.acts (sym (append-nil p.acts))
 line-adds p l today (told.Applied d) is =
     let f = line_facts p.rows l today in
     let o = entry_at p.rows.entries l.entry in
-    let P : DatedEdit → Type 0 = λ x. Adds p (papers-by-line p (line_act o l today) (told.Applied x)) in
+    let P : DatedEdit → Type 0 = λ x. Adds p (dossier-by-line p (line_act o l today) (told.Applied x)) in
     subst P (applied-matched f d is).1
     (line-act-adds p (changed_by (told_by l.entry o l.line today) (last_by f) p.rows) l today (is_return o l.line)
     (told-seats p.rows.seats l.entry o l.line today) (λ n. told-days p.rows.entries l.entry o l.line today n refl))
 
--- what holds of papers to which a step adds, and of bare ones, holds after each step
-pub step-adds : (b : Beginning) (p : Papers) (step : Doing) (P : HoldsOf) → ((after : Papers) → Adds p after → P b after) → ((after : Papers) → AreBare after → P nothing_before after) → P (beginning_after p step b) (papers_after_step p step)
+-- what holds of a dossier to which a step adds, and of a bare one, holds after each step
+pub step-adds : (b : Beginning) (p : Dossier) (step : Doing) (P : HoldsOf) → ((after : Dossier) → Adds p after → P b after) → ((after : Dossier) → AreBare after → P nothing_before after) → P (beginning_after p step b) (dossier_after_step p step)
 step-adds b p (AnAsk a) P of bare = ask-adds b p a (refusal p.rows a) (is_repeat (facts_of p.rows a.ask) a) P refl refl of bare
-step-adds b p (ALine l today) P of bare = of (papers-by-line p (line_act (entry_at p.rows.entries l.entry) l today) (line_on p.rows l today)) (line-adds p l today (line_on p.rows l today) refl)
+step-adds b p (ALine l today) P of bare = of (dossier-by-line p (line_act (entry_at p.rows.entries l.entry) l today) (line_on p.rows l today)) (line-adds p l today (line_on p.rows l today) refl)

@@ -1,3 +1,3 @@
-pub mod Papers
+pub mod Dossier
 pub mod Added
 pub mod Signed

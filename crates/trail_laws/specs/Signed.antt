@@ -24,7 +24,7 @@ use Rattle.trust_matter.specs.Acts.{deed_of}
 use Rattle.trust_matter.specs.Laws.{Doing, AnAsk, ALine}
 use Rattle.trust_matter.specs.Policy.{allows, rule_of}
 use Rattle.trust_matter.specs.Step.{refusal, edit_on, HasAmount}
-use Rattle.trail_laws.specs.Papers.{Papers, no_papers, papers_after_step, papers_after_run}
+use Rattle.trail_laws.specs.Dossier.{Dossier, no_dossier, dossier_after_step, dossier_after_run}
 
 -- When the acts begin.
 
@@ -59,8 +59,8 @@ abbrev pub begun_after : Option Refusal → Edit → Beginning → Beginning
 begun_after None e b = begun_by e b
 begun_after (Some r) e b = b
 
--- where the acts begin that stand in the papers after a step
-abbrev pub beginning_after : Papers → Doing → Beginning → Beginning
+-- where the acts begin that stand in the dossier after a step
+abbrev pub beginning_after : Dossier → Doing → Beginning → Beginning
 beginning_after p (AnAsk a) b = begun_after (refusal p.rows a) (edit_on p.rows a) b
 beginning_after p (ALine l today) b = b
 
@@ -77,13 +77,13 @@ abbrev pub seats_by : List Seat → Act → List Seat
 seats_by seats act = seats_by_deed seats act.deed
 
 -- the matter's seats are those that its acts left
-abbrev pub AreSeated : Beginning → Papers → Type 0
+abbrev pub AreSeated : Beginning → Dossier → Type 0
 AreSeated b p = fold seats_by b.seats p.acts ≡ p.rows.seats
 
 abbrev pub SeatsFollowActs : Type 0
 SeatsFollowActs =
-    (b : Beginning) (p : Papers) (step : Doing) → AreSeated b p
-    → AreSeated (beginning_after p step b) (papers_after_step p step)
+    (b : Beginning) (p : Dossier) (step : Doing) → AreSeated b p
+    → AreSeated (beginning_after p step b) (dossier_after_step p step)
 
 -- The policy.
 
@@ -124,8 +124,8 @@ AreAllowed seats (act ∷ acts) = (is_allowed seats act ≡ true) × AreAllowed 
 
 abbrev pub ActsStayAllowed : Type 0
 ActsStayAllowed =
-    (b : Beginning) (p : Papers) (step : Doing) → AreSeated b p → AreAllowed b.seats p.acts
-    → AreAllowed (beginning_after p step b).seats (papers_after_step p step).acts
+    (b : Beginning) (p : Dossier) (step : Doing) → AreSeated b p → AreAllowed b.seats p.acts
+    → AreAllowed (beginning_after p step b).seats (dossier_after_step p step).acts
 
 abbrev pub is_approval : Deed → Bool
 is_approval deed.Approved = true
@@ -170,7 +170,7 @@ days_of_approval n acts = map (λ (act : Act). act.day) (filter (approves n) act
 
 -- the seats are those that the acts left, each act was allowed, and each payment that is or was issued has exactly one
 -- approval, on the day of its issue, unless it was issued before the acts begin; nothing was before an opening
-pub record IsSigned (b : Beginning) (p : Papers) : Type 0 where
+pub record IsSigned (b : Beginning) (p : Dossier) : Type 0 where
   pub seats : AreSeated b p
   pub allowed : AreAllowed b.seats p.acts
   pub issued : (n : ℕ) → b.issued n ++ days_of_approval n p.acts ≡ days_of_issue (entry_at p.rows.entries n)
@@ -189,10 +189,10 @@ pub record IsApprovedOnce (seats : List Seat) (n day : ℕ) (acts : List Act) : 
   pub none_before : days_of_approval n before ≡ []
   pub none_behind : days_of_approval n behind ≡ []
 
--- in signed papers this is so of each payment that was not issued before the acts begin, and is or was issued
+-- in a signed dossier this is so of each payment that was not issued before the acts begin, and is or was issued
 abbrev pub IssuesAreApproved : Type 0
 IssuesAreApproved =
-    (b : Beginning) (p : Papers) (n day : ℕ) → IsSigned b p → b.issued n ≡ []
+    (b : Beginning) (p : Dossier) (n day : ℕ) → IsSigned b p → b.issued n ≡ []
     → days_of_issue (entry_at p.rows.entries n) ≡ day ∷ [] → IsApprovedOnce b.seats n day p.acts
 
 -- what the rows themselves say of the time before the acts begin
@@ -203,29 +203,29 @@ beginning_of rows = record { seats = rows.seats; issued = λ n. days_of_issue (e
 abbrev pub NoActsAreSigned : Type 0
 NoActsAreSigned = (rows : Rows) → IsSigned (beginning_of rows) (record { rows = rows; acts = [] })
 
--- each step keeps the papers of sound rows signed
+-- each step keeps the dossier of sound rows signed
 abbrev pub StepsKeepSigned : Type 0
 StepsKeepSigned =
-    (b : Beginning) (p : Papers) (step : Doing) → Sound p.rows → IsSigned b p
-    → IsSigned (beginning_after p step b) (papers_after_step p step)
+    (b : Beginning) (p : Dossier) (step : Doing) → Sound p.rows → IsSigned b p
+    → IsSigned (beginning_after p step b) (dossier_after_step p step)
 
 -- the amount in an ask, if any, is in range
 abbrev pub HasItsAmount : Doing → Type 0
 HasItsAmount (AnAsk a) = HasAmount a.ask
 HasItsAmount (ALine l today) = Unit {0}
 
--- where the acts begin that stand in the papers after a run of steps
-abbrev pub beginning_after_run : Papers → List Doing → Beginning → Beginning
+-- where the acts begin that stand in the dossier after a run of steps
+abbrev pub beginning_after_run : Dossier → List Doing → Beginning → Beginning
 beginning_after_run p [] b = b
-beginning_after_run p (step ∷ run) b = beginning_after_run (papers_after_step p step) run (beginning_after p step b)
+beginning_after_run p (step ∷ run) b = beginning_after_run (dossier_after_step p step) run (beginning_after p step b)
 
 -- so does each run
 abbrev pub RunsKeepSigned : Type 0
 RunsKeepSigned =
-    (b : Beginning) (p : Papers) (run : List Doing) → AllByRecursion HasItsAmount run → Sound p.rows → IsSigned b p
-    → IsSigned (beginning_after_run p run b) (papers_after_run p run)
+    (b : Beginning) (p : Dossier) (run : List Doing) → AllByRecursion HasItsAmount run → Sound p.rows → IsSigned b p
+    → IsSigned (beginning_after_run p run b) (dossier_after_run p run)
 
--- after every run from a matter that was never opened its papers are signed
+-- after every run from a matter that was never opened its dossier is signed
 abbrev pub RunsAreSigned : Type 0
 RunsAreSigned =
-    (run : List Doing) → AllByRecursion HasItsAmount run → IsSigned nothing_before (papers_after_run no_papers run)
+    (run : List Doing) → AllByRecursion HasItsAmount run → IsSigned nothing_before (dossier_after_run no_dossier run)

@@ -1,4 +1,4 @@
-//! Laws of a matter's acts, which say who did what in it. A matter's papers are its rows with its acts, as asks and
+//! Laws of a matter's acts, which say who did what in it. A matter's dossier is its rows with its acts, as asks and
 //! bank lines leave them. No book keeps acts.
 //!
 //! # What is promised

@@ -1,4 +1,4 @@
--- A matter's papers: its rows, and the acts that it is remembered by. What an ask and a bank line leave of them.
+-- A matter's dossier: its rows, and the acts that it is remembered by. What an ask and a bank line leave of them.
 use Rattle.std.specs.Prelude.{ℕ, List, [], ◌∷◌, ◌++◌, Option, Some, None, fold}
 use Rattle.trust_base.specs.declared.refusal.Refusal.{Refusal}
 use Rattle.matter_rows.specs.declared.act.Act.{Act}
@@ -14,13 +14,13 @@ use Rattle.trust_matter.specs.LineStep.{line_on, line_act, rows_after_line}
 use Rattle.trust_matter.specs.Step.{refusal, edit_on, act_on, rows_after}
 
 -- the rows of a matter, and what was accepted of it, in order
-pub record Papers : Type 0 where
+pub record Dossier : Type 0 where
   pub rows : Rows
   pub acts : List Act
 
 -- those of a matter that was never opened
-abbrev pub no_papers : Papers
-no_papers = record { rows = unopened; acts = [] }
+abbrev pub no_dossier : Dossier
+no_dossier = record { rows = unopened; acts = [] }
 
 -- a purge leaves no acts, as it leaves no entries; any other edit leaves all of them
 abbrev pub kept_acts : Edit → List Act → List Act
@@ -36,9 +36,9 @@ abbrev pub acts_after : Option Refusal → Edit → Option Act → List Act → 
 acts_after None e act acts = kept_acts e acts ++ joined_act act
 acts_after (Some r) e act acts = acts
 
--- the papers after an ask
-abbrev pub papers_after : Papers → Asked → Papers
-papers_after p a = record {
+-- the dossier after an ask
+abbrev pub dossier_after : Dossier → Asked → Dossier
+dossier_after p a = record {
   rows = rows_after p.rows a;
   acts = acts_after (refusal p.rows a) (edit_on p.rows a) (act_on p.rows a) p.acts;
 }
@@ -48,18 +48,18 @@ acts_after_line (told.Applied e) act acts = acts ++ act ∷ []
 acts_after_line told.Repeat act acts = acts
 acts_after_line (told.Unmatched r) act acts = acts
 
--- the papers after a bank line on a business day
-abbrev pub papers_after_line : Papers → BankLine → ℕ → Papers
-papers_after_line p l today = record {
+-- the dossier after a bank line on a business day
+abbrev pub dossier_after_line : Dossier → BankLine → ℕ → Dossier
+dossier_after_line p l today = record {
   rows = rows_after_line p.rows l today;
   acts = acts_after_line (line_on p.rows l today) (line_act (entry_at p.rows.entries l.entry) l today) p.acts;
 }
 
--- the papers after a step, which is an ask, or a bank line on a business day
-abbrev pub papers_after_step : Papers → Doing → Papers
-papers_after_step p (AnAsk a) = papers_after p a
-papers_after_step p (ALine l today) = papers_after_line p l today
+-- the dossier after a step, which is an ask, or a bank line on a business day
+abbrev pub dossier_after_step : Dossier → Doing → Dossier
+dossier_after_step p (AnAsk a) = dossier_after p a
+dossier_after_step p (ALine l today) = dossier_after_line p l today
 
--- the papers after a run of steps
-abbrev pub papers_after_run : Papers → List Doing → Papers
-papers_after_run p run = fold papers_after_step p run
+-- the dossier after a run of steps
+abbrev pub dossier_after_run : Dossier → List Doing → Dossier
+dossier_after_run p run = fold dossier_after_step p run
