@@ -11,9 +11,9 @@
 //! - `append_reconciliation`: over every book: the reconciliation of a day is appended, or nothing where no closing
 //!   balance of the day is kept; whether it may be told is found of the same rows (`told`); nothing changes, after a
 //!   crash neither (`read`).
-//! - `append_day_report`, `append_period_report`: over every book: the bytes of each report as of a day and of a period,
-//!   the packet of month's end among them, are those of the definition, of one state of the book's rows, and whether
-//!   they may be told is found of the same rows (`told`); nothing changes, after a crash neither (`read`).
+//! - `append_day_report`, `append_period_report`: over every book: the bytes of each report as of a day and of a
+//!   period, the packet of month's end among them, are those of the definition, of one state of the book's rows, and
+//!   whether they may be told is found of the same rows (`told`); nothing changes, after a crash neither (`read`).
 //! - `check`: over every book whose store can be read as rows, **sound or not: it finds no flaw exactly if the rows are
 //!   those of a sound firm** (`sound`), and a flaw that it finds is there (`flaw`); there are as many matters, entries,
 //!   movements, lines of the firm's own, exceptions and balances as it says (`counts`); the book stays as it is, after

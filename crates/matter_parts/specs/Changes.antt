@@ -18,8 +18,8 @@ use Rattle.matter_parts.specs.declared.change.Left.{Left}
 use Rattle.matter_parts.specs.declared.change.TotalsAfter.{TotalsAfter}
 use Rattle.matter_parts.specs.Parts.{AreFigures, AreSmall}
 
--- a change: the edit, the matter's last day after it, the totals after it, its movement in the journal, and the act that
--- it is remembered by: None if nothing changes, and of a purge
+-- a change: the edit, the matter's last day after it, the totals after it, its movement in the journal, and the act
+-- that it is remembered by: None if nothing changes, and of a purge
 pub record MatterChange : Type 0 where
   pub edit : Edit
   pub last : ℕ

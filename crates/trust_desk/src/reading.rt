@@ -1,4 +1,4 @@
-//! What is read of the desk's book beside its requests.
+//! What is read of the desk's book beside its requests: the calls of `book_reports`, over the book that the desk keeps.
 
 ghost use Rattle.std.specs.Prelude.{◌≡◌, ◌↔◌, IfOk, IfSome, None, OnOk};
 ghost use Rattle.firm_audit.specs.Flaws.{IsFlawOf};
@@ -16,13 +16,8 @@ use trust_base::{Day, MatterNo, StoreFault};
 use trust_store::Book;
 
 impl<B: Book> Desk<B> {
-    /// Reads all rows of the book, and returns how many there are and what is not sound in them. The store may hold
-    /// anything that can be read as rows. No flaw is returned exactly if the rows are those of a sound firm, and one
-    /// that is returned is there. It is never `Flaw::Matter`, since a book returns whole matters only. The book is
-    /// unchanged.
-    ///
-    /// Returns `Store` if the book's store failed, if a row is invalid, or if a matter is not the whole of sound rows;
-    /// `find_unread` then returns which. Returns `Memory` if memory ran out.
+    /// Reads all rows of the book, and returns how many there are and what is not sound in them, as
+    /// `book_reports::check`, with its errors. The book is unchanged.
     pub fn check(&mut self, alloc: Global) -> Result<Checked, StoreFault>
         ensures sound { (B.seen self.new).clean → (B.seen self.old).readable
             → IfOk result (λ c. c.flaw ≡ None ↔ FirmSound (B.seen self.old).firm) }
@@ -35,10 +30,8 @@ impl<B: Book> Desk<B> {
         check(alloc, &mut self.book)
     }
 
-    /// Returns which part of the book can't be read on a business day, after `check` returned `Store`: the first row
-    /// that a separate read does not pass on, or the first matter that it does not return. The book is unchanged.
-    ///
-    /// Returns `Store` if the book's store does not work, which one more read shows, and `Memory` if memory ran out.
+    /// Returns which part of the book can't be read on a business day, after `check` returned `Store`, as
+    /// `book_reports::find_unread`, with its errors. The book is unchanged.
     pub fn find_unread(&mut self, alloc: Global, day: Day) -> Result<Unread, StoreFault>
         ensures reads { AreReads (B.seen self.old) (B.seen self.new) }
         ensures serves { (B.seen self.new).sure → OnOk result (B.seen self.new).clean }
@@ -46,11 +39,9 @@ impl<B: Book> Desk<B> {
         find_unread(alloc, &mut self.book, day)
     }
 
-    /// Reports to `watch` what the rows of a book show that a reader of a day's report should know, as
-    /// `ClearedLines::up_to` has it. The book is unchanged. The contract does not say what `watch` is told. A trial
-    /// balance and a reconciliation show it with the rows that they read (`answer_beside`).
-    ///
-    /// Returns `Store` if the book's store failed, and `Memory` if memory ran out.
+    /// Reports to `watch` what a reader of a day's report should know of the book's rows, as
+    /// `book_reports::tell_rows`, with its errors. The book is unchanged. A trial balance and a reconciliation show it
+    /// with the rows that they read (`answer_beside`).
     pub fn tell_rows<V: RowWatch>(
         &mut self,
         alloc: Global,
@@ -62,12 +53,8 @@ impl<B: Book> Desk<B> {
         tell_rows(alloc, &mut self.book, day, watch)
     }
 
-    /// Reports to `watch`, in the order of their items, which of the lines that an import applied stand on something
-    /// else too, by an earlier import: those for which the book has another line of the same date, bank reference and
-    /// amount. The book is unchanged, and is not read if nothing was applied. The contract does not say what `watch` is
-    /// told.
-    ///
-    /// Returns `Store` if the book's store failed, and `Memory` if memory ran out.
+    /// Reports to `watch` which of the lines that an import applied an earlier import applied to something else, as
+    /// `book_reports::tell_earlier`, with its errors. The book is unchanged.
     pub fn tell_earlier<V: EarlierWatch>(
         &mut self,
         alloc: Global,
@@ -79,10 +66,8 @@ impl<B: Book> Desk<B> {
         tell_earlier(alloc, &mut self.book, applied, watch)
     }
 
-    /// Reports to `watch`, in the order of their numbers, the payments of a matter that were issued and that no line of
-    /// the bank has cleared. The book is unchanged. The contract does not say what `watch` is told.
-    ///
-    /// Returns `Store` if the book's store failed, and `Memory` if memory ran out.
+    /// Reports to `watch` the payments of a matter that were issued and that no line of the bank has cleared, as
+    /// `book_reports::tell_outstanding`, with its errors. The book is unchanged.
     pub fn tell_outstanding<V: PaymentWatch>(
         &mut self,
         alloc: Global,
