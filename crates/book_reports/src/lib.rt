@@ -20,8 +20,8 @@
 //!   a crash too (`read`). An error wants no cause.
 //! - `find_unread`: it reads, and any of its reads may fail: the book stays as it is, also after a crash if the store
 //!   still serves (`reads`), as it does after an Ok (`serves`). No clause says what it finds.
-//! - `tell_rows`, `tell_earlier`, `tell_outstanding`: the book stays as it is, after a crash too. No clause says what is
-//!   reported.
+//! - `tell_rows`, `tell_earlier`, `tell_outstanding`: the book stays as it is, after a crash too. No clause says what
+//!   is reported.
 //!
 //! A report keeps sums and what it prints; the reconciliation also keeps the payments issued and not voided by its day,
 //! of which it lists those with another's instrument, and the balances dated by its day.

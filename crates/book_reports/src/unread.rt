@@ -5,8 +5,8 @@ ghost use Rattle.book_reports.specs.Checking.{AreReads};
 ghost use Rattle.trust_store.specs.Calls.{IsRead};
 
 use firm_rows::{
-    BalanceKind, BalanceRow, BalanceSink, ExceptionSink, FirmLine, FirmLineSink, MatterRow,
-    MatterRowSink, Movement, MovementSink,
+    ActSink, BalanceKind, BalanceRow, BalanceSink, ExceptionSink, FirmLine, FirmLineSink,
+    MatterAct, MatterRow, MatterRowSink, Movement, MovementSink,
 };
 use std::alloc::{AllocError, Global};
 use std::marker::Model;
@@ -35,6 +35,8 @@ pub enum Unread {
     Exception(u64),
     /// The nth balance, from 1.
     Balance(u64),
+    /// The nth act, from 1.
+    Act(u64),
     /// None of these: the rows can't be read together.
     Elsewhere,
 }
@@ -80,7 +82,7 @@ impl MatterRowSink for MattersSeen {
     }
 }
 
-// Counts the rows that it receives, of any kind that is of no matter.
+// Counts the rows that it receives, of any kind but those of matters.
 //
 // Contracts see nothing of it.
 #[derive(Drop)]
@@ -141,6 +143,15 @@ impl BalanceSink for RowsSeen {
     ghost balanced = { λ seen row. seen };
 
     fn balance(&mut self, _row: &BalanceRow) -> Result<(), AllocError> {
+        self.see();
+        Ok(())
+    }
+}
+
+impl ActSink for RowsSeen {
+    ghost remembered = { λ seen act. seen };
+
+    fn act(&mut self, _act: &MatterAct) -> Result<(), AllocError> {
         self.see();
         Ok(())
     }
@@ -237,7 +248,8 @@ fn unread_of_matters<B: Book>(alloc: Global, book: &mut B) -> Result<Option<Unre
     unread_matter(alloc, book, &seen.matters)
 }
 
-// Returns which row of the journal, of the firm's own lines, of the exceptions or of the balances can't be read.
+// Returns which row of the journal, of the firm's own lines, of the exceptions, of the balances or of the acts can't be
+// read.
 #[tactic(auto, using(crate::proofs::ReadCalls::reads_of_read))]
 fn unread_of_firm<B: Book>(book: &mut B) -> Result<Unread, StoreFault>
     ensures { AreReads (B.seen book.old) (B.seen book.new) }
@@ -257,6 +269,10 @@ fn unread_of_firm<B: Book>(book: &mut B) -> Result<Unread, StoreFault>
     let mut seen = RowsSeen::new();
     if !is_answered(book.each_balance(&mut seen))? {
         return Ok(Unread::Balance(seen.next()));
+    }
+    let mut seen = RowsSeen::new();
+    if !is_answered(book.each_act(&mut seen))? {
+        return Ok(Unread::Act(seen.next()));
     }
     Ok(Unread::Elsewhere)
 }

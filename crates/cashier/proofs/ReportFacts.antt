@@ -1,5 +1,5 @@
 -- What the reply to a report says of the program's end, and that a report makes no rows.
-use Rattle.cashier.proofs.Names.{◌≡◌, ℕ, Option, inl, inr, Refusal, Firm, Seen, LeavesOr, IsMade, MayLeave, after_asked, Asks, asked_on, arith, ints, nat_tests}
+use Rattle.cashier.proofs.Names.{◌≡◌, ℕ, Option, Some, None, refl, inl, inr, Refusal, Firm, Seen, LeavesOr, IsMade, MayLeave, after_asked, Asks, asked_on, arith, ints, nat_tests}
 use Rattle.trust_matter.specs.declared.ask.Ask.TheVariants.{Account, Accounting}
 use Rattle.command_line.specs.declared.command.ReportCommand.{ReportCommand}
 use Rattle.trust_base.specs.Periods.{Span}
@@ -8,11 +8,13 @@ use Rattle.cashier.specs.Report.{asked_for}
 
 -- an accounting changes nothing, whether it is refused or not
 accounting-same : (o : Option Refusal) (day m : ℕ) (firm : Firm) → after_asked o m (asked_on day Cashier Accounting) firm ≡ firm
-accounting-same o day m firm = grind (arith, ints, nat_tests)
+accounting-same None day m firm = refl
+accounting-same (Some r) day m firm = refl
 
 -- nor does an account of a period
 account-same : (o : Option Refusal) (day m : ℕ) (period : Span) (firm : Firm) → after_asked o m (asked_on day Cashier (Account period)) firm ≡ firm
-account-same o day m period firm = grind (arith, ints, nat_tests)
+account-same None day m period firm = refl
+account-same (Some r) day m period firm = refl
 
 -- the rows that a report makes are those that were there
 report-makes : (day : ℕ) (firm found : Firm) (command : ReportCommand) → IsMade day firm (Asks (asked_for command)) found → found ≡ firm

@@ -14,7 +14,7 @@ use Rattle.book_reports.specs.Checking.{AreCountsOf}
 use Rattle.book_reports.specs.declared.checking.RowCounts.{RowCounts}
 use Rattle.book_reports.specs.declared.unread.Unread.{Unread}
 use Rattle.book_reports.specs.declared.unread.Unread.TheVariants as unread
-use Rattle.sql_schema.specs.Schema.{balance_table_name, entry_table_name, exception_table_name, firm_line_table_name}
+use Rattle.sql_schema.specs.Schema.{act_table_name, balance_table_name, entry_table_name, exception_table_name, firm_line_table_name}
 use Rattle.sql_schema.specs.Schema.{journal_table_name, matter_table_name, seat_table_name}
 use Rattle.portal_http.specs.Output.{Output}
 use Rattle.cashier.specs.Report.{refused_outcome}
@@ -61,6 +61,7 @@ unread_text (unread.Movement n) = codes "ROW " ++ (journal_table_name ++ (codes 
 unread_text (unread.FirmLine n) = codes "ROW " ++ (firm_line_table_name ++ (codes " " ++ decimal n))
 unread_text (unread.Exception n) = codes "ROW " ++ (exception_table_name ++ (codes " " ++ decimal n))
 unread_text (unread.Balance n) = codes "ROW " ++ (balance_table_name ++ (codes " " ++ decimal n))
+unread_text (unread.Act n) = codes "ROW " ++ (act_table_name ++ (codes " " ++ decimal n))
 unread_text unread.Elsewhere = codes "ROW ELSEWHERE"
 
 -- the result of a check

@@ -17,8 +17,8 @@ ghost use Rattle.book_reports.specs.declared.checking.RowCounts.{RowCounts};
 use crate::outcome::{Outcome, outcome_of_refusal, write_refusal};
 use cashier_remarks::{Remark, Remarks};
 use sql_schema::{
-    BALANCE_TABLE, ENTRY_TABLE, EXCEPTION_TABLE, FIRM_LINE_TABLE, JOURNAL_TABLE, MATTER_TABLE,
-    SEAT_TABLE,
+    ACT_TABLE, BALANCE_TABLE, ENTRY_TABLE, EXCEPTION_TABLE, FIRM_LINE_TABLE, JOURNAL_TABLE,
+    MATTER_TABLE, SEAT_TABLE,
 };
 use std::alloc::Global;
 use std::fmt;
@@ -109,6 +109,7 @@ impl fmt::Display for RowName {
             Unread::FirmLine(number) => write!(f, "ROW {FIRM_LINE_TABLE} {number}"),
             Unread::Exception(number) => write!(f, "ROW {EXCEPTION_TABLE} {number}"),
             Unread::Balance(number) => write!(f, "ROW {BALANCE_TABLE} {number}"),
+            Unread::Act(number) => write!(f, "ROW {ACT_TABLE} {number}"),
             Unread::Elsewhere => f.write_str("ROW ELSEWHERE"),
         }
     }

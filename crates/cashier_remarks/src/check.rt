@@ -1,8 +1,8 @@
 // Remarks about rows that are not sound.
 
 use sql_schema::{
-    BALANCE_TABLE, ENTRY_TABLE, EXCEPTION_TABLE, FIRM_LINE_TABLE, JOURNAL_TABLE, MATTER_TABLE,
-    SEAT_TABLE,
+    ACT_TABLE, BALANCE_TABLE, ENTRY_TABLE, EXCEPTION_TABLE, FIRM_LINE_TABLE, JOURNAL_TABLE,
+    MATTER_TABLE, SEAT_TABLE,
 };
 use std::fmt;
 use trust_base::MatterNo;
@@ -95,6 +95,7 @@ pub fn write_unread<W: fmt::Write>(f: &mut fmt::Formatter<W>, unread: &Unread) -
         Unread::FirmLine(number) => write_unread_row(f, *number, FIRM_LINE_TABLE),
         Unread::Exception(number) => write_unread_row(f, *number, EXCEPTION_TABLE),
         Unread::Balance(number) => write_unread_row(f, *number, BALANCE_TABLE),
+        Unread::Act(number) => write_unread_row(f, *number, ACT_TABLE),
         Unread::Elsewhere => f.write_str("the rows can't be read together"),
     }
 }

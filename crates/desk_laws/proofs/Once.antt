@@ -1,6 +1,7 @@
 -- What was asked and accepted, and a line that was applied, are repeats after every run.
-use Rattle.desk_laws.proofs.Names.{◌≡◌, ℕ, Bool, true, false, List, [], ◌++◌, Option, refl, sym, ap, ◌∙◌, subst, cond-true, is_some, Refusal, Edit, BankLine, LineEffect, Rows, is_purged, Asked, facts_of, is_repeat, last_after, refusal, edit_on, rows_after, line_on, rows_after_line, IsApplied, purged-unapplied, Firm, of, after_edit, Item, after_told, after_item, after_items, counted_as, Heard, Own, own_of, own_of_item, after_asked, after_ask, firm_step, solo_rows, DayRun, RunsOn, OnceOnly, LineOnceOnly, arith, ints, nat_tests}
+use Rattle.desk_laws.proofs.Names.{◌≡◌, ℕ, Bool, true, false, List, [], ◌++◌, Option, refl, sym, ap, ◌∙◌, subst, cond-true, is_some, Some, None, Refusal, Edit, BankLine, LineEffect, Rows, is_purged, Asked, facts_of, is_repeat, last_after, refusal, edit_on, rows_after, line_on, rows_after_line, IsApplied, purged-unapplied, Firm, of, acted, after_edit, Item, after_told, after_item, after_items, counted_as, Heard, Own, own_of, own_of_item, after_asked, after_ask, firm_step, solo_rows, DayRun, RunsOn, OnceOnly, LineOnceOnly, arith, ints, nat_tests}
 use Rattle.matter_parts.specs.declared.edit.Edit.TheVariants as edit
+use Rattle.trust_matter.specs.Step.{act_on}
 use Rattle.trust_matter.specs.declared.line_verdict.LineEffect.TheVariants as told
 use Rattle.matter_laws.proofs.Purging.{refused}
 use Rattle.statement_csv.specs.declared.item.Item.TheVariants as item
@@ -30,7 +31,10 @@ runs-later m firm new runs run = runs-keep (λ f. IsLater (of m firm) (of m f)) 
 
 -- a repeat changes nothing of the firm
 unchanged : (o : Option Refusal) (m : ℕ) (a : Asked) (firm : Firm) → edit_on (of m firm) a ≡ edit.Nothing → after_asked o m a firm ≡ firm
-unchanged o m a firm none = grind (arith, ints, nat_tests, after_edit, last_after, of)
+unchanged None m a firm none =
+    let last = last_after (of m firm).head (edit_on (of m firm) a) a.day in
+    ap (λ (e : Edit). acted m e (act_on (of m firm) a) (after_edit m e last firm)) none
+unchanged (Some r) m a firm none = refl
 
 refused-leaves : (o : Option Refusal) (m : ℕ) (a : Asked) (firm : Firm) → is_some o ≡ true → after_asked o m a firm ≡ firm
 refused-leaves o m a firm is = grind (arith, ints, nat_tests)
@@ -53,10 +57,13 @@ once-only m a again firm new between makes accepted runs same =
 pub was-applied : (e : LineEffect) → counted_as e ≡ counted.Applied → IsApplied e
 was-applied e is = grind (arith, ints, nat_tests)
 
--- a line that is not applied leaves the rows and the movements
-both-stay : (l : BankLine) (firm : Firm) (e : LineEffect) → (IsApplied e → ⊥)
-    → ((after_told l e firm).rows ≡ firm.rows) × ((after_told l e firm).movements ≡ firm.movements)
-both-stay l firm e none = grind (arith, ints, nat_tests)
+-- a line that is not applied leaves the rows, the movements and the acts
+all-stay : (l : BankLine) (day : ℕ) (firm : Firm) (e : LineEffect) → (IsApplied e → ⊥)
+    → ((after_told l day e firm).rows ≡ firm.rows) × ((after_told l day e firm).movements ≡ firm.movements)
+    × ((after_told l day e firm).acts ≡ firm.acts)
+all-stay l day firm (told.Applied e) none = absurd (none tt)
+all-stay l day firm told.Repeat none = (refl, refl, refl)
+all-stay l day firm (told.Unmatched r) none = (refl, refl, refl)
 
 not-applied : (firm : Firm) (l : BankLine) (day : ℕ) (b : Bool) → is_purged (of l.matter firm).head ≡ b → (is_purged (of l.matter firm).head ≡ false → line_on (of l.matter firm) l day ≡ told.Repeat) → IsApplied (line_on (of l.matter firm) l day) → ⊥
 not-applied firm l day true is repeat applied = purged-unapplied (of l.matter firm) l day is applied
@@ -74,5 +81,13 @@ line-once-only l again day later firm mid rest front between applied same runs =
     let own : is_purged (of m now).head ≡ false = subst (λ (k : ℕ). is_purged (of k now).head ≡ false) same.matter kept in
     let solo : is_purged (solo_rows (rows_after_line (of m firm) l day) all.0).head ≡ false = subst (λ (r : Rows). is_purged r.head ≡ false) rows own in
     (λ i. line_on (of (same.matter i) now) again later) ∙ (ap (λ r. line_on r again later) rows ∙ repeat-later (of m firm) l again day later all.0 (was-applied (line_on (of m firm) l day) applied) same.line solo) in
-    let stay = both-stay again now (line_on (of again.matter now) again later) (not-applied now again later (is_purged (of again.matter now).head) refl repeat) in
-    grind (arith, ints, nat_tests, counted_as, after_told)
+    let stay = all-stay again later now (line_on (of again.matter now) again later) (not-applied now again later (is_purged (of again.matter now).head) refl repeat) in
+    record {
+      rows = stay.0;
+      movements = stay.1;
+      acts = stay.2;
+      repeat = λ kept. record {
+        repeat = ap counted_as (repeat kept);
+        leaves = ap (λ (e : LineEffect). after_told again later e now) (repeat kept);
+      };
+    }

@@ -1,5 +1,6 @@
 -- A line of the firm's own, and a balance, that were applied are so once after every run.
-use Rattle.desk_laws.proofs.Names.{◌≡◌, ◌≢◌, ℕ, Bool, true, false, Option, Some, None, refl, sym, ap, ◌∙◌, subst, ℤ, nat_le, if◌then◌else◌, list_any, int_eq, bytes_eq, Decides-int_eq, Line, Edit, BalanceKind, Verdict, Firm, after_edit, after, by_balance, by_firm_line, is_kept_as, is_bookable, kept_balance, balance_verdict, edit-leaves, line-kept, lines-stay, balance-kept, balances-stay, after_balance, after_item, after_items, balance_item, balance_on, counted_by, counted_of, firm_line_on, IsRepeated, IsUnmatched, IsSameFirmLine, FirmLineOnce, IsBalanceOver, BalanceOnce, arith, ints, nat_tests}
+use Rattle.desk_laws.proofs.Names.{◌≡◌, ◌≢◌, ℕ, Bool, true, false, Option, Some, None, refl, sym, ap, ◌∙◌, subst, ℤ, nat_le, if◌then◌else◌, list_any, int_eq, bytes_eq, Decides-int_eq, Line, Edit, BalanceKind, Verdict, Firm, acted, after_edit, after, by_balance, by_firm_line, is_kept_as, is_bookable, kept_balance, balance_verdict, edit-leaves, line-kept, lines-stay, balance-kept, balances-stay, after_balance, after_item, after_items, balance_item, balance_on, counted_by, counted_of, firm_line_on, IsRepeated, IsUnmatched, IsSameFirmLine, FirmLineOnce, IsBalanceOver, BalanceOnce, arith, ints, nat_tests}
+use Rattle.matter_rows.specs.declared.act.Act.{Act}
 use Rattle.firm_rows.specs.declared.ledger.BalanceKind.TheVariants as kind
 use Rattle.firm_rows.specs.declared.ledger.Verdict.TheVariants as own
 use Rattle.firm_rows.specs.LinesStay.{is_line_kept}
@@ -17,8 +18,8 @@ line-first day firm line some = grind (arith, ints, nat_tests, after, line-kept)
 abbrev KeepsLine : Line → Firm → Type 0
 KeepsLine line firm = is_line_kept line firm ≡ true
 
-line-edits : (line : Line) (m : ℕ) (e : Edit) (last : ℕ) (firm : Firm) → KeepsLine line firm → KeepsLine line (after_edit m e last firm)
-line-edits line m e last firm kept = ap (list_any (is_kept_as line)) (edit-leaves m e last firm).0 ∙ kept
+line-edits : (line : Line) (m : ℕ) (e : Edit) (last : ℕ) (act : Option Act) (firm : Firm) → KeepsLine line firm → KeepsLine line (acted m e act (after_edit m e last firm))
+line-edits line m e last act firm kept = ap (list_any (is_kept_as line)) (edit-leaves m e last firm).0 ∙ kept
 
 -- the same line is kept as well
 same-kept : (line again : Line) (firm : Firm) → IsSameFirmLine line again → KeepsLine line firm → KeepsLine again firm
@@ -64,8 +65,8 @@ balance-first k day firm line some = cases (kept_balance k line.date firm.balanc
     cases (Some amount) kept some = again amount (int_eq amount line.amount) refl kept some
 
 -- and stays kept
-balance-edits : (k : BalanceKind) (line : Line) (m : ℕ) (e : Edit) (last : ℕ) (firm : Firm) → KeepsBalance k line firm → KeepsBalance k line (after_edit m e last firm)
-balance-edits k line m e last firm kept = ap (kept_balance k line.date) (edit-leaves m e last firm).1 ∙ kept
+balance-edits : (k : BalanceKind) (line : Line) (m : ℕ) (e : Edit) (last : ℕ) (act : Option Act) (firm : Firm) → KeepsBalance k line firm → KeepsBalance k line (acted m e act (after_edit m e last firm))
+balance-edits k line m e last act firm kept = ap (kept_balance k line.date) (edit-leaves m e last firm).1 ∙ kept
 
 -- where it is kept, the rule answers by the amount alone
 module _ (day : ℕ) (firm : Firm) (k : BalanceKind) (line again : Line) (date : again.date ≡ line.date) (kept : KeepsBalance k line firm) where

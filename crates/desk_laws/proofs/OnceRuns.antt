@@ -1,8 +1,11 @@
 -- What every item and every step of a firm keeps, every run keeps.
-use Rattle.desk_laws.proofs.Names.{ℕ, List, [], ◌∷◌, Option, Some, None, sym, subst, Refusal, Line, Edit, last_after, BankLine, LineEffect, Asked, line_on, refusal, edit_on, BalanceKind, Firm, of, after_edit, FirmChange, Repeated, Unmatched, after, FitsFirm, by_balance, by_firm_line, balance-fits, firm_line-fits, Item, Reply, after_told, after_item, after_items, after_balance, balance_on, firm_line_on, Heard, Kind, OfMatter, OfItems, Dismisses, kind_of, asked_on, dismiss_refusal, dismissed_unless, is_fault_reply, after_asked, firm_step, kind_step, KindStopped, Steps, Runs, DayRun, RunsOn, arith, ints, nat_tests}
+use Rattle.desk_laws.proofs.Names.{ℕ, List, [], ◌∷◌, Option, Some, None, sym, subst, Refusal, Line, Edit, last_after, BankLine, LineEffect, Asked, line_on, refusal, edit_on, BalanceKind, Firm, of, acted, after_edit, FirmChange, Repeated, Unmatched, after, FitsFirm, by_balance, by_firm_line, balance-fits, firm_line-fits, Item, Reply, after_told, after_item, after_items, after_balance, balance_on, firm_line_on, Heard, Kind, OfMatter, OfItems, Dismisses, kind_of, asked_on, dismiss_refusal, dismissed_unless, is_fault_reply, after_asked, firm_step, kind_step, KindStopped, Steps, Runs, DayRun, RunsOn, arith, ints, nat_tests}
+use Rattle.matter_rows.specs.declared.act.Act.{Act}
+use Rattle.trust_matter.specs.Step.{act_on}
 use Rattle.trust_matter.specs.declared.line_verdict.LineEffect.TheVariants as told
 use Rattle.firm_rows.specs.declared.ledger.BalanceKind.TheVariants as kind
 use Rattle.statement_csv.specs.declared.item.Item.TheVariants as item
+use Rattle.trust_desk.specs.ItemStep.{told_act}
 
 -- By items.
 
@@ -39,11 +42,14 @@ module _ (P : Firm → Type 0) (item-keeps : (day : ℕ) (firm : Firm) (it : Ite
 
 -- What the changes of a firm that fit keep, and the edits of its matters.
 
-module _ (P : Firm → Type 0) (change-keeps : (change : FirmChange) (firm : Firm) → FitsFirm firm change → P firm → P (after change firm)) (edit-keeps : (m : ℕ) (e : Edit) (last : ℕ) (firm : Firm) → P firm → P (after_edit m e last firm)) where
-  told-keeps : (l : BankLine) (e : LineEffect) (firm : Firm) → P firm → P (after_told l e firm)
-  told-keeps l (told.Applied e) firm is = change-keeps (Repeated l.line) (after_edit l.matter e.edit e.last firm) tt (edit-keeps l.matter e.edit e.last firm is)
-  told-keeps l told.Repeat firm is = change-keeps (Repeated l.line) firm tt is
-  told-keeps l (told.Unmatched r) firm is = change-keeps (Unmatched l.line) firm tt is
+module _ (P : Firm → Type 0) (change-keeps : (change : FirmChange) (firm : Firm) → FitsFirm firm change → P firm → P (after change firm)) (edit-keeps : (m : ℕ) (e : Edit) (last : ℕ) (act : Option Act) (firm : Firm) → P firm → P (acted m e act (after_edit m e last firm))) where
+  told-keeps : (l : BankLine) (day : ℕ) (e : LineEffect) (firm : Firm) → P firm → P (after_told l day e firm)
+  told-keeps l day (told.Applied e) firm is =
+      let act : Option Act = Some (told_act l day firm) in
+      change-keeps (Repeated l.line) (acted l.matter e.edit act (after_edit l.matter e.edit e.last firm)) tt
+      (edit-keeps l.matter e.edit e.last act firm is)
+  told-keeps l day told.Repeat firm is = change-keeps (Repeated l.line) firm tt is
+  told-keeps l day (told.Unmatched r) firm is = change-keeps (Unmatched l.line) firm tt is
 
   balance-keeps : (day : ℕ) (firm : Firm) (k : BalanceKind) (line : Line) → P firm → P (after_balance k line day firm)
   balance-keeps day firm k line is = grind (arith, ints, nat_tests, balance_on, by_balance, balance-fits)
@@ -51,13 +57,16 @@ module _ (P : Firm → Type 0) (change-keeps : (change : FirmChange) (firm : Fir
   each-item : (day : ℕ) (firm : Firm) (it : Item) → P firm → P (after_item day firm it)
   each-item day firm (item.Opening line) is = balance-keeps day firm kind.Opening line is
   each-item day firm (item.Closing line) is = balance-keeps day firm kind.Closing line is
-  each-item day firm (item.OfMatter l) is = told-keeps l (line_on (of l.matter firm) l day) firm is
+  each-item day firm (item.OfMatter l) is = told-keeps l day (line_on (of l.matter firm) l day) firm is
   each-item day firm (item.OfFirm line) is = grind (arith, ints, nat_tests, firm_line_on, by_firm_line, firm_line-fits)
   each-item day firm (item.Stray line) is = change-keeps (Unmatched line) firm tt is
   each-item day firm (item.Unreadable number) is = is
 
   asked-keeps : (o : Option Refusal) (m : ℕ) (a : Asked) (firm : Firm) → P firm → P (after_asked o m a firm)
-  asked-keeps o m a firm is = grind (arith, ints, nat_tests, edit_on, of, last_after)
+  asked-keeps None m a firm is =
+      let e = edit_on (of m firm) a in
+      edit-keeps m e (last_after (of m firm).head e a.day) (act_on (of m firm) a) firm is
+  asked-keeps (Some r) m a firm is = is
 
   dismissed-keeps : (o : Option Refusal) (line : Line) (firm : Firm) → P firm → P (dismissed_unless o line firm)
   dismissed-keeps None line firm is = change-keeps (Repeated line) firm tt is

@@ -75,8 +75,8 @@ module _ (today : ℕ) (firm : Firm) (x : Line) (w : Waiting) (ready : IsReady t
       (exchanged ready.matter ready.number ready.made w x today ready.waits) in
       record {
         last = day;
-        rows = ap (λ (e : LineEffect). (after_told l e firm).rows) is;
-        lines = ap (λ (e : LineEffect). (after_told l e firm).firm_lines) is;
+        rows = ap (λ (e : LineEffect). (after_told l today e firm).rows) is;
+        lines = ap (λ (e : LineEffect). (after_told l today e firm).firm_lines) is;
       }
 
   -- what passes a test that the entry does not pass waits in the same order

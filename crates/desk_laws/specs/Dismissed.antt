@@ -16,9 +16,10 @@ pub record KeepsAllElse (firm new : Firm) : Type 0 where
   pub movements : new.movements ≡ firm.movements
   pub firm_lines : new.firm_lines ≡ firm.firm_lines
   pub balances : new.balances ≡ firm.balances
+  pub acts : new.acts ≡ firm.acts
 
--- dismissing a line, accepted or refused, leaves the rows of all matters, the movements, the firm's own lines and the
--- balances unchanged
+-- dismissing a line, accepted or refused, leaves the rows of all matters, the movements, the firm's own lines, the
+-- balances and the acts unchanged
 abbrev pub DismissingMovesNothing : Type 0
 DismissingMovesNothing =
     (day : ℕ) (firm : Firm) (caller : Caller) (line : Line)

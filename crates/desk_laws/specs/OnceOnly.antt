@@ -64,10 +64,12 @@ pub record ComesAgain (l again : BankLine) : Type 0 where
   pub matter : again.matter ≡ l.matter
   pub line : IsSameLine l again
 
--- the line changes no matter and moves nothing, and is a repeat as long as its matter is not purged
+-- the line changes no matter, moves nothing and is remembered by no act, and is a repeat as long as its matter is not
+-- purged
 pub record IsLineOver (day : ℕ) (firm : Firm) (l : BankLine) : Type 0 where
   pub rows : (after_item day firm (item.OfMatter l)).rows ≡ firm.rows
   pub movements : (after_item day firm (item.OfMatter l)).movements ≡ firm.movements
+  pub acts : (after_item day firm (item.OfMatter l)).acts ≡ firm.acts
   pub repeat : is_purged (of l.matter firm).head ≡ false → IsRepeated day firm (item.OfMatter l) l.line
 
 -- an applied line changes nothing when it comes again, and is a repeat as long as its matter is not purged: in any

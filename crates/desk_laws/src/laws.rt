@@ -57,7 +57,7 @@ pub fn refusals_have_their_status()
 {}
 
 /// An ask that makes an entry adds at most one, and a bank line that names an entry is applied at most once, however
-/// often they are sent.
+/// often they are sent. What comes again leaves no act.
 pub fn once_only()
     ensures asks { OnceOnly }
     ensures lines { LineOnceOnly }
@@ -85,8 +85,8 @@ pub fn purging_changes_no_figure()
     ensures { PurgingChangesNoFigure }
 {}
 
-/// Dismissing a line from the exceptions moves nothing: the rows of all matters, the journal, the firm's own lines and
-/// the balances are unchanged, whether it is dismissed or refused.
+/// Dismissing a line from the exceptions moves nothing: the rows of all matters, the journal, the firm's own lines, the
+/// balances and the acts are unchanged, whether it is dismissed or refused.
 #[tactic(auto, using(crate::proofs::DismissedLines::dismissed_laws))]
 pub fn dismissing_moves_nothing()
     ensures { DismissingMovesNothing }

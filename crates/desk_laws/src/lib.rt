@@ -25,8 +25,8 @@
 //! - `laws` `purging_changes_no_figure`: an ask to purge a matter of a sound firm, whether it is accepted or refused,
 //!   changes no figure and no list of a day whose records are complete afterwards, nor a client's ledger as of it.
 //! - `laws` `dismissing_moves_nothing`, `dismissed_once`: whoever asks to dismiss a line, and whether it is dismissed
-//!   or refused: the rows of all matters, the journal, the firm's own lines and the balances stay as they are. A line
-//!   that was dismissed is no exception, and to dismiss it again is refused.
+//!   or refused: the rows of all matters, the journal, the firm's own lines, the balances and the acts stay as they
+//!   are. A line that was dismissed is no exception, and to dismiss it again is refused.
 //! - `laws` `filled_lines_are_applied`, `filled_lines_are_in_book`, `second_match_fills_nothing`: **each line that a
 //!   match writes and that had no reference of its own is applied** when what is written is imported on the same day
 //!   into the same sound firm, whatever was written before it; after that import the line is in the book already, and a

@@ -6,7 +6,7 @@ pub use Rattle.firm_rows.proofs.Ordered.{all-map}
 pub use Rattle.firm_rows.proofs.Solvent.{row-share, shares-ledger, sound-solvent}
 pub use Rattle.firm_rows.proofs.Sums.{at, sum-agree, sum-append, sum-filter, sum-same}
 pub use Rattle.firm_rows.specs.Countable.{AreCountable, IsCountable, IsFirmLineInRange, IsMovementInRange, IsRowInRange}
-pub use Rattle.firm_rows.specs.Firm.{EntryRow, Firm, HeadRow, Row, SeatRow, after_change, after_edit, purged_by, entry_pairs, head_pairs, of, pairs, put, seat_pairs}
+pub use Rattle.firm_rows.specs.Firm.{EntryRow, Firm, HeadRow, Row, SeatRow, acted, acts_without, after_change, after_edit, purged_by, with_acts, entry_pairs, head_pairs, of, pairs, put, seat_pairs}
 pub use Rattle.firm_rows.specs.FirmLines.{balance_cmp, balance_of, place_of}
 pub use Rattle.firm_rows.specs.FirmSound.{FirmSound, IsInOrder}
 pub use Rattle.firm_rows.specs.Journal.{journal_sum, ledger_share, ledger_sum, row_share}

@@ -1,5 +1,5 @@
 -- Purging changes no list of clients as of a day that is not before the close.
-use Rattle.figure_laws.proofs.Names.{◌≡◌, ℕ, ◌+◌, ◌≤◌, Bool, true, false, not, List, [], ◌∷◌, ◌++◌, map, Option, Some, None, refl, sym, ap, ◌∙◌, arith, cond, ◌&&◌, nat_lt, nat_le, filter, nat_tests, Head, Seat, Entry, Rows, purged_head, Covered, Edit, changed_by, Row, HeadRow, SeatRow, EntryRow, Firm, FirmSound, after_change, after_edit, purged_by, of, pairs, head_pairs, seat_pairs, entry_pairs, put, IsClosedBy, is_by}
+use Rattle.figure_laws.proofs.Names.{◌≡◌, ℕ, ◌+◌, ◌≤◌, Bool, true, false, not, List, [], ◌∷◌, ◌++◌, map, Option, Some, None, refl, sym, ap, ◌∙◌, arith, cond, ◌&&◌, nat_lt, nat_le, filter, nat_tests, Head, Seat, Entry, Rows, purged_head, Covered, Edit, changed_by, Row, HeadRow, SeatRow, EntryRow, Firm, FirmSound, acted, acts_without, after_change, after_edit, purged_by, with_acts, of, pairs, head_pairs, seat_pairs, entry_pairs, put, IsClosedBy, is_by}
 use Rattle.trust_matter.specs.edit.Edit.TheVariants as edit
 use Rattle.firm_rows.proofs.Changed.{each-matter, of-purged_by, of_other-purged_by}
 use Rattle.firm_figures.specs.Clients.{client_in, client_line, client_lines, is_listed, ledger_as_of, open_heads}
@@ -84,5 +84,7 @@ module _ (p : ℕ) where
 
 pub no_client-left : Covered → PurgeChangesNoClientLeft
 no_client-left law p m change firm sound purge whole =
-    let same : after_change m change firm ≡ purged_by m (changed_by (edit.Purge purge.day) change.last (of m firm)) firm = ap (λ (e : Edit). after_edit m e change.last firm) purge.clears in
+    let left : Rows = changed_by (edit.Purge purge.day) change.last (of m firm) in
+    let same : after_change m change firm ≡ with_acts (acts_without m firm.acts) (purged_by m left firm) =
+    ap (λ (e : Edit). acted m e change.act (after_edit m e change.last firm)) purge.clears in
     ap (client_lines p) same ∙ same-lines p law m purge.day change.last firm sound (closed-left p m change firm purge whole)

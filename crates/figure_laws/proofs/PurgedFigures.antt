@@ -1,5 +1,5 @@
 -- Purging changes no figure of a day that is not before the close.
-use Rattle.figure_laws.proofs.Names.{◌≡◌, ℕ, ◌≤◌, true, List, [], ◌∷◌, Option, Some, None, refl, sym, ap, ◌∙◌, subst, arith, ℤ, pos, ◌+ℤ◌, ◌-ℤ◌, nat_le, AllByRecursion, option_map, ints, nat_tests, Head, Entry, Rows, held_share, total_share, pending_share, held, total, ledger, pending, events_of, days_of, IsBy, IsHeaded, IsAtRest, IsAtRestIfClosed, Sound, Covered, sum_of, Row, Firm, of, FirmSound, entries_in, transit, outstanding, journal, own_by, ledgers, exceptions, matched, early, figures, figures_on, closing_on, Edit, changed_by, purged_by, after_change, after_edit, IsClosedBy, PurgeChangesNoFigure, sum-agree, of_row, rows-entries, all-entries, transit_share, outstanding_share, IsClear, sound-cleared}
+use Rattle.figure_laws.proofs.Names.{◌≡◌, ℕ, ◌≤◌, true, List, [], ◌∷◌, Option, Some, None, refl, sym, ap, ◌∙◌, subst, arith, ℤ, pos, ◌+ℤ◌, ◌-ℤ◌, nat_le, AllByRecursion, option_map, ints, nat_tests, Head, Entry, Rows, held_share, total_share, pending_share, held, total, ledger, pending, events_of, days_of, IsBy, IsHeaded, IsAtRest, IsAtRestIfClosed, Sound, Covered, sum_of, Row, Firm, of, FirmSound, entries_in, transit, outstanding, journal, own_by, ledgers, exceptions, matched, early, figures, figures_on, closing_on, Edit, changed_by, purged_by, with_acts, acts_without, acted, after_change, after_edit, IsClosedBy, PurgeChangesNoFigure, sum-agree, of_row, rows-entries, all-entries, transit_share, outstanding_share, IsClear, sound-cleared}
 use Rattle.trust_matter.specs.edit.Edit.TheVariants as edit
 use Rattle.firm_figures.proofs.Shares.{ledger_by, matched_by, early_by, transit-shares, outstanding-shares, ledger-shares, matched-shares, early-shares}
 use Rattle.figure_laws.proofs.DifferenceTold.{journal-ledgers}
@@ -151,7 +151,8 @@ module _ (p : ℕ) where
 pub purge-changes-no_figure : Covered → PurgeChangesNoFigure
 purge-changes-no_figure law p m change firm sound closed purge =
     let left : Rows = changed_by (edit.Purge purge.day) change.last (of m firm) in
-    let same : after_change m change firm ≡ purged_by m left firm = ap (λ (e : Edit). after_edit m e change.last firm) purge.clears in
+    let same : after_change m change firm ≡ with_acts (acts_without m firm.acts) (purged_by m left firm) =
+    ap (λ (e : Edit). acted m e change.act (after_edit m e change.last firm)) purge.clears in
     let clear : IsClear left = record { none = refl; sound = subst (λ (e : Edit). Sound (changed_by e change.last (of m firm))) purge.clears purge.fits.sound } in
     ap (figures_on p) same ∙ cases left clear (closing_on p firm.balances)
   where

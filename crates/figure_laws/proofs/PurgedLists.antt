@@ -1,5 +1,5 @@
 -- Purging changes none of the lists of entries as of a day that is not before the close.
-use Rattle.figure_laws.proofs.Names.{◌≡◌, ℕ, ◌+◌, Bool, false, List, [], ◌∷◌, ◌++◌, Option, Some, None, refl, sym, ap, ◌∙◌, subst, nat_lt, AllByRecursion, filter, flat_map, flat_map-append, Head, Seat, Entry, Rows, Sound, Covered, EntryLine, Row, HeadRow, SeatRow, EntryRow, Firm, of, pairs, head_pairs, seat_pairs, entry_pairs, put, FirmSound, booked_on, is_in_transit, is_outstanding, line_where, early_lines, Edit, changed_by, purged_by, after_change, after_edit, IsClear, IsClosedBy, AreListsLeft, PurgeChangesNoList}
+use Rattle.figure_laws.proofs.Names.{◌≡◌, ℕ, ◌+◌, Bool, false, List, [], ◌∷◌, ◌++◌, Option, Some, None, refl, sym, ap, ◌∙◌, subst, nat_lt, AllByRecursion, filter, flat_map, flat_map-append, Head, Seat, Entry, Rows, Sound, Covered, EntryLine, Row, HeadRow, SeatRow, EntryRow, Firm, of, pairs, head_pairs, seat_pairs, entry_pairs, put, FirmSound, booked_on, is_in_transit, is_outstanding, line_where, early_lines, Edit, changed_by, purged_by, with_acts, acts_without, acted, after_change, after_edit, IsClear, IsClosedBy, AreListsLeft, PurgeChangesNoList}
 use Rattle.trust_matter.specs.edit.Edit.TheVariants as edit
 use Rattle.firm_figures.proofs.ClosedBy.{IsUnlisted, closed-unlisted}
 
@@ -54,6 +54,9 @@ clear-changes-no_list law p m rows firm sound closed is =
 pub purge-changes-no_list : Covered → PurgeChangesNoList
 purge-changes-no_list law p m change firm sound closed purge =
     let left : Rows = changed_by (edit.Purge purge.day) change.last (of m firm) in
-    let same : after_change m change firm ≡ purged_by m left firm = ap (λ (e : Edit). after_edit m e change.last firm) purge.clears in
+    let same : after_change m change firm ≡ with_acts (acts_without m firm.acts) (purged_by m left firm) =
+    ap (λ (e : Edit). acted m e change.act (after_edit m e change.last firm)) purge.clears in
     let clear : IsClear left = record { none = refl; sound = subst (λ (e : Edit). Sound (changed_by e change.last (of m firm))) purge.clears purge.fits.sound } in
-    subst (AreListsLeft p firm) (sym same) (clear-changes-no_list law p m left firm sound closed clear)
+    let kept = clear-changes-no_list law p m left firm sound closed clear in
+    subst (AreListsLeft p firm) (sym same)
+    (record { transit = kept.transit; out = kept.out; early = kept.early; exceptions = kept.exceptions })

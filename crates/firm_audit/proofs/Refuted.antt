@@ -1,11 +1,14 @@
 -- Sound rows have no flaw.
-use Rattle.firm_audit.proofs.Names.{inl, inr, ◌≡◌, ◌↔◌, ℕ, zero, suc, Bool, true, false≢true, is_some, List, [], ◌∷◌, Option, Some, None, take, filter, slice_get, refl, sym, ap, ◌∙◌, subst, arith, ints, nat_tests, cases_Bool, IfSome, events_in, Movement, is_of_matter, is_of_entry, moved_for, KeptMatter, AreKeptWhole, IsKeptWhole, Firm, of, firm_of_all, moved_of, moved_sum, balance_cmp, AreSound, IsFlawIn, IsFlawOf, IsFlawedJournal, IsFlawedMatter, IsMatterFlaw, IsMisplaced, IsOverdrawn, IsStray, IsUnowned}
+use Rattle.firm_audit.proofs.Names.{inl, inr, ◌≡◌, ◌↔◌, ℕ, zero, suc, Bool, true, false≢true, is_some, List, [], ◌∷◌, Option, Some, None, take, filter, slice_get, refl, sym, ap, ◌∙◌, subst, arith, ints, nat_tests, cases_Bool, IfSome, events_in, Movement, is_of_matter, is_of_entry, moved_for, KeptMatter, AreKeptWhole, IsKeptWhole, Firm, of, firm_of, firm_of_all, moved_of, moved_sum, balance_cmp, AreSound, IsFlawIn, IsFlawOf, IsFlawedJournal, IsFlawedMatter, IsMatterFlaw, IsMisplaced, IsOverdrawn, IsStray, IsUnowned}
 use Rattle.trust_base.specs.LineOrder.{line_cmp}
 use Rattle.std.specs.List.Sorted.{IsStrictlySortedBy}
 use Rattle.std.specs.declared.cmp.Ordering.{Ordering}
 use Rattle.std.specs.declared.cmp.Ordering.TheVariants.{Less}
 use Rattle.trust_store.specs.declared.all_rows.AllRows.{AllRows}
+use Rattle.firm_rows.proofs.Acts.{sound-acts}
 use Rattle.firm_rows.specs.FirmSound.{FirmSound}
+use Rattle.firm_rows.specs.Firm.{with_acts}
+use Rattle.firm_rows.specs.declared.matter_act.MatterAct.{MatterAct}
 use Rattle.firm_rows.specs.declared.movement.Owner.{Owner}
 use Rattle.firm_rows.specs.declared.movement.Owner.TheVariants as owner
 use Rattle.firm_audit.specs.declared.flaw.Flaw.{Flaw}
@@ -86,6 +89,17 @@ module _ (firm : Firm) (sound : FirmSound firm) where
 
 -- All rows.
 
+-- a flaw of a firm is one whatever the acts are
+flaw-acts : (acts : List MatterAct) (firm : Firm) (f : Flaw) → IsFlawOf firm f → IsFlawOf (with_acts acts firm) f
+flaw-acts acts firm (flaw.Matter m) is = is
+flaw-acts acts firm (flaw.Entry m n) is = is
+flaw-acts acts firm (flaw.Journal m) is = is
+flaw-acts acts firm (flaw.Movement n) is = is
+flaw-acts acts firm flaw.OwnMovements is = is
+flaw-acts acts firm (flaw.FirmLine n) is = is
+flaw-acts acts firm (flaw.Exception n) is = is
+flaw-acts acts firm (flaw.Balance n) is = is
+
 pub none_of_matters : (ks : List KeptMatter) (f : Flaw) → AreKeptWhole ks → IsMatterFlaw ks f → ⊥
 none_of_matters ks (flaw.Matter m) kept is = none-flawed ks m kept is
 none_of_matters ks (flaw.Entry m n) kept is = is
@@ -96,9 +110,17 @@ none_of_matters ks (flaw.FirmLine n) kept is = is
 none_of_matters ks (flaw.Exception n) kept is = is
 none_of_matters ks (flaw.Balance n) kept is = is
 
+-- the firm that has these rows, but for its acts
+abbrev without_acts : AllRows → Firm
+without_acts rows = firm_of rows.matters.items rows.movements.items rows.firm_lines.items rows.exceptions.items rows.balances.items
+
+pub among-all : (rows : AllRows) (f : Flaw) → IsFlawOf (without_acts rows) f → IsFlawIn rows f
+among-all rows f is = inr (flaw-acts rows.acts.items (without_acts rows) f is)
+
 none-in : (rows : AllRows) (f : Flaw) → AreSound rows → IsFlawIn rows f → ⊥
 none-in rows f sound (inl is) = none_of_matters rows.matters.items f sound.matters is
-none-in rows f sound (inr is) = refuted (firm_of_all rows) sound.firm f is
+none-in rows f sound (inr is) =
+    refuted (firm_of_all rows) (sound-acts rows.acts.items (without_acts rows) sound.firm) f is
 
 -- a flaw that is there is found exactly if the rows are not sound
 pub none-found : (rows : AllRows) (found : Option Flaw) → (found ≡ None → AreSound rows) → IfSome found (IsFlawIn rows) → (found ≡ None ↔ AreSound rows)

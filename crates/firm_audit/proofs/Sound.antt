@@ -1,5 +1,5 @@
 -- Rows that pass are those of a sound firm.
-use Rattle.firm_audit.proofs.Names.{◌≡◌, ℕ, sym, ap, ◌∙◌, subst, Rows, entry_at, events_in, Sound, Firm, of, put, joined, AreKeptWhole, rows_in, firm_of_all, rows_of-joined, sound_in, IsJournalOf, IsOwnMoney, AreAscending, AreSound}
+use Rattle.firm_audit.proofs.Names.{◌≡◌, ℕ, sym, ap, ◌∙◌, subst, Rows, entry_at, events_in, Sound, Firm, of, put, joined, AreKeptWhole, rows_in, firm_of, rows_of-joined, sound_in, IsJournalOf, IsOwnMoney, AreAscending, AreSound}
 use Rattle.firm_rows.proofs.Kept.{unopened-sound}
 use Rattle.firm_rows.specs.FirmSound.{FirmSound}
 use Rattle.trust_store.specs.declared.all_rows.AllRows.{AllRows}
@@ -8,7 +8,7 @@ use Rattle.firm_audit.proofs.Journals.{IsMovedAs, moved-in, events-in}
 
 module _ (rows : AllRows) (kept : AreKeptWhole rows.matters.items) (journal : IsJournalOf rows.matters.items rows.movements.items) (own : IsOwnMoney rows.movements.items rows.firm_lines.items) (order : AreAscending rows.exceptions.items rows.balances.items) where
   abbrev firm : Firm
-  firm = firm_of_all rows
+  firm = firm_of rows.matters.items rows.movements.items rows.firm_lines.items rows.exceptions.items rows.balances.items
 
   own_rows : (m : ℕ) → rows_in m rows.matters.items ≡ of m firm
   own_rows m = sym (rows_of-joined m rows.matters.items kept.ascends)

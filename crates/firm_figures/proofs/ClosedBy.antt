@@ -1,5 +1,5 @@
 -- A matter that was closed by a day stands on none of that day's lists; and when a purged one was closed.
-use Rattle.firm_figures.proofs.Names.{◌≡◌, ℕ, ◌≤◌, Bool, false, List, [], ◌∷◌, Option, Some, None, ap, subst, arith, pos, ◌≤ℤ◌, ◌||◌, nat_lt, AllByRecursion, IsSome, filter, list_any, ints, nat_tests, Head, Entry, Rows, purged_head, closed_on, held_share, pending_share, held_deposit, held, pending, days_of, IsBy, IsRanged, IsHeaded, IsAtRest, IsAtRestIfClosed, Sound, Covered, Row, Firm, of, head_pairs, seat_pairs, entry_pairs, pairs, put, is_in_transit, is_outstanding, is_banked_early, is_back_early, Edit, IsPlace, MatterChange, changed_by, purged_by, after_change, after_edit, IsClosedBy, IsPurge, is_day_after, is_period_purged, is_purged_after}
+use Rattle.firm_figures.proofs.Names.{◌≡◌, ℕ, ◌≤◌, Bool, false, List, [], ◌∷◌, Option, Some, None, ap, subst, arith, pos, ◌≤ℤ◌, ◌||◌, nat_lt, AllByRecursion, IsSome, filter, list_any, ints, nat_tests, Head, Entry, Rows, purged_head, closed_on, held_share, pending_share, held_deposit, held, pending, days_of, IsBy, IsRanged, IsHeaded, IsAtRest, IsAtRestIfClosed, Sound, Covered, Row, Firm, of, head_pairs, seat_pairs, entry_pairs, pairs, put, is_in_transit, is_outstanding, is_banked_early, is_back_early, Edit, IsPlace, MatterChange, changed_by, purged_by, with_acts, acts_without, acted, after_change, after_edit, IsClosedBy, IsPurge, is_day_after, is_period_purged, is_purged_after}
 use Rattle.std.proofs.lemmas.Bool.{false≢true}
 use Rattle.std.proofs.lemmas.List.Folds.{list_any-append}
 use Rattle.trust_matter.specs.edit.Edit.TheVariants as edit
@@ -90,7 +90,8 @@ pub closed-left : (p m : ℕ) (change : MatterChange) (firm : Firm) → IsPurge 
 unfolding is_period_purged
 closed-left p m change firm purge whole =
     let left : Rows = changed_by (edit.Purge purge.day) change.last (of m firm) in
-    let same : after_change m change firm ≡ purged_by m left firm = ap (λ (e : Edit). after_edit m e change.last firm) purge.clears in
+    let same : after_change m change firm ≡ with_acts (acts_without m firm.acts) (purged_by m left firm) =
+    ap (λ (e : Edit). acted m e change.act (after_edit m e change.last firm)) purge.clears in
     let none : list_any (is_purged_after p) (put m left firm.rows) ≡ false = subst (λ (f : Firm). list_any (is_purged_after p) f.rows ≡ false) same whole in
     let place : IsPlace (of m firm) (edit.Purge purge.day) = subst (IsPlace (of m firm)) purge.clears purge.fits.place in
     closed-by p m purge.day change.last (of m firm).head place.0 (none-put (is_purged_after p) m left firm.rows none)

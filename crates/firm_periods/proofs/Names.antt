@@ -4,7 +4,7 @@ pub use Rattle.firm_rows.proofs.Joined.{own-put, passing}
 pub use Rattle.firm_rows.proofs.Ordered.{all-map}
 pub use Rattle.firm_rows.proofs.Sums.{sum-append, sum-filter, sum-same}
 pub use Rattle.firm_rows.specs.Countable.{AreCountable, IsFirmLineInRange, IsRowInRange}
-pub use Rattle.firm_rows.specs.Firm.{EntryRow, Firm, HeadRow, Row, SeatRow, after_change, after_edit, purged_by, entry_pairs, head_pairs, of, pairs, put, seat_pairs}
+pub use Rattle.firm_rows.specs.Firm.{EntryRow, Firm, HeadRow, Row, SeatRow, acted, acts_without, after_change, after_edit, purged_by, with_acts, entry_pairs, head_pairs, of, pairs, put, seat_pairs}
 pub use Rattle.firm_rows.specs.FirmSound.{FirmSound}
 pub use Rattle.firm_rows.specs.Sums.{sum_of}
 pub use Rattle.firm_rows.specs.declared.ledger.FirmLine.{FirmLine}

@@ -1,3 +1,4 @@
+pub mod Acts
 pub mod Agree
 pub mod Balances
 pub mod Changed

@@ -5,6 +5,7 @@ use Rattle.std.specs.List.{AllByRecursion}
 use Rattle.trust_base.specs.Limits.{IsAmount, IsBankAmount}
 use Rattle.trust_base.specs.declared.line.Line.{Line}
 use Rattle.trust_matter.specs.Rows.{entry_amount}
+use Rattle.firm_rows.specs.declared.matter_act.MatterAct.{MatterAct}
 use Rattle.firm_rows.specs.declared.movement.Movement.{Movement}
 use Rattle.firm_rows.specs.declared.ledger.FirmLine.{FirmLine}
 use Rattle.firm_rows.specs.declared.ledger.BalanceRow.{BalanceRow}
@@ -31,6 +32,10 @@ IsLineInRange l = IsBankAmount l.amount
 
 abbrev pub IsBalanceInRange : BalanceRow → Type 0
 IsBalanceInRange row = IsBankAmount row.amount
+
+-- an act has no amount
+abbrev pub IsActInRange : MatterAct → Type 0
+IsActInRange act = Unit {0}
 
 -- fewer than 2^64 rows, each with its amount in range
 pub record AreCountable {A : Type 0} (IsInRange : A → Type 0) (rows : List A) : Type 0 where

@@ -1,9 +1,10 @@
 -- The rows of a firm: a joined list of the rows of all matters, each paired with its matter; the movements; the lines
--- of the firm's own ledger; the bank lines that match nothing; and the balances that the bank reported.
+-- of the firm's own ledger; the bank lines that match nothing; the balances that the bank reported; and the acts.
 use Rattle.std.specs.Prelude.{ℕ, Bool, false, ◌+◌, ◌==◌, nat_lt, List, [], ◌∷◌, ◌++◌, map, not, Option, Some, None}
 use Rattle.std.specs.List.{filter}
 use Rattle.trust_base.specs.LineOrder.{is_before, is_same_line}
 use Rattle.trust_base.specs.declared.line.Line.{Line}
+use Rattle.matter_rows.specs.declared.act.Act.{Act}
 use Rattle.trust_matter.specs.head.Head.{Head}
 use Rattle.trust_matter.specs.seat.Seat.{Seat}
 use Rattle.trust_matter.specs.entry.Entry.{Entry}
@@ -12,6 +13,7 @@ use Rattle.trust_matter.specs.edit.Edit.TheVariants as edit
 use Rattle.trust_matter.specs.movement.EntryMovement as change
 use Rattle.trust_matter.specs.Rows.{Rows}
 use Rattle.trust_matter.specs.Changes.{MatterChange, changed_by, movement_of}
+use Rattle.firm_rows.specs.declared.matter_act.MatterAct.{MatterAct}
 use Rattle.firm_rows.specs.declared.movement.Movement.{Movement}
 use Rattle.firm_rows.specs.declared.movement.Owner.{Owner}
 use Rattle.firm_rows.specs.declared.movement.Owner.TheVariants as owner
@@ -34,18 +36,19 @@ row_of (given.Seat seat) = SeatRow seat.now
 row_of (given.Entry number entry) = EntryRow number entry.now
 
 -- the rows of all matters, each with its matter's number; the movements and the lines of the firm's own ledger, both in
--- the order of acceptance; the exceptions, a sorted set of whole lines; and the balances, openings before closings,
--- each by day
+-- the order of acceptance; the exceptions, a sorted set of whole lines; the balances, openings before closings, each by
+-- day; and the acts in the order of acceptance
 pub record Firm : Type 0 where
   pub rows : List (ℕ × Row)
   pub movements : List Movement
   pub firm_lines : List FirmLine
   pub exceptions : List Line
   pub balances : List BalanceRow
+  pub acts : List MatterAct
 
 -- a firm without rows
 abbrev pub empty_firm : Firm
-empty_firm = record { rows = []; movements = []; firm_lines = []; exceptions = []; balances = [] }
+empty_firm = record { rows = []; movements = []; firm_lines = []; exceptions = []; balances = []; acts = [] }
 
 -- A matter's own rows.
 
@@ -168,9 +171,54 @@ after_edit m (edit.Purge day) last firm = purged_by m (changed_by (edit.Purge da
 after_edit m (edit.Append entry) last firm = rewritten_by m (edit.Append entry) last firm
 after_edit m (edit.Exchange entry) last firm = rewritten_by m (edit.Exchange entry) last firm
 
--- the firm after a change of a matter; a change of nothing changes nothing
+-- The acts.
+
+-- the acts of one matter, in the order of acceptance
+abbrev pub acts_of : ℕ → Firm → List Act
+acts_of m firm = map (λ a. a.act) (filter (λ a. a.matter == m) firm.acts)
+
+-- what a change of a matter is remembered by, as items of the firm's list
+abbrev pub joined_act : ℕ → Option Act → List MatterAct
+joined_act m None = []
+joined_act m (Some act) = record { matter = m; act = act } ∷ []
+
+-- the acts without those of one matter
+abbrev pub acts_without : ℕ → List MatterAct → List MatterAct
+acts_without m acts = filter (λ a. not (a.matter == m)) acts
+
+-- the acts left after an edit of a matter: without its own if it is purged, otherwise all
+abbrev pub acts_left : ℕ → Edit → List MatterAct → List MatterAct
+acts_left m edit.Nothing acts = acts
+acts_left m (edit.Open opening) acts = acts
+acts_left m (edit.Seat seat) acts = acts
+acts_left m (edit.Unseat person) acts = acts
+acts_left m (edit.Close day) acts = acts
+acts_left m (edit.Purge day) acts = acts_without m acts
+acts_left m (edit.Append entry) acts = acts
+acts_left m (edit.Exchange entry) acts = acts
+
+-- the acts after a change of a matter: with the one that it is remembered by, or, if it is purged, without its own
+abbrev pub joined_acts : ℕ → Edit → Option Act → List MatterAct → List MatterAct
+joined_acts m edit.Nothing act acts = acts
+joined_acts m (edit.Open opening) act acts = acts ++ joined_act m act
+joined_acts m (edit.Seat seat) act acts = acts ++ joined_act m act
+joined_acts m (edit.Unseat person) act acts = acts ++ joined_act m act
+joined_acts m (edit.Close day) act acts = acts ++ joined_act m act
+joined_acts m (edit.Purge day) act acts = acts_without m acts
+joined_acts m (edit.Append entry) act acts = acts ++ joined_act m act
+joined_acts m (edit.Exchange entry) act acts = acts ++ joined_act m act
+
+-- the firm with other acts
+abbrev pub with_acts : List MatterAct → Firm → Firm
+with_acts acts firm = record firm { acts = acts }
+
+-- the firm with the acts after a change of a matter
+abbrev pub acted : ℕ → Edit → Option Act → Firm → Firm
+acted m e act firm = with_acts (joined_acts m e act firm.acts) firm
+
+-- the firm after a change of a matter, with the act that the change is remembered by
 abbrev pub after_change : ℕ → MatterChange → Firm → Firm
-after_change m change firm = after_edit m change.edit change.last firm
+after_change m change firm = acted m change.edit change.act (after_edit m change.edit change.last firm)
 
 -- A bank line.
 

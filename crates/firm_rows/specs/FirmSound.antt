@@ -1,9 +1,11 @@
 -- What is true of a firm's rows at every moment.
-use Rattle.std.specs.Prelude.{◌≡◌, ◌≢◌, ℕ, ◌≤◌, [], map, take, pos, ◌+ℤ◌, ◌≤ℤ◌, Ok}
+use Rattle.std.specs.Prelude.{◌≡◌, ◌≢◌, ◌↔◌, ◌==◌, ℕ, ◌≤◌, List, [], map, take, pos, ◌+ℤ◌, ◌≤ℤ◌, Ok, if◌then◌else◌}
 use Rattle.std.specs.List.{filter, AllByRecursion}
 use Rattle.std.specs.List.Sorted.{IsStrictlySortedBy}
 use Rattle.trust_base.specs.LineOrder.{line_cmp}
 use Rattle.trust_base.specs.declared.line.Line.{Line}
+use Rattle.matter_rows.specs.declared.act.Act.{Act}
+use Rattle.trust_matter.specs.Changes.{acts_by}
 use Rattle.trust_matter.specs.edit.Edit.TheVariants as edit
 use Rattle.trust_matter.specs.declared.bank_line.BankLine.{BankLine}
 use Rattle.trust_matter.specs.declared.line_verdict.LineVerdict.{LineVerdict}
@@ -12,11 +14,12 @@ use Rattle.trust_matter.specs.Balances.{ledger}
 use Rattle.trust_matter.specs.Events.{events_in}
 use Rattle.trust_matter.specs.Sound.{AreRising, Sound}
 use Rattle.trust_matter.specs.LineStep.{LineDecides}
+use Rattle.firm_rows.specs.declared.matter_act.MatterAct.{MatterAct}
 use Rattle.firm_rows.specs.declared.ledger.Verdict.{Verdict}
 use Rattle.firm_rows.specs.declared.ledger.BalanceKind.{BalanceKind}
 use Rattle.firm_rows.specs.FirmLines.{balance_of, StaysWithin, balance_cmp, firm_verdict, kept_balance, balance_verdict}
-use Rattle.firm_rows.specs.Firm.{Firm, of, put, is_of_matter, after_edit}
-use Rattle.firm_rows.specs.FirmChange.{FirmChange, after, rows_after, FitsFirm, by_line, by_firm_line, by_balance}
+use Rattle.firm_rows.specs.Firm.{Firm, of, put, is_of_matter, acts_of, with_acts, after_edit}
+use Rattle.firm_rows.specs.FirmChange.{FirmChange, OfMatter, Repeated, Unmatched, OfFirm, OfBalance, after, rows_after, FitsFirm, by_line, by_firm_line, by_balance}
 use Rattle.firm_rows.specs.Journal.{events_moved, firm_events, line_event, days_moved, moved_for, ledger_sum, journal_sum}
 
 -- the rows of each matter stand together and in order, matters by number; the exceptions are sorted, each line once;
@@ -74,6 +77,30 @@ PurgeLeavesOthers =
     (n m day last : ℕ) (firm : Firm) → n ≢ m
     → filter (λ v. is_of_matter n v.owner) (after_edit m (edit.Purge day) last firm).movements
     ≡ filter (λ v. is_of_matter n v.owner) firm.movements
+
+-- What a change of the firm makes of the acts of one matter.
+
+abbrev pub acts_after : ℕ → FirmChange → List Act → List Act
+acts_after n (OfMatter m line change) acts = if n == m then acts_by change.edit change.act acts else acts
+acts_after n (Repeated line) acts = acts
+acts_after n (Unmatched line) acts = acts
+acts_after n (OfFirm line) acts = acts
+acts_after n (OfBalance kind line) acts = acts
+
+-- a change of a matter adds its act to that matter's, a purge removes these, and no other matter's acts change
+abbrev pub ActsOfOneChange : Type 0
+ActsOfOneChange =
+    (n : ℕ) (change : FirmChange) (firm : Firm)
+    → acts_of n (after change firm) ≡ acts_after n change (acts_of n firm)
+
+-- Acts decide nothing.
+
+-- whatever the acts are: a firm is sound without them or not at all, a change fits it or not, and makes of its other
+-- rows what it makes of them without acts
+pub record ActsDecideNothing (acts : List MatterAct) (change : FirmChange) (firm : Firm) : Type 0 where
+  pub sound : FirmSound (with_acts acts firm) ↔ FirmSound firm
+  pub fits : FitsFirm (with_acts acts firm) change ↔ FitsFirm firm change
+  pub after : with_acts [] (after change (with_acts acts firm)) ≡ with_acts [] (after change firm)
 
 -- Every verdict on a line is a change that fits.
 

@@ -1,5 +1,5 @@
 -- Rows in memory, and what a sink receives of a list of rows.
-use Rattle.std.specs.Prelude.{◌≡◌, ℕ, OnOk, List, ◌++◌, fold, map, Result}
+use Rattle.std.specs.Prelude.{◌≡◌, ℕ, OnOk, List, [], ◌++◌, fold, map, Result}
 use Rattle.trust_base.specs.declared.line.Line.{Line}
 use Rattle.firm_rows.specs.declared.movement.Movement.{Movement}
 use Rattle.firm_rows.specs.declared.ledger.FirmLine.{FirmLine}
@@ -14,7 +14,7 @@ use Rattle.firm_rows.specs.Firm.{Row, Firm, row_of}
 abbrev pub row_pair : ℕ × MatterRow → ℕ × Row
 row_pair p = (p.0, row_of p.1)
 
--- the firm that has these rows
+-- the firm that has these rows, and no acts
 abbrev pub in_memory : List (ℕ × MatterRow) → List Movement → List FirmLine → List Line → List BalanceRow → Firm
 in_memory rows movements firm_lines exceptions balances = record {
   rows = map row_pair rows;
@@ -22,6 +22,7 @@ in_memory rows movements firm_lines exceptions balances = record {
   firm_lines = firm_lines;
   exceptions = exceptions;
   balances = balances;
+  acts = [];
 }
 
 -- The rows that a sink receives.

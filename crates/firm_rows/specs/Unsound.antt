@@ -42,6 +42,7 @@ two_matters = record {
   firm_lines = [];
   exceptions = [];
   balances = [];
+  acts = [];
 }
 
 -- this firm's rows are in order, and it is solvent: all ledgers together are at zero, and the journal is never below;

@@ -4,13 +4,14 @@ ghost use Rattle.std.specs.Prelude.{◌≡◌, FitsSigned, OnOk, OnErr, map};
 ghost use Rattle.std.specs.Int.{w64};
 ghost use Rattle.trust_base.specs.Limits.{IsAmount};
 ghost use Rattle.trust_matter.specs.Rows.{entry_amount};
-ghost use Rattle.firm_rows.specs.Countable.{IsRowInRange, IsMovementInRange, IsFirmLineInRange, IsLineInRange, IsBalanceInRange};
+ghost use Rattle.firm_rows.specs.Countable.{IsRowInRange, IsMovementInRange, IsFirmLineInRange, IsLineInRange, IsBalanceInRange, IsActInRange};
 ghost use Rattle.firm_rows.specs.Handing.{AreHanded, row_pair};
 
 use crate::ledger::{BalanceRow, FirmLine};
+use crate::matter_act::MatterAct;
 use crate::movement::Movement;
 use crate::sink::{
-    BalanceSink, ExceptionSink, FirmLineSink, MatterRow, MatterRowSink, MovementSink,
+    ActSink, BalanceSink, ExceptionSink, FirmLineSink, MatterRow, MatterRowSink, MovementSink,
 };
 use std::alloc::AllocError;
 use trust_base::{Line, MatterNo};
@@ -110,6 +111,16 @@ pub fn hand_balances<S: BalanceSink>(rows: &[BalanceRow], sink: &mut S) -> Resul
     for row in rows {
         let _in_range = row.amount.get();
         sink.balance(row)?;
+    }
+    Ok(())
+}
+
+/// Passes each act to the sink, in order. Stops if the sink runs out of memory.
+pub fn hand_acts<S: ActSink>(acts: &[MatterAct], sink: &mut S) -> Result<(), AllocError>
+    ensures { AreHanded S.remembered IsActInRange acts.now result sink.old sink.new }
+{
+    for act in acts {
+        sink.act(act)?;
     }
     Ok(())
 }

@@ -1,8 +1,11 @@
 //! Laws over the definitions. Each is the contract of a function that does nothing.
 
+ghost use Rattle.std.specs.Prelude.{List};
+ghost use Rattle.firm_rows.specs.declared.matter_act.MatterAct.{MatterAct};
 ghost use Rattle.firm_rows.specs.Exceptions.{WithLineAdds, WithoutLineTakes, WithLineAgain};
-ghost use Rattle.firm_rows.specs.Firm.{empty_firm};
-ghost use Rattle.firm_rows.specs.FirmSound.{IsInOrder, FirmSound, ChangesOne, StaysSound, StaysInOrder, PurgedMovesNothing, PurgeLeavesOthers, LineFits, FirmLineFits, BalanceFits, SoundIsSolvent};
+ghost use Rattle.firm_rows.specs.Firm.{Firm, empty_firm};
+ghost use Rattle.firm_rows.specs.FirmChange.{FirmChange};
+ghost use Rattle.firm_rows.specs.FirmSound.{IsInOrder, FirmSound, ChangesOne, StaysSound, StaysInOrder, PurgedMovesNothing, PurgeLeavesOthers, ActsOfOneChange, ActsDecideNothing, LineFits, FirmLineFits, BalanceFits, SoundIsSolvent};
 ghost use Rattle.firm_rows.specs.LinesStay.{FirmLineIsKept, FirmLinesStay, BalanceIsKept, BalancesStay};
 ghost use Rattle.firm_rows.specs.Unsound.{SolventIsNotSound};
 
@@ -32,6 +35,18 @@ pub fn firm_stays_in_order()
 pub fn purging_takes_the_movements()
     ensures own { PurgedMovesNothing }
     ensures others { PurgeLeavesOthers }
+{}
+
+/// A change of a matter adds the act that it is remembered by to the acts of that matter, and a purge removes these. No
+/// other matter's acts change.
+pub fn acts_of_one_change()
+    ensures { ActsOfOneChange }
+{}
+
+/// Acts decide nothing: whether a firm is sound, whether a change fits it, and what a change makes of all its other
+/// rows, is the same whatever its acts are.
+pub fn acts_decide_nothing()
+    ensures { (acts : List MatterAct) (change : FirmChange) (firm : Firm) → ActsDecideNothing acts change firm }
 {}
 
 /// Every verdict on a bank line is a change that fits, be it a line that names an entry, one of the firm's own, or a

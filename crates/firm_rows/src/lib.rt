@@ -1,4 +1,4 @@
-//! The joined rows of a firm, its movements, and what is true of both at every moment.
+//! The joined rows of a firm, its movements and its acts, and what is true of rows and movements at every moment.
 //!
 //! # What is promised
 //!
@@ -23,24 +23,33 @@
 //!   journal moved.
 //! - `laws` `solvent_is_not_sound`: the converse is false. Two matters, one below zero by what the other has, make a
 //!   firm that is in order and solvent, and not sound.
-//! - `hand_rows`, `hand_movements`, `hand_firm_lines`, `hand_lines`, `hand_balances`: a sink gets all rows of a slice
-//!   in order, or, if it runs out of memory, some first ones.
+//! - `laws` `acts_of_one_change`: a change of a matter adds the act that it is remembered by to the matter's acts, a
+//!   purge removes these, and no other matter's acts change.
+//! - `laws` `acts_decide_nothing`: whether a firm is sound, which change fits it, and what a change makes of all its
+//!   other rows, is the same whatever its acts are.
+//! - `hand_rows`, `hand_movements`, `hand_firm_lines`, `hand_lines`, `hand_balances`, `hand_acts`: a sink gets all rows
+//!   of a slice in order, or, if it runs out of memory, some first ones.
 #![tactic(auto)]
 
 mod handing;
 pub mod laws;
 mod ledger;
 mod limits;
+mod matter_act;
 mod movement;
 mod sink;
 
-pub use handing::{hand_balances, hand_firm_lines, hand_lines, hand_movements, hand_rows};
+pub use handing::{
+    hand_acts, hand_balances, hand_firm_lines, hand_lines, hand_movements, hand_rows,
+};
 pub use ledger::{
     BalanceKind, BalanceRow, FirmLedger, FirmLine, Verdict, decide_balance, decide_firm_line,
     is_own_balance,
 };
 pub use limits::MAX_OWN;
+pub use matter_act::MatterAct;
 pub use movement::{Movement, Owner};
 pub use sink::{
-    BalanceSink, ExceptionSink, FirmLineSink, MatterRow, MatterRowSink, MovementSink, RowSink,
+    ActSink, BalanceSink, ExceptionSink, FirmLineSink, MatterRow, MatterRowSink, MovementSink,
+    RowSink,
 };

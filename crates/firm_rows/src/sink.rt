@@ -4,6 +4,7 @@ ghost use Rattle.std.specs.Prelude.{◌≡◌, ℕ, OnOk, OnErr};
 ghost use Rattle.firm_rows.specs.Firm.{Row, HeadRow, SeatRow, EntryRow, row_of};
 
 use crate::ledger::{BalanceRow, FirmLine};
+use crate::matter_act::MatterAct;
 use crate::movement::Movement;
 use std::alloc::AllocError;
 use trust_base::{EntryNo, Line, MatterNo};
@@ -107,6 +108,19 @@ pub trait FirmLineSink {
     /// Receives a line of the firm's own.
     fn firm_line(&mut self, line: &FirmLine) -> Result<(), AllocError>
         ensures ok { OnOk result (self.new ≡ lined self.old line.now) }
+        ensures err { OnErr result (self.new ≡ self.old) };
+}
+
+/// Receives the acts of a firm in order. If memory runs out, the sink is unchanged.
+pub trait ActSink {
+    ghost use Rattle.firm_rows.specs.declared.matter_act.MatterAct.{MatterAct};
+
+    /// The sink after an act.
+    ghost remembered: { Self → MatterAct → Self };
+
+    /// Receives an act of a matter.
+    fn act(&mut self, act: &MatterAct) -> Result<(), AllocError>
+        ensures ok { OnOk result (self.new ≡ remembered self.old act.now) }
         ensures err { OnErr result (self.new ≡ self.old) };
 }
 

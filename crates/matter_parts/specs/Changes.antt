@@ -1,5 +1,5 @@
 -- What a change does to a matter's rows.
-use Rattle.std.specs.Prelude.{◌≡◌, false, ℕ, ◌+◌, ◌≤◌, List, [], ◌∷◌, ◌++◌, length, pos, Option, Some, None, IsSome}
+use Rattle.std.specs.Prelude.{◌≡◌, false, ℕ, ◌+◌, ◌≤◌, List, [], ◌∷◌, ◌++◌, length, pos, Option, Some, None, IsSome, option_to_list}
 use Rattle.matter_rows.specs.declared.head.Head.{Head}
 use Rattle.matter_rows.specs.declared.seat.Seat.{Seat}
 use Rattle.matter_rows.specs.declared.entry.Entry.{Entry}
@@ -76,6 +76,22 @@ changed_by e last rows = record {
 
 abbrev pub changed : MatterChange → Rows → Rows
 changed c rows = changed_by c.edit c.last rows
+
+-- The acts after it.
+
+-- the matter's acts, with the one that the change is remembered by; a change of nothing adds none, and a purge leaves
+-- none
+abbrev pub acts_by : Edit → Option Act → List Act → List Act
+acts_by edit.Nothing act acts = acts
+acts_by (edit.Open o) act acts = acts ++ option_to_list act
+acts_by (edit.Seat s) act acts = acts ++ option_to_list act
+acts_by (edit.Unseat p) act acts = acts ++ option_to_list act
+acts_by (edit.Close day) act acts = acts ++ option_to_list act
+acts_by (edit.Purge day) act acts = []
+acts_by (edit.Append x) act acts = acts ++ option_to_list act
+acts_by (edit.Exchange x) act acts = acts ++ option_to_list act
+
+-- Its movement.
 
 -- the movement of an edit: the event that the written entry has and the one that it replaces had not
 abbrev pub movement_of : List Entry → Edit → Option EntryMovement

@@ -67,6 +67,35 @@ pub enum Deed {
     Awarded,
 }
 
+impl Deed {
+    /// A deep copy. The only error is out of memory.
+    pub fn copied(&self) -> Result<Deed, AllocError>
+        ensures { IfOk result (λ d. d ≡ self.now) }
+    {
+        Ok(match self {
+            Deed::Opened(lawyer) => Deed::Opened(lawyer.copied()?),
+            Deed::Seated(seat) => Deed::Seated(seat.copied()?),
+            Deed::Unseated(person) => Deed::Unseated(person.copied()?),
+            Deed::Closed => Deed::Closed,
+            Deed::Deposited => Deed::Deposited,
+            Deed::Cancelled => Deed::Cancelled,
+            Deed::Cleared => Deed::Cleared,
+            Deed::Returned => Deed::Returned,
+            Deed::Proposed => Deed::Proposed,
+            Deed::Approved => Deed::Approved,
+            Deed::Declined => Deed::Declined,
+            Deed::Withdrawn => Deed::Withdrawn,
+            Deed::Voided => Deed::Voided,
+            Deed::Earned => Deed::Earned,
+            Deed::Disputed => Deed::Disputed,
+            Deed::Claimed => Deed::Claimed,
+            Deed::Offered(part) => Deed::Offered(*part),
+            Deed::Accepted => Deed::Accepted,
+            Deed::Awarded => Deed::Awarded,
+        })
+    }
+}
+
 // Written by hand, so that a function that holds a deed makes one call at each exit.
 impl Drop for Deed {
     fn drop(self) {
@@ -100,6 +129,22 @@ pub struct Act {
     pub day: Day,
     pub caller: Caller,
     pub deed: Deed,
+}
+
+impl Act {
+    /// A deep copy. The only error is out of memory.
+    pub fn copied(&self) -> Result<Act, AllocError>
+        ensures { IfOk result (λ a. a ≡ self.now) }
+    {
+        let caller = self.caller.copied()?;
+        let deed = self.deed.copied()?;
+        Ok(Act {
+            entry: self.entry,
+            day: self.day,
+            caller,
+            deed,
+        })
+    }
 }
 
 // Written by hand, so that a function that holds an act makes one call at each exit.

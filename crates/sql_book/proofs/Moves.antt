@@ -1,5 +1,12 @@
--- Tables that were moved stand for the firm for which the tables of version 1 stood.
-use Rattle.sql_book.proofs.Names.{◌≡◌, sym, ap, subst, Database, Layout, Moved, Stood, IsMoved, AreSound, firm_from, StandsSound, firm_in, firm_then, StoodSound}
+-- Tables that were moved stand for the firm for which the tables of version 1 stood, and tables with an added trail for
+-- the one for which the others stood.
+use Rattle.sql_book.proofs.Names.{◌≡◌, List, [], ◌∷◌, map, length, refl, sym, ap, subst, arith, Row, Trees, Database, Layout, Made, Moved, Stood, IsMoved, IsExtended, AreSound, firm_from, Stands, StandsSound, firm_in, firm_then, StoodSound, firm_bare, BareStands, BareStandsSound}
+use Rattle.sqlite_catalog.specs.Change.{KeepsRows}
+use Rattle.sql_schema.specs.Bare.{bare_schema}
+use Rattle.sql_schema.specs.Schema.{matter_tree, seat_tree, entry_tree, journal_tree, firm_line_tree, exception_tree, balance_tree, act_tree}
+use Rattle.sql_tables.specs.Lists.{Lists}
+use Rattle.sql_tables.specs.Rows.{act_in}
+use Rattle.sql_tables.specs.Standing.{HeadsHold, SeatsHold, EntriesHold, MovementsHold, FirmLinesHold, ExceptionsHold, BalancesHold, ActsHold}
 
 pub moved_stands : (db next : Database) → IsMoved db next → StoodSound db → StandsSound Moved next
 moved_stands db next m s = let it = m.same s.tables in record { tables = it.stands; rows = subst AreSound (sym it.lists) s.rows }
@@ -13,3 +20,60 @@ moved_in l db next is m s = subst (λ k. StandsSound k next) (sym is) (moved_sta
 
 pub firm_moved_in : (l : Layout) (db next : Database) → l ≡ Moved → IsMoved db next → Stood db → firm_in l next.trees ≡ firm_then db.trees
 firm_moved_in l db next is m s = subst (λ k. firm_in k next.trees ≡ firm_then db.trees) (sym is) (moved_firm db next m s)
+
+-- The tables that were there are there still.
+record AreAlike (l : Layout) (db next : Trees) : Type 0 where
+  heads : next (matter_tree l) ≡ db (matter_tree l)
+  seats : next (seat_tree l) ≡ db (seat_tree l)
+  entries : next (entry_tree l) ≡ db (entry_tree l)
+  movements : next (journal_tree l) ≡ db (journal_tree l)
+  firm_lines : next (firm_line_tree l) ≡ db (firm_line_tree l)
+  exceptions : next (exception_tree l) ≡ db (exception_tree l)
+  balances : next (balance_tree l) ≡ db (balance_tree l)
+
+alike : (l : Layout) (db next : Trees) → KeepsRows (bare_schema l).tables db next → AreAlike l db next
+alike Made db next k = record {
+  heads = k.1.0;
+  seats = k.1.1.0;
+  entries = k.1.1.1.0;
+  movements = k.1.1.1.1.0;
+  firm_lines = k.1.1.1.1.1.1.0;
+  exceptions = k.1.1.1.1.1.1.1.0;
+  balances = k.1.1.1.1.1.1.1.1.0;
+}
+alike Moved db next k = record {
+  heads = k.1.1.1.1.1.1.1.1.1.0;
+  seats = k.1.1.1.1.1.1.1.1.1.1.0;
+  entries = k.1.1.1.1.1.1.1.1.1.1.1.0;
+  movements = k.1.1.1.1.0;
+  firm_lines = k.1.1.1.1.1.1.0;
+  exceptions = k.1.1.1.1.1.1.1.0;
+  balances = k.1.1.1.1.1.1.1.1.0;
+}
+
+-- a trail without acts
+no_acts : (rows : List Row) → map act_in rows ≡ [] → ActsHold rows
+no_acts [] none = record { stored = refl; rise = tt }
+no_acts (r ∷ rows) none = absurd (omega (arith, ap length none))
+
+extended_tables : (l : Layout) (db next : Database) → IsExtended l db next → BareStands l db → Stands l next
+extended_tables l db next e s =
+    let same = alike l db.trees next.trees e.rows in
+    record {
+      schema = e.book.schema;
+      version = e.book.version;
+      heads = subst HeadsHold (sym same.heads) s.heads;
+      seats = subst SeatsHold (sym same.seats) s.seats;
+      entries = subst EntriesHold (sym same.entries) s.entries;
+      movements = subst MovementsHold (sym same.movements) s.movements;
+      firm_lines = subst FirmLinesHold (sym same.firm_lines) s.firm_lines;
+      exceptions = subst ExceptionsHold (sym same.exceptions) s.exceptions;
+      balances = subst BalancesHold (sym same.balances) s.balances;
+      acts = no_acts (next.trees (act_tree l)) (ap (λ (a : Lists). a.acts) e.lists);
+    }
+
+pub extended_stands : (l : Layout) (db next : Database) → IsExtended l db next → BareStandsSound l db → StandsSound l next
+extended_stands l db next e s = record { tables = extended_tables l db next e s.tables; rows = subst AreSound (sym e.lists) s.rows }
+
+pub extended_firm : (l : Layout) (db next : Database) → IsExtended l db next → firm_in l next.trees ≡ firm_bare l db.trees
+extended_firm l db next e = ap firm_from e.lists

@@ -1,5 +1,5 @@
 -- What the call that writes a script leaves is a write of the book, if the change of the script fits.
-use Rattle.sql_book.proofs.Names.{◌≡◌, ◌≢◌, ◌⊎◌, inl, inr, ℕ, List, [], map, Result, OnOk, OnErr, IsTrue, refl, sym, ap, subst, ◌∙◌, Ghosts, Trees, Database, IsDatabase, Held, state, State, HasCleanDisk, StoreFault, Firm, FirmChange, FitsFirm, after, LeavesAlone, Layout, SqlStatement, lists_in, IsSettled, Written, Stands, StandsSound, firm_in, step_of, steps_of, AreMade, HeldBook, IsLasting, IsServing, IsStanding, IsSure, firm_of, MayLeave, is_ok, Error, arith, ints, nat_tests}
+use Rattle.sql_book.proofs.Names.{◌≡◌, ◌≢◌, ◌⊎◌, inl, inr, ℕ, List, [], map, Result, OnOk, OnErr, IsTrue, refl, sym, ap, subst, ◌∙◌, Ghosts, Trees, Database, IsDatabase, Held, state, State, HasCleanDisk, StoreFault, Firm, FirmChange, FitsFirm, after, LeavesAlone, Layout, SqlStatement, lists_in, IsSettled, Written, Stands, StandsSound, firm_in, step_of, steps_of, AreMade, HeldBook, IsServing, IsStanding, firm_of, MayLeave, is_ok, Error, arith, ints, nat_tests}
 use Rattle.std.proofs.lemmas.Result.{on_ok_weaker, on_err_weaker}
 use Rattle.trust_store.specs.Books.{counted}
 use Rattle.trust_store.specs.Calls.{IsWrite, IsWriteIf}

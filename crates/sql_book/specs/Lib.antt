@@ -1,3 +1,4 @@
+pub mod Bare
 pub mod Books
 pub mod Opening
 pub mod Stops

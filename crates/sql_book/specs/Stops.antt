@@ -10,11 +10,13 @@ use Rattle.trust_store.specs.Crashes.{LeavesAlone}
 use Rattle.sql_schema.specs.declared.layout.Layout.{Layout}
 use Rattle.sql_schema.specs.declared.layout.Layout.TheVariants.{Made}
 use Rattle.sql_rows.specs.Standing.{StandsSound, firm_in}
+use Rattle.sql_making.specs.Bare.{IsBareBook}
 use Rattle.sql_making.specs.Books.{IsBook, AreNewBook}
-use Rattle.sql_making.specs.Then.{IsOldBook, AreMoved}
+use Rattle.sql_making.specs.Then.{IsOldBook}
+use Rattle.sql_book.specs.Bare.{firm_bare, BareStandsSound}
 use Rattle.sql_book.specs.Then.{firm_then, StoodSound}
 use Rattle.sql_book.specs.Books.{HeldBook, at, firm_of, IsStanding, IsLasting, MayLeave}
-use Rattle.sql_book.specs.Opening.{IsTaken}
+use Rattle.sql_book.specs.Opening.{AreTaken, IsTaken}
 
 -- a connection was just opened over these trees: it sees what was committed, in a database that lists what it holds
 pub record IsOpenedOver {S : Type 0} (g : Ghosts S) (trees : Trees) (conn : Held S) : Type 0 where
@@ -67,9 +69,17 @@ pub record IsOldStanding (db : Database) : Type 0 where
   pub listed : IsDatabase db
   pub stood : StoodSound db
 
--- what a stop leaves of it while it is being taken, as `adopt` says of a crash: unchanged, or moved
-abbrev pub IsLeftInMoving : Database → Trees → Type 0
-IsLeftInMoving db trees = (trees ≡ db.trees) ⊎ (IsOldBook db × AreMoved db trees)
+-- a database holds a book of this version without the trail, lists what it holds, and its tables stand for the rows of
+-- a sound firm
+pub record IsBareStanding (l : Layout) (db : Database) : Type 0 where
+  pub book : IsBareBook l db
+  pub listed : IsDatabase db
+  pub stands : BareStandsSound l db
+
+-- what a stop leaves of a database while its book is taken, as `adopt` says of a crash: unchanged, moved, or with the
+-- trail
+abbrev pub IsLeftInTaking : Database → Trees → Type 0
+IsLeftInTaking db trees = (trees ≡ db.trees) ⊎ AreTaken db trees
 
 module _ {T : Type 0} (h : Ghosts T) (firm : Firm) where
   -- a connection holds a version 1 book that stands for the rows of this firm, which is sound
@@ -77,6 +87,13 @@ module _ {T : Type 0} (h : Ghosts T) (firm : Firm) where
     pub book : IsOldBook (state h conn).now
     pub stood : StoodSound (state h conn).now
     pub same : firm_then (state h conn).now.trees ≡ firm
+
+  -- the same, but a book of this version without the trail, in some layout
+  pub record HoldsBareFirm (conn : Held T) : Type 0 where
+    pub layout : Layout
+    pub book : IsBareBook layout (state h conn).now
+    pub stands : BareStandsSound layout (state h conn).now
+    pub same : firm_bare layout (state h conn).now.trees ≡ firm
 
   -- the same, but a book of this version in some layout
   pub record HoldsFirm (conn : Held T) : Type 0 where
@@ -93,15 +110,25 @@ module _ {T : Type 0} (h : Ghosts T) (firm : Firm) where
     pub settled : LeavesAlone firm (MayLeave h book)
     pub lasts : IsLasting h book
 
-  -- the book taken from a connection that holds one of either version stands for the same firm
+  -- the book taken from a connection that holds one of either version, with the trail or without, stands for the same
+  -- firm
   abbrev pub BooksAreTaken : Type 0
   BooksAreTaken =
-      (conn : Held T) (next : HeldBook T) → HoldsOldFirm conn ⊎ HoldsFirm conn → IsTaken h conn next → IsOfFirm next
+      (conn : Held T) (next : HeldBook T) → HoldsOldFirm conn ⊎ (HoldsBareFirm conn ⊎ HoldsFirm conn)
+      → IsTaken h conn next → IsOfFirm next
 
 -- whatever a stop leaves of a version 1 book while it is being taken is that book, or one of this version for the
 -- same firm, and it can be taken
 abbrev pub StopsInMovingLeaveBooks : {T : Type 0} → Ghosts T → Type 0
 StopsInMovingLeaveBooks {T} h =
-    (db : Database) (trees : Trees) (conn : Held T) → IsOldStanding db → IsLeftInMoving db trees
+    (db : Database) (trees : Trees) (conn : Held T) → IsOldStanding db → IsLeftInTaking db trees
     → IsOpenedOver h trees conn
     → HoldsOldFirm h (firm_then db.trees) conn ⊎ HoldsFirm h (firm_then db.trees) conn
+
+-- whatever a stop leaves of a book without the trail while it is being taken is that book, or one with the trail for
+-- the same firm, and it can be taken
+abbrev pub StopsInExtendingLeaveBooks : {T : Type 0} → Ghosts T → Type 0
+StopsInExtendingLeaveBooks {T} h =
+    (l : Layout) (db : Database) (trees : Trees) (conn : Held T) → IsBareStanding l db → IsLeftInTaking db trees
+    → IsOpenedOver h trees conn
+    → HoldsBareFirm h (firm_bare l db.trees) conn ⊎ HoldsFirm h (firm_bare l db.trees) conn

@@ -1,25 +1,30 @@
-// The SQL statements that a change writes: of a matter, first those to the head, then what the edit writes.
+// The SQL statements that a change writes: of a matter, first those to the head, then what the edit writes, then the
+// act.
 
-ghost use Rattle.std.specs.Prelude.{◌≡◌, ◌≤◌, [], ◌∷◌, pos, None, Some, map, IfOk};
+ghost use Rattle.std.specs.Prelude.{◌≡◌, ◌≤◌, [], ◌∷◌, ◌++◌, pos, None, Some, map, IfOk, IfSome};
+ghost use Rattle.std.specs.Option.{option_copied};
 ghost use Rattle.matter_rows.specs.declared.limits.TheConstants.{MAX_TOTAL};
 ghost use Rattle.matter_parts.specs.declared.edit.Edit.TheVariants as edit;
 ghost use Rattle.firm_rows.specs.Firm.{own_movement};
 ghost use Rattle.firm_rows.specs.FirmChange.{OfMatter};
 ghost use Rattle.firm_rows.specs.FirmLines.{as_firm_line};
 ghost use Rattle.sql_tables.specs.Given.{firm_line_given, movement_given};
+ghost use Rattle.sql_rows.specs.Acts.{IsCaller};
 ghost use Rattle.sql_rows.specs.Columns.{firm_line_columns, movement_columns};
-ghost use Rattle.sql_rows.specs.Scripts.{IsTyped, IsTypedEdit};
-ghost use Rattle.sql_rows.specs.Steps.{AddMovement, EntriesGone, MovementsGone, SeatsGone, SetPurged, step_of, movement_steps, matter_steps};
+ghost use Rattle.sql_rows.specs.Scripts.{IsTyped, IsTypedAct, IsTypedEdit};
+ghost use Rattle.sql_rows.specs.Steps.{ActsGone, AddMovement, EntriesGone, MovementsGone, SeatsGone, SetPurged, step_of, act_steps, movement_steps, matter_steps};
 
 use firm_rows::{Movement, Owner};
 use matter_parts::{Change, Edit, Left, Opening};
-use matter_rows::EntryMovement;
-use sql_rows::{entry_columns, head_columns, movement_columns, seat_columns, totals_columns};
+use matter_rows::{Act, Caller, EntryMovement};
+use sql_rows::{
+    act_columns, entry_columns, head_columns, movement_columns, seat_columns, totals_columns,
+};
 use sql_tables::{
     FirmLineColumns, LeftColumns, MatterDay, MovementColumns, SeatName, SqlStatement,
 };
 use std::alloc::{AllocError, Global};
-use trust_base::{Day, Line, MatterNo, PersonId};
+use trust_base::{Day, EntryNo, Line, MatterNo, PersonId};
 
 // The seat of a person in a matter.
 fn seat_name(matter: MatterNo, person: &PersonId) -> SeatName<'_>
@@ -71,6 +76,22 @@ fn entry_moved(matter: MatterNo, moved: EntryMovement) -> MovementColumns
     })
 }
 
+// Ends the script of a change of a matter with the act that the change is remembered by, if there is one.
+fn with_act<'a>(
+    script: Vec<SqlStatement<'a>>,
+    matter: MatterNo,
+    act: Option<&'a Act>,
+) -> Result<Vec<SqlStatement<'a>>, AllocError>
+    ensures { IfOk result (λ whole.
+        map step_of whole.items ≡ map step_of script.entry.items ++ act_steps matter (option_copied act.entry)) }
+{
+    let mut script = script;
+    if let Some(act) = act {
+        script.push(SqlStatement::Act(act_columns(matter, act)))?;
+    }
+    Ok(script)
+}
+
 // The script of a purge: of the matter's rows only the head stays.
 fn purge_script<'a>(
     alloc: Global,
@@ -79,7 +100,8 @@ fn purge_script<'a>(
     totals: SqlStatement<'a>,
 ) -> Result<Vec<SqlStatement<'a>>, AllocError>
     ensures { IfOk result (λ script. map step_of script.items ≡ SetPurged (pos matter) (pos day)
-        ∷ step_of totals.entry ∷ SeatsGone (pos matter) ∷ EntriesGone (pos matter) ∷ MovementsGone (pos matter) ∷ []) }
+        ∷ step_of totals.entry ∷ SeatsGone (pos matter) ∷ EntriesGone (pos matter) ∷ MovementsGone (pos matter)
+        ∷ ActsGone (pos matter) ∷ []) }
 {
     let script = [
         SqlStatement::Purged(day_columns(matter, day)),
@@ -87,6 +109,7 @@ fn purge_script<'a>(
         SqlStatement::SeatsGone(matter.get() as i64),
         SqlStatement::EntriesGone(matter.get() as i64),
         SqlStatement::MovementsGone(matter.get() as i64),
+        SqlStatement::ActsGone(matter.get() as i64),
     ];
     Vec::from_slice(alloc, &script)
 }
@@ -95,6 +118,40 @@ fn purge_script<'a>(
 fn day_is_typed(day: Day)
     ensures { 1 ≤ day }
 {}
+
+fn number_is_typed(number: EntryNo)
+    ensures { 1 ≤ number }
+{}
+
+fn entry_is_typed(entry: Option<EntryNo>)
+    ensures { IfSome entry (λ number. 1 ≤ number) }
+{
+    match entry {
+        None => {}
+        Some(number) => number_is_typed(number),
+    }
+}
+
+fn caller_is_typed(caller: &Caller)
+    ensures { IsCaller caller.now }
+{
+    match caller {
+        Caller::Cashier => {}
+        Caller::Person(name) => {
+            let _text = name.as_slice();
+        }
+    }
+}
+
+fn act_is_typed(act: Option<&Act>)
+    ensures { IsTypedAct (option_copied act.entry) }
+{
+    let Some(act) = act else {
+        return;
+    };
+    entry_is_typed(act.entry);
+    caller_is_typed(&act.caller);
+}
 
 fn opening_is_typed(opening: &Opening)
     ensures { IsTypedEdit (edit.Open opening.now) }
@@ -105,9 +162,9 @@ fn opening_is_typed(opening: &Opening)
     }
 }
 
-/// The script of a change by its edit, and what the types of its days and number say. For an entry that is added or
-/// replaces the one with its number: the totals, the entry, and, if there are any, what is left of the entry that it
-/// names, and its movement.
+/// The script of a change by its edit, and what the types of its days, numbers and names say. For an entry that is
+/// added or replaces the one with its number: the totals, the entry, and, if there are any, what is left of the entry
+/// that it names, its movement, and the act.
 pub(crate) fn edit_script<'a>(
     alloc: Global,
     matter: MatterNo,
@@ -117,6 +174,7 @@ pub(crate) fn edit_script<'a>(
         map step_of script.items ≡ matter_steps matter change.now change.now.edit) }
     ensures typed { IfOk result (λ _. IsTyped (OfMatter matter None change.now)) }
 {
+    act_is_typed(change.act());
     let moves = change.moves();
     let totals = SqlStatement::Totals(totals_columns(matter, change.last(), moves.figures));
     match change.edit() {
@@ -125,20 +183,24 @@ pub(crate) fn edit_script<'a>(
             opening_is_typed(opening);
             let head = SqlStatement::Head(head_columns(matter, &opening.head, moves.figures));
             let seat = SqlStatement::Seat(seat_columns(matter, &opening.seat));
-            Vec::from_slice(alloc, &[head, seat])
+            let script = Vec::from_slice(alloc, &[head, seat])?;
+            with_act(script, matter, change.act())
         }
         Edit::Seat(seat) => {
             let added = SqlStatement::Seat(seat_columns(matter, seat));
-            Vec::from_slice(alloc, &[totals, added])
+            let script = Vec::from_slice(alloc, &[totals, added])?;
+            with_act(script, matter, change.act())
         }
         Edit::Unseat(person) => {
             let gone = SqlStatement::SeatGone(seat_name(matter, person));
-            Vec::from_slice(alloc, &[totals, gone])
+            let script = Vec::from_slice(alloc, &[totals, gone])?;
+            with_act(script, matter, change.act())
         }
         Edit::Close(day) => {
             day_is_typed(*day);
             let closed = SqlStatement::Closed(day_columns(matter, *day));
-            Vec::from_slice(alloc, &[closed, totals])
+            let script = Vec::from_slice(alloc, &[closed, totals])?;
+            with_act(script, matter, change.act())
         }
         Edit::Purge(day) => {
             day_is_typed(*day);
@@ -153,7 +215,7 @@ pub(crate) fn edit_script<'a>(
             if let Some(moved) = change.movement() {
                 script.push(SqlStatement::Movement(entry_moved(matter, moved)))?;
             }
-            Ok(script)
+            with_act(script, matter, change.act())
         }
     }
 }

@@ -1,7 +1,7 @@
 //! Laws about what a stop leaves of a book. Each is the contract of a function that does nothing.
 
 ghost use Rattle.firm_rows.specs.Firm.{Firm};
-ghost use Rattle.sql_book.specs.Stops.{BooksAreTaken, StopsAreTaken, StopsInMakingLeaveBooks, StopsInMovingLeaveBooks, StopsLeaveBooks};
+ghost use Rattle.sql_book.specs.Stops.{BooksAreTaken, StopsAreTaken, StopsInExtendingLeaveBooks, StopsInMakingLeaveBooks, StopsInMovingLeaveBooks, StopsLeaveBooks};
 
 use sql_rows::laws::empty_tables_stand;
 use sqlite::Alter;
@@ -34,8 +34,16 @@ pub fn stops_in_moving_leave_books<T: Alter + Drop>()
     ensures { StopsInMovingLeaveBooks T.Store }
 {}
 
-/// If the tables of a database of either version stand for a sound firm, the book taken from it stands for that firm,
-/// lasts and is settled. So what is promised for the calls of such a book holds without further premises.
+/// If a run stops while it takes a book of this version without the trail whose tables stood for a sound firm, opening
+/// the files again finds that book, or one with the trail whose tables stand for the same firm. `SqlBook::adopt` does
+/// not return `NotABook`.
+pub fn stops_in_extending_leave_books<T: Alter + Drop>()
+    ensures { StopsInExtendingLeaveBooks T.Store }
+{}
+
+/// If the tables of a database of either version, with the trail or without, stand for a sound firm, the book taken
+/// from it stands for that firm, lasts and is settled. So what is promised for the calls of such a book holds without
+/// further premises.
 pub fn books_are_taken<T: Alter + Drop>()
     ensures { (firm : Firm) → BooksAreTaken T.Store firm }
 {}

@@ -19,7 +19,7 @@
 //!   whole change (`written`).
 //! - `write_change`: the same of each change of a matter, whether a line of the bank made it or not: the head with its
 //!   totals, a seat given or taken, an entry with what is left of it and of the one that it names, what was moved, a
-//!   purge (`written`).
+//!   purge, and the act that the change is remembered by (`written`).
 //!
 //! - `SqlBook` as a `Book`: all that the trait promises, over every store of `sqlite`: its firm is the one for whose
 //!   rows the tables stand; it is clean if what was read is what had been written and the connection serves, and sure
@@ -32,10 +32,11 @@
 //!   was (`not_empty`, `told`); all of it or nothing, also over a crash (`kept`, `crash`, `crash_at_fault`).
 //! - `SqlBook::adopt`: the book that a database holds, which serves and is settled: one of this version in its layout,
 //!   with the tables that were there; or one of version 1, whose rows were moved into the tables of this version, which
-//!   stand for the firm for which those stood. It does not test whether the rows stand for a firm; if they do, and the
-//!   firm is sound, the book stands and lasts (`taken`). It writes only if the book is of version 1, all of it or
-//!   nothing, also over a crash (`kept`, `crash`, `crash_at_fault`); NotABook only of a database that holds neither
-//!   (`not_a_book`).
+//!   stand for the firm for which those stood; or one of this version that had no trail, with an empty one, which
+//!   stands for the firm for which its other tables stood, with no acts. It does not test whether the rows stand for a
+//!   firm; if they do, and the firm is sound, the book stands and lasts (`taken`). It writes only if the book is of
+//!   version 1 or has no trail, all of it or nothing, also over a crash (`kept`, `crash`, `crash_at_fault`); NotABook
+//!   only of a database that holds none of these (`not_a_book`).
 //! - `SqlBook::version`: the version that its tables say, if they say one and no more, else Store (`is`); nothing is
 //!   written (`kept`, `settled`, `crash`), and an answer of Store is counted (`count`).
 //! - `laws` `stops_leave_books`, `stops_are_taken`: take a book that lasts, any stop, and the files opened again. The
@@ -48,7 +49,9 @@
 //! - `laws` `stops_in_moving_leave_books`, `books_are_taken`: take a database of version 1 whose tables stood for a
 //!   sound firm, any stop while it is being taken, and the files opened again. The connection then holds that database,
 //!   or a book of this version that stands for the same firm, so `adopt` does not answer NotABook; and the book that is
-//!   taken, of either version, stands for that firm, lasts, and is settled.
+//!   taken, of either version, with the trail or without, stands for that firm, lasts, and is settled.
+//! - `laws` `stops_in_extending_leave_books`: the same of a book of this version without the trail: the connection then
+//!   holds it, or one with the trail that stands for the same firm.
 //! - `SqlBook::release`: the connection as it is, with no transaction open.
 //!
 //! The program uses it with `--db` (`system_store`).

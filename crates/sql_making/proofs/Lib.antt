@@ -15,4 +15,5 @@ pub mod Tables
 pub mod Version
 pub mod Steps
 pub mod MovedWhole
+pub mod Extended
 mod Names

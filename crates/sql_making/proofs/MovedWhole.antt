@@ -1,19 +1,21 @@
 -- What the whole text makes of a database of version 1.
-use Rattle.sql_making.proofs.Names.{◌≡◌, ℕ, ℤ, true, List, [], ◌∷◌, map, length, Ok, refl, sym, ap, subst, ◌∙◌, AllByRecursion, Value, Int, Row, column, Ghosts, Trees, Schema, map-map, Database, IsDatabase, ExecutesAllInside, Held, state, State, ExecutesIn, Moved, book_schema, version_now, Head, head_row, head_in, Seat, seat_row, seat_in, Entry, entry_row, entry_in, SeatsHold, EntriesHold, MovementsHold, FirmLinesHold, ExceptionsHold, BalancesHold, old_schema, version_then, move_text, version_set_part, after_entries_made, after_heads_emptied, old_head_row, old_head_in, numbered_versions, IsOldBook, IsMoved, movement_in, firm_line_in, exception_in, balance_in}
+use Rattle.sql_making.proofs.Names.{◌≡◌, ℕ, ℤ, true, List, [], ◌∷◌, map, length, Ok, refl, sym, ap, subst, ◌∙◌, AllByRecursion, Value, Int, Row, column, Ghosts, Trees, Schema, map-map, Database, IsDatabase, ExecutesAllInside, Held, state, State, ExecutesIn, Moved, book_schema, version_now, Head, head_row, head_in, Seat, seat_row, seat_in, Entry, entry_row, entry_in, SeatsHold, EntriesHold, MovementsHold, FirmLinesHold, ExceptionsHold, BalancesHold, old_schema, version_then, move_text, version_set_part, after_acts_made, after_heads_emptied, old_head_row, old_head_in, numbered_versions, IsOldBook, IsMoved, movement_in, firm_line_in, exception_in, balance_in}
 use Rattle.sql_tables.proofs.Others.{now_holds, now_read}
+use Rattle.sql_tables.specs.Rows.{Act, act_row, act_in}
+use Rattle.sql_making.proofs.NewBook.{holds_none}
 use Rattle.sql_making.proofs.Parts.{IsFirst}
 use Rattle.sql_making.proofs.Whole.{Turns, turn}
 use Rattle.sql_making.proofs.MovedCreates.{Creates, HasCreated, creates}
-use Rattle.sql_making.proofs.MovedParts.{heads_made_first, seats_made_first, entries_made_first, heads_copied_first, seats_copied_first, entries_copied_first, entries_emptied_first, seats_emptied_first, heads_emptied_first, version_set_first}
+use Rattle.sql_making.proofs.MovedParts.{heads_made_first, seats_made_first, entries_made_first, acts_made_first, heads_copied_first, seats_copied_first, entries_copied_first, entries_emptied_first, seats_emptied_first, heads_emptied_first, version_set_first}
 use Rattle.sql_making.proofs.MovedStages as stage
 use Rattle.sql_making.proofs.Changes.{IsElsewhere, Fills, Clears}
-use Rattle.sql_making.proofs.Tables.{Twelve, twelve, others_kept}
+use Rattle.sql_making.proofs.Tables.{TableRows, table_rows, others_kept}
 use Rattle.sql_making.proofs.Steps.{new_head_row, copies_heads, copies_seats, copies_entries, empties_entries, empties_seats, empties_heads}
 use Rattle.sql_making.proofs.Version.{sets_version, sets_listed}
 
--- the tables of version 1, and three that are empty
-abbrev start : Trees → Twelve
-start db = record (twelve db) { heads = []; seats = []; entries = [] }
+-- the tables of version 1, and four that are empty
+abbrev start : Trees → TableRows
+start db = record (table_rows db) { heads = []; seats = []; entries = []; acts = [] }
 
 -- a head that was read from a row of version 1 is that of the row that was made of it
 heads_of : (rows : List Row) → map new_head_row (map old_head_in rows) ≡ map head_row (map old_head_in rows)
@@ -32,54 +34,57 @@ module _ {S : Type 0} (g : Ghosts S) (new : Held S) where
       record { at = ran.0; created = creates schema part after it (state g old) (state g ran.0) ran.1 has ran.2.runs; turns = ran.3 }
 
   -- the text is left to run on a database with these rows in its tables
-  record Left (text : List ℕ) (rows : Twelve) : Type 0 where
+  record Left (text : List ℕ) (rows : TableRows) : Type 0 where
     at : Held S
     has : (state g at).now.schema ≡ book_schema Moved
-    holds : twelve (state g at).now.trees ≡ rows
+    holds : table_rows (state g at).now.trees ≡ rows
     turns : Turns g new text at
 
-  begins : (old : Held S) → (state g old).now.schema ≡ old_schema → Turns g new move_text old → Left after_entries_made (start (state g old).now.trees)
+  begins : (old : Held S) → (state g old).now.schema ≡ old_schema → Turns g new move_text old → Left after_acts_made (start (state g old).now.trees)
   begins old has turns =
       let one = make stage.heads_made heads_made_first old has turns in
       let two = make stage.seats_made seats_made_first one.at one.created.schema_is one.turns in
       let three = make stage.entries_made entries_made_first two.at two.created.schema_is two.turns in
+      let four = make stage.acts_made acts_made_first three.at three.created.schema_is three.turns in
       let a = one.created.others in
       let b = two.created.others in
       let c = three.created.others in
+      let d = four.created.others in
       record {
-        at = three.at;
-        has = three.created.schema_is;
-        turns = three.turns;
-        holds = twelve_start (state g old).now.trees (state g one.at).now.trees (state g two.at).now.trees (state g three.at).now.trees a b c one.created.empty two.created.empty three.created.empty;
+        at = four.at;
+        has = four.created.schema_is;
+        turns = four.turns;
+        holds = rows_start (state g old).now.trees (state g one.at).now.trees (state g two.at).now.trees (state g three.at).now.trees (state g four.at).now.trees a b c d one.created.empty two.created.empty three.created.empty four.created.empty;
       }
     where
-      twelve_start : (db one two three : Trees) → AllByRecursion (λ t. one t.tree ≡ db t.tree) old_schema.tables → AllByRecursion (λ t. two t.tree ≡ one t.tree) stage.with_matter.tables
-          → AllByRecursion (λ t. three t.tree ≡ two t.tree) stage.with_seat.tables → one 13 ≡ [] → two 14 ≡ [] → three 16 ≡ [] → twelve three ≡ start db
-      twelve_start db one two three a b c x y z =
+      rows_start : (db one two three four : Trees) → AllByRecursion (λ t. one t.tree ≡ db t.tree) old_schema.tables → AllByRecursion (λ t. two t.tree ≡ one t.tree) stage.with_matter.tables
+          → AllByRecursion (λ t. three t.tree ≡ two t.tree) stage.with_seat.tables → AllByRecursion (λ t. four t.tree ≡ three t.tree) stage.with_entry.tables → one 13 ≡ [] → two 14 ≡ [] → three 16 ≡ [] → four 18 ≡ [] → table_rows four ≡ start db
+      rows_start db one two three four a b c d x y z w =
           λ i. record {
-            book = (c.0 ∙ b.0 ∙ a.0) i;
-            old_heads = (c.1.0 ∙ b.1.0 ∙ a.1.0) i;
-            old_seats = (c.1.1.0 ∙ b.1.1.0 ∙ a.1.1.0) i;
-            old_entries = (c.1.1.1.0 ∙ b.1.1.1.0 ∙ a.1.1.1.0) i;
-            movements = (c.1.1.1.1.0 ∙ b.1.1.1.1.0 ∙ a.1.1.1.1.0) i;
-            counts = (c.1.1.1.1.1.0 ∙ b.1.1.1.1.1.0 ∙ a.1.1.1.1.1.0) i;
-            firm_lines = (c.1.1.1.1.1.1.0 ∙ b.1.1.1.1.1.1.0 ∙ a.1.1.1.1.1.1.0) i;
-            exceptions = (c.1.1.1.1.1.1.1.0 ∙ b.1.1.1.1.1.1.1.0 ∙ a.1.1.1.1.1.1.1.0) i;
-            balances = (c.1.1.1.1.1.1.1.1.0 ∙ b.1.1.1.1.1.1.1.1.0 ∙ a.1.1.1.1.1.1.1.1.0) i;
-            heads = (c.1.1.1.1.1.1.1.1.1.0 ∙ b.1.1.1.1.1.1.1.1.1.0 ∙ x) i;
-            seats = (c.1.1.1.1.1.1.1.1.1.1.0 ∙ y) i;
-            entries = z i;
+            book = (d.0 ∙ c.0 ∙ b.0 ∙ a.0) i;
+            old_heads = (d.1.0 ∙ c.1.0 ∙ b.1.0 ∙ a.1.0) i;
+            old_seats = (d.1.1.0 ∙ c.1.1.0 ∙ b.1.1.0 ∙ a.1.1.0) i;
+            old_entries = (d.1.1.1.0 ∙ c.1.1.1.0 ∙ b.1.1.1.0 ∙ a.1.1.1.0) i;
+            movements = (d.1.1.1.1.0 ∙ c.1.1.1.1.0 ∙ b.1.1.1.1.0 ∙ a.1.1.1.1.0) i;
+            counts = (d.1.1.1.1.1.0 ∙ c.1.1.1.1.1.0 ∙ b.1.1.1.1.1.0 ∙ a.1.1.1.1.1.0) i;
+            firm_lines = (d.1.1.1.1.1.1.0 ∙ c.1.1.1.1.1.1.0 ∙ b.1.1.1.1.1.1.0 ∙ a.1.1.1.1.1.1.0) i;
+            exceptions = (d.1.1.1.1.1.1.1.0 ∙ c.1.1.1.1.1.1.1.0 ∙ b.1.1.1.1.1.1.1.0 ∙ a.1.1.1.1.1.1.1.0) i;
+            balances = (d.1.1.1.1.1.1.1.1.0 ∙ c.1.1.1.1.1.1.1.1.0 ∙ b.1.1.1.1.1.1.1.1.0 ∙ a.1.1.1.1.1.1.1.1.0) i;
+            heads = (d.1.1.1.1.1.1.1.1.1.0 ∙ c.1.1.1.1.1.1.1.1.1.0 ∙ b.1.1.1.1.1.1.1.1.1.0 ∙ x) i;
+            seats = (d.1.1.1.1.1.1.1.1.1.1.0 ∙ c.1.1.1.1.1.1.1.1.1.1.0 ∙ y) i;
+            entries = (d.1.1.1.1.1.1.1.1.1.1.1.0 ∙ z) i;
+            acts = w i;
           }
 
   -- one table has other rows after a statement, and what is known of them
-  record Next (rest : List ℕ) (rows : Twelve) (put : Twelve → List Row → Twelve) (tree : ℕ) (Does : Trees → Trees → Type 0) : Type 0 where
+  record Next (rest : List ℕ) (rows : TableRows) (put : TableRows → List Row → TableRows) (tree : ℕ) (Does : Trees → Trees → Type 0) : Type 0 where
     from : Trees
-    was : twelve from ≡ rows
+    was : table_rows from ≡ rows
     to : Trees
     does : Does from to
     left : Left rest (put rows (to tree))
 
-  next : {text part rest : List ℕ} {rows : Twelve} → IsFirst text part rest → (tree : ℕ) (put : Twelve → List Row → Twelve) → ((a b : Database) → IsElsewhere tree a b → twelve b.trees ≡ put (twelve a.trees) (b.trees tree))
+  next : {text part rest : List ℕ} {rows : TableRows} → IsFirst text part rest → (tree : ℕ) (put : TableRows → List Row → TableRows) → ((a b : Database) → IsElsewhere tree a b → table_rows b.trees ≡ put (table_rows a.trees) (b.trees tree))
       → (Does : Trees → Trees → Type 0) → ((a b : State) (count : ℕ) → a.now.schema ≡ book_schema Moved → ExecutesIn true part [] a b (Ok count) → IsElsewhere tree a.now b.now × Does a.now.trees b.now.trees)
       → Left text rows → Next rest rows put tree Does
   next {text} {part} {rest} {rows} is tree put but Does does l =
@@ -96,7 +101,7 @@ module _ {S : Type 0} (g : Ghosts S) (new : Held S) where
       }
 
   -- the last statement leaves a database that lists what it holds
-  listed_last : {rows : Twelve} → Left after_heads_emptied rows → IsDatabase (state g new).now
+  listed_last : {rows : TableRows} → Left after_heads_emptied rows → IsDatabase (state g new).now
   listed_last l =
       let ran = turn g new after_heads_emptied version_set_part [] l.at version_set_first l.turns in
       subst (λ (x : Held S). IsDatabase (state g x).now) (sym ran.3.1.1) (sets_listed (state g l.at) (state g ran.0) ran.1 l.has ran.2.runs)
@@ -124,15 +129,16 @@ module _ {S : Type 0} (g : Ghosts S) (new : Held S) where
       → map (λ (r : Row). column r 1) (y 0) ≡ Int version_now ∷ []) sets_version f.left in
       let end : new ≡ k.left.at = k.left.turns.1.1 in
       let schema = ap (λ (x : Held S). (state g x).now.schema) end ∙ k.left.has in
-      let now = ap (λ (x : Held S). twelve (state g x).now.trees) end ∙ k.left.holds in
-      let version = ap (λ (t : Twelve). map (λ (r : Row). column r 1) t.book) now
+      let now = ap (λ (x : Held S). table_rows (state g x).now.trees) end ∙ k.left.holds in
+      let version = ap (λ (t : TableRows). map (λ (r : Row). column r 1) t.book) now
       ∙ k.does book.id (Int version_then)
-      (ap (λ (t : Twelve). map (λ (r : Row). column r 0 ∷ column r 1 ∷ []) t.book) k.was ∙ book.version) in
-      let movements = ap (λ (t : Twelve). t.movements) now in
-      let firm_lines = ap (λ (t : Twelve). t.firm_lines) now in
-      let exceptions = ap (λ (t : Twelve). t.exceptions) now in
-      let balances = ap (λ (t : Twelve). t.balances) now in
-      let counts = ap (λ (t : Twelve). t.counts) now in
+      (ap (λ (t : TableRows). map (λ (r : Row). column r 0 ∷ column r 1 ∷ []) t.book) k.was ∙ book.version) in
+      let movements = ap (λ (t : TableRows). t.movements) now in
+      let firm_lines = ap (λ (t : TableRows). t.firm_lines) now in
+      let exceptions = ap (λ (t : TableRows). t.exceptions) now in
+      let balances = ap (λ (t : TableRows). t.balances) now in
+      let counts = ap (λ (t : TableRows). t.counts) now in
+      let acts : last 18 ≡ [] = ap (λ (t : TableRows). t.acts) now in
       record {
         book = record { schema = schema; version = version };
         listed = listed_last f.left;
@@ -147,14 +153,14 @@ module _ {S : Type 0} (g : Ghosts S) (new : Held S) where
             let hs = map old_head_in (db 1) in
             let ss = map seat_in (db 2) in
             let es = map entry_in (db 4) in
-            let heads : last 13 ≡ map head_row hs = ap (λ (t : Twelve). t.heads) now
-            ∙ a.does hs (ap (λ (t : Twelve). t.old_heads) a.was ∙ s.heads.stored) s.heads.rise (ap (λ (t : Twelve). t.heads) a.was)
+            let heads : last 13 ≡ map head_row hs = ap (λ (t : TableRows). t.heads) now
+            ∙ a.does hs (ap (λ (t : TableRows). t.old_heads) a.was ∙ s.heads.stored) s.heads.rise (ap (λ (t : TableRows). t.heads) a.was)
             ∙ heads_of (db 1) in
-            let seats : last 14 ≡ db 2 = ap (λ (t : Twelve). t.seats) now
-            ∙ b.does ss (ap (λ (t : Twelve). t.old_seats) b.was ∙ s.seats.stored) s.seats.rise (ap (λ (t : Twelve). t.seats) b.was)
+            let seats : last 14 ≡ db 2 = ap (λ (t : TableRows). t.seats) now
+            ∙ b.does ss (ap (λ (t : TableRows). t.old_seats) b.was ∙ s.seats.stored) s.seats.rise (ap (λ (t : TableRows). t.seats) b.was)
             ∙ sym s.seats.stored in
-            let entries : last 16 ≡ db 4 = ap (λ (t : Twelve). t.entries) now
-            ∙ c.does es (ap (λ (t : Twelve). t.old_entries) c.was ∙ s.entries.stored) s.entries.rise (ap (λ (t : Twelve). t.entries) c.was)
+            let entries : last 16 ≡ db 4 = ap (λ (t : TableRows). t.entries) now
+            ∙ c.does es (ap (λ (t : TableRows). t.old_entries) c.was ∙ s.entries.stored) s.entries.rise (ap (λ (t : TableRows). t.entries) c.was)
             ∙ sym s.entries.stored in
             let heads_read : map head_in (last 13) ≡ hs = now_read head_in (λ _. refl) heads in
             record {
@@ -168,6 +174,7 @@ module _ {S : Type 0} (g : Ghosts S) (new : Held S) where
                 firm_lines = subst FirmLinesHold (sym firm_lines) s.firm_lines;
                 exceptions = subst ExceptionsHold (sym exceptions) s.exceptions;
                 balances = subst BalancesHold (sym balances) s.balances;
+                acts = holds_none act_row act_in (λ (x : Act). x.seq) _ acts;
               };
               lists = λ i. record {
                 heads = heads_read i;
@@ -177,14 +184,15 @@ module _ {S : Type 0} (g : Ghosts S) (new : Held S) where
                 firm_lines = map firm_line_in (firm_lines i);
                 exceptions = map exception_in (exceptions i);
                 balances = map balance_in (balances i);
+                acts = map act_in (acts i);
               };
               seats = seats;
               entries = entries;
-              no_old_heads = ap (λ (t : Twelve). t.old_heads) now
-                  ∙ f.does hs (ap (λ (t : Twelve). t.old_heads) f.was ∙ s.heads.stored) s.heads.rise;
-              no_old_seats = ap (λ (t : Twelve). t.old_seats) now
-                  ∙ e.does ss (ap (λ (t : Twelve). t.old_seats) e.was ∙ s.seats.stored) s.seats.rise;
-              no_old_entries = ap (λ (t : Twelve). t.old_entries) now
-                  ∙ d.does es (ap (λ (t : Twelve). t.old_entries) d.was ∙ s.entries.stored) s.entries.rise;
+              no_old_heads = ap (λ (t : TableRows). t.old_heads) now
+                  ∙ f.does hs (ap (λ (t : TableRows). t.old_heads) f.was ∙ s.heads.stored) s.heads.rise;
+              no_old_seats = ap (λ (t : TableRows). t.old_seats) now
+                  ∙ e.does ss (ap (λ (t : TableRows). t.old_seats) e.was ∙ s.seats.stored) s.seats.rise;
+              no_old_entries = ap (λ (t : TableRows). t.old_entries) now
+                  ∙ d.does es (ap (λ (t : TableRows). t.old_entries) d.was ∙ s.entries.stored) s.entries.rise;
             };
       }

@@ -1,5 +1,5 @@
 -- The names that the proofs of this crate cite, passed on from one place. Declares nothing.
-pub use Rattle.sql_schema.specs.Making.{after_balance, schema_text, version_part}
+pub use Rattle.sql_schema.specs.Making.{after_act, schema_text, version_part}
 pub use Rattle.sql_schema.specs.Old.{old_schema, version_then}
 pub use Rattle.sql_schema.specs.Schema.{book_schema, book_table, entry_place, entry_table, matter_place, matter_table, old_entry_table, old_matter_table, old_seat_table, seat_place, seat_table, sequence_table, version_now}
 pub use Rattle.sql_schema.specs.declared.layout.Layout.{Layout}
@@ -11,8 +11,8 @@ pub use Rattle.sql_tables.proofs.KindLemmas.{idle}
 pub use Rattle.sql_tables.proofs.Together.{ok_then, when_err, when_ok}
 pub use Rattle.sql_tables.proofs.Writes.{deletes, inserts, removed, same_value, updated, updates, went}
 pub use Rattle.sql_tables.specs.Reading.{IsSelect}
-pub use Rattle.sql_tables.specs.Rows.{Balance, Entry, Exception, FirmLine, Head, Movement, Seat, balance_in, balance_row, entry_in, entry_row, entry_values, exception_in, exception_row, firm_line_in, firm_line_row, head_in, head_row, head_shown, movement_in, movement_row, seat_in, seat_row, seat_values}
-pub use Rattle.sql_tables.specs.Standing.{BalancesHold, EntriesHold, ExceptionsHold, FirmLinesHold, Holds, MovementsHold, SeatsHold, Stands}
+pub use Rattle.sql_tables.specs.Rows.{Act, act_in, act_row, Balance, Entry, Exception, FirmLine, Head, Movement, Seat, balance_in, balance_row, entry_in, entry_row, entry_values, exception_in, exception_row, firm_line_in, firm_line_row, head_in, head_row, head_shown, movement_in, movement_row, seat_in, seat_row, seat_values}
+pub use Rattle.sql_tables.specs.Standing.{ActsHold, BalancesHold, EntriesHold, ExceptionsHold, FirmLinesHold, Holds, MovementsHold, SeatsHold, Stands}
 pub use Rattle.sqlite.proofs.Callers.{IsPlain, command_of, one_permutation, one_step, reads_as, statement_of}
 pub use Rattle.sqlite.specs.Batch.{RunInTurn, Step}
 unfoldable pub use Rattle.sqlite.specs.Batch.{ExecutesAllInside}
@@ -56,7 +56,7 @@ pub use Rattle.std.proofs.lemmas.List.Concat.{flat_map_single}
 pub use Rattle.std.proofs.lemmas.List.Sorted.{IsPermutation-map, IsPermutation-sym}
 pub use Rattle.std.specs.List.{AllByRecursion}
 pub use Rattle.sql_making.specs.Books.{HasFailed, IsBlank, IsBook, IsNewBook, no_schema, version_text, versions_in}
-pub use Rattle.sql_making.specs.Text.{after_entries_made, after_heads_emptied, entries_copied_part, entries_emptied_part, heads_copied_part, heads_emptied_part, move_text, seats_copied_part, seats_emptied_part, version_set_part}
+pub use Rattle.sql_making.specs.Text.{after_acts_made, after_heads_emptied, entries_copied_part, entries_emptied_part, heads_copied_part, heads_emptied_part, move_text, seats_copied_part, seats_emptied_part, version_set_part}
 pub use Rattle.sql_making.specs.Then.{HasVersions, IsMoved, IsOldBook, numbered_versions, old_head_in, old_head_row}
 pub use Rattle.std.proofs.lemmas.Bool.Decides.{nat_tests}
 pub use Rattle.std.proofs.lemmas.Int.{ints}

@@ -2,7 +2,7 @@
 use Rattle.std.proofs.Common.{◌≡◌, ℕ, ◌<◌, List, [], length, take, drop, refl, arith}
 use Rattle.sqlite_tied.specs.Compute.{everything}
 use Rattle.sqlite.specs.Batch.{first_len}
-use Rattle.sql_schema.specs.Making.{schema_text, book_part, matter_part, seat_part, entry_part, journal_part, firm_line_part, exception_part, balance_part, version_part, after_book, after_matter, after_seat, after_entry, after_journal, after_firm_line, after_exception, after_balance}
+use Rattle.sql_schema.specs.Making.{schema_text, book_part, matter_part, seat_part, entry_part, journal_part, firm_line_part, exception_part, balance_part, act_part, version_part, after_book, after_matter, after_seat, after_entry, after_journal, after_firm_line, after_exception, after_balance, after_act}
 
 -- a text begins with a statement
 pub record IsFirst (text part rest : List ℕ) : Type 0 where
@@ -42,6 +42,10 @@ pub balance_first : IsFirst after_exception balance_part after_balance
 unfolding everything
 balance_first = record { some = omega arith; front = refl; after = refl }
 
-pub version_first : IsFirst after_balance version_part []
+pub act_first : IsFirst after_balance act_part after_act
+unfolding everything
+act_first = record { some = omega arith; front = refl; after = refl }
+
+pub version_first : IsFirst after_act version_part []
 unfolding everything
 version_first = record { some = omega arith; front = refl; after = refl }

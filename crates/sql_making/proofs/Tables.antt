@@ -6,7 +6,7 @@ use Rattle.sqlite.specs.Effect.{Database}
 use Rattle.sql_tables.proofs.Others.{with_rows, one_kept}
 use Rattle.sql_making.proofs.Changes.{IsElsewhere}
 
-pub record Twelve : Type 0 where
+pub record TableRows : Type 0 where
   pub book : List Row
   pub old_heads : List Row
   pub old_seats : List Row
@@ -19,9 +19,10 @@ pub record Twelve : Type 0 where
   pub heads : List Row
   pub seats : List Row
   pub entries : List Row
+  pub acts : List Row
 
-abbrev pub twelve : Trees → Twelve
-twelve db = record {
+abbrev pub table_rows : Trees → TableRows
+table_rows db = record {
   book = db 0;
   old_heads = db 1;
   old_seats = db 2;
@@ -34,10 +35,11 @@ twelve db = record {
   heads = db 13;
   seats = db 14;
   entries = db 16;
+  acts = db 18;
 }
 
 pub others_kept : (tree : ℕ) (old new : Database) → IsElsewhere tree old new
-    → twelve new.trees ≡ twelve (with_rows old.trees tree (new.trees tree))
+    → table_rows new.trees ≡ table_rows (with_rows old.trees tree (new.trees tree))
 others_kept tree old new it =
     let at = λ (t : ℕ). one_kept t tree old.trees new.trees in
     let o = it.others in λ i. record {
@@ -53,4 +55,5 @@ others_kept tree old new it =
       heads = at 13 o.1.1.1.1.1.1.1.1.1.0 i;
       seats = at 14 o.1.1.1.1.1.1.1.1.1.1.0 i;
       entries = at 16 o.1.1.1.1.1.1.1.1.1.1.1.0 i;
+      acts = at 18 o.1.1.1.1.1.1.1.1.1.1.1.1.0 i;
     }

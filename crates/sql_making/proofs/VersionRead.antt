@@ -1,5 +1,7 @@
--- What the text that reads the versions answers under the schema of a book of either version, and why it fails.
+-- What the text that reads the versions answers under the schema of a book of either version, with the trail or without
+-- it, and why it fails.
 use Rattle.sql_making.proofs.Names.{◌≡◌, ◌⊎◌, inl, inr, ℕ, ◌<◌, ◌≤◌, ℤ, true, false, List, [], ◌∷◌, length, get_or, None, Option, Result, Ok, Err, IsSome, map, codes, refl, sym, ap, subst, ◌∙◌, arith, IsPermutation, flat_map_single, IsPermutation-map, IsPermutation-sym, Value, Null, Int, Row, column, Trees, col, Query, Output, output, IsAnswer, overlay, Schema, Command, Select, map-map, everything, Error, timed, Database, RefusesToRead, understood, reads_listing, IsSourceOf, State, Shown, Fails, FailsToQuery, FailsToShow, IsNotRun, IsNoStatement, IsPlain, command_of, reads_as, one_permutation, Layout, Made, Moved, old_schema, book_schema, IsSelect, HasFailed, version_text, versions_in, HasVersions, numbered_versions, ints, nat_tests}
+use Rattle.sql_schema.specs.Bare.{bare_schema}
 use Rattle.sqlite_value.specs.declared.keys.Collation.TheVariants.{Binary}
 use Rattle.sqlite_value.specs.declared.keys.Key.{Key}
 use Rattle.sqlite_sql.specs.Term.{Term, eval_all}
@@ -40,9 +42,15 @@ unfolding understood everything
 asks_now Made = record { is = refl; plain = (refl, refl); unlisted = refl; alone = (refl, refl, refl, refl); accepted = refl }
 asks_now Moved = record { is = refl; plain = (refl, refl); unlisted = refl; alone = (refl, refl, refl, refl); accepted = refl }
 
+asks_bare : (l : Layout) → Asks (bare_schema l)
+unfolding understood everything
+asks_bare Made = record { is = refl; plain = (refl, refl); unlisted = refl; alone = (refl, refl, refl, refl); accepted = refl }
+asks_bare Moved = record { is = refl; plain = (refl, refl); unlisted = refl; alone = (refl, refl, refl, refl); accepted = refl }
+
 asks : (s : Schema) → HasVersions s → Asks s
 asks s (inl then) = subst Asks (sym then) asks_then
-asks s (inr (l, now)) = subst Asks (sym now) (asks_now l)
+asks s (inr (inl (l, now))) = subst Asks (sym now) (asks_now l)
+asks s (inr (inr (l, now))) = subst Asks (sym now) (asks_bare l)
 
 pub version_selects : IsSelect version_text
 unfolding everything

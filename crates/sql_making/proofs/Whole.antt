@@ -1,8 +1,8 @@
 -- What the whole text makes of an empty database.
-use Rattle.sql_making.proofs.Names.{◌≡◌, inl, inr, ℕ, zero, suc, List, [], ◌∷◌, length, Some, Ok, sym, subst, arith, Ghosts, Schema, Step, RunInTurn, ExecutesAllInside, Held, state, Made, book_schema, schema_text, version_part, after_balance, no_schema, IsBlank, IsNewBook}
+use Rattle.sql_making.proofs.Names.{◌≡◌, inl, inr, ℕ, zero, suc, List, [], ◌∷◌, length, Some, Ok, sym, subst, arith, Ghosts, Schema, Step, RunInTurn, ExecutesAllInside, Held, state, Made, book_schema, schema_text, version_part, after_act, no_schema, IsBlank, IsNewBook}
 use Rattle.sql_making.proofs.Creates.{Creates, creates}
-use Rattle.sql_making.proofs.Stages.{book_creates, matter_creates, seat_creates, entry_creates, journal_creates, firm_line_creates, exception_creates, balance_creates}
-use Rattle.sql_making.proofs.Parts.{IsFirst, book_first, matter_first, seat_first, entry_first, journal_first, firm_line_first, exception_first, balance_first, version_first}
+use Rattle.sql_making.proofs.Stages.{book_creates, matter_creates, seat_creates, entry_creates, journal_creates, firm_line_creates, exception_creates, balance_creates, act_creates}
+use Rattle.sql_making.proofs.Parts.{IsFirst, book_first, matter_first, seat_first, entry_first, journal_first, firm_line_first, exception_first, balance_first, act_first, version_first}
 use Rattle.sql_making.proofs.VersionRow.{adds_version}
 
 module _ {S : Type 0} (g : Ghosts S) (new : Held S) where
@@ -30,9 +30,9 @@ module _ {S : Type 0} (g : Ghosts S) (new : Held S) where
       let done = creates schema part after it (state g l.at) (state g ran.0) ran.1 l.has l.blank ran.2.runs in
       record { at = ran.0; has = done.0; blank = done.1; turns = ran.3 }
 
-  ends : Left after_balance (book_schema Made) → IsNewBook (state g new).now
+  ends : Left after_act (book_schema Made) → IsNewBook (state g new).now
   ends l =
-      let ran = turn after_balance version_part [] l.at version_first l.turns in
+      let ran = turn after_act version_part [] l.at version_first l.turns in
       let made = adds_version (state g l.at) (state g ran.0) ran.1 l.has l.blank ran.2.runs in
       subst (λ (h : Held S). IsNewBook (state g h).now) (sym ran.3.1.1) made
 
@@ -40,4 +40,4 @@ module _ {S : Type 0} (g : Ghosts S) (new : Held S) where
   unfolding ExecutesAllInside
   makes_book old none h =
       let all : Left schema_text no_schema = record { at = old; has = none; blank = subst (λ s. IsBlank (record { schema = s; trees = (state g old).now.trees })) (sym none) tt; turns = (length schema_text, h) } in
-      ends (on balance_creates balance_first (on exception_creates exception_first (on firm_line_creates firm_line_first (on journal_creates journal_first (on entry_creates entry_first (on seat_creates seat_first (on matter_creates matter_first (on book_creates book_first all))))))))
+      ends (on act_creates act_first (on balance_creates balance_first (on exception_creates exception_first (on firm_line_creates firm_line_first (on journal_creates journal_first (on entry_creates entry_first (on seat_creates seat_first (on matter_creates matter_first (on book_creates book_first all)))))))))

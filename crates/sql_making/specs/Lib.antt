@@ -2,3 +2,4 @@ pub mod Books
 pub mod Scripts
 pub mod Text
 pub mod Then
+pub mod Bare

@@ -1,7 +1,7 @@
 -- The SQL script that moves the rows of version 1 into the tables of this version, and its statements.
 -- Written by tools/moving-tables.
 use Rattle.std.specs.Prelude.{ℕ, List, ◌++◌, codes}
-use Rattle.sql_schema.specs.Schema.{matter_text, seat_text, entry_text}
+use Rattle.sql_schema.specs.Schema.{matter_text, seat_text, entry_text, act_text}
 
 -- each SQL statement with its semicolon
 abbrev pub heads_made_part : List ℕ
@@ -12,6 +12,9 @@ seats_made_part = codes " " ++ seat_text ++ codes ";"
 
 abbrev pub entries_made_part : List ℕ
 entries_made_part = codes " " ++ entry_text ++ codes ";"
+
+abbrev pub acts_made_part : List ℕ
+acts_made_part = codes " " ++ act_text ++ codes ";"
 
 abbrev pub heads_copied_part : List ℕ
 heads_copied_part =
@@ -62,8 +65,11 @@ after_seats_copied = entries_copied_part ++ after_entries_copied
 abbrev pub after_heads_copied : List ℕ
 after_heads_copied = seats_copied_part ++ after_seats_copied
 
+abbrev pub after_acts_made : List ℕ
+after_acts_made = heads_copied_part ++ after_heads_copied
+
 abbrev pub after_entries_made : List ℕ
-after_entries_made = heads_copied_part ++ after_heads_copied
+after_entries_made = acts_made_part ++ after_acts_made
 
 abbrev pub after_seats_made : List ℕ
 after_seats_made = entries_made_part ++ after_entries_made

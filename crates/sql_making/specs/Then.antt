@@ -19,6 +19,7 @@ use Rattle.sql_tables.specs.Lists.{Lists, lists_in}
 use Rattle.sql_tables.specs.Reading.{IsKept}
 use Rattle.sql_tables.specs.Script.{IsSettled}
 use Rattle.sql_making.specs.Books.{IsBook, HasFailed}
+use Rattle.sql_schema.specs.Bare.{bare_schema}
 use Rattle.sql_schema.specs.Old.{old_schema, version_then}
 
 -- a row of a version 1 head, which lacks the `purged` column
@@ -59,7 +60,7 @@ pub record Stood (db : Database) : Type 0 where
   pub exceptions : ExceptionsHold (db.trees (exception_tree Moved))
   pub balances : BalancesHold (db.trees (balance_tree Moved))
 
--- what the tables of version 1 stand for
+-- what the tables of version 1 stand for: no act is known
 abbrev pub lists_then : Trees → Lists
 lists_then db = record {
   heads = map old_head_in (db old_matter_table.tree);
@@ -69,15 +70,16 @@ lists_then db = record {
   firm_lines = firm_lines_in Moved db;
   exceptions = exceptions_in Moved db;
   balances = balances_in Moved db;
+  acts = [];
 }
 
 -- the number and the version of each row of the first table
 abbrev pub numbered_versions : Trees → List Row
 numbered_versions db = map (λ (r : Row). column r 0 ∷ column r 1 ∷ []) (db (book_tree Moved))
 
--- the schema of a book of either version, whose first table has its versions
+-- the schema of a book of either version, with the trail or without it, whose first table has its versions
 abbrev pub HasVersions : Schema → Type 0
-HasVersions s = (s ≡ old_schema) ⊎ ((l : Layout) × (s ≡ book_schema l))
+HasVersions s = (s ≡ old_schema) ⊎ (((l : Layout) × (s ≡ book_schema l)) ⊎ ((l : Layout) × (s ≡ bare_schema l)))
 
 -- a look at the versions leaves all as it was, and fails for want of memory or since the store failed
 pub record IsLook {T : Type 0} (result : Result T Error) (old new : State) : Type 0 where
@@ -98,7 +100,8 @@ pub record KeepsTables (db next : Trees) : Type 0 where
   pub balances : next (balance_tree Moved) ≡ db (balance_tree Moved)
   pub counts : next (sequence_tree Moved) ≡ db (sequence_tree Moved)
 
--- if the old tables stood for records, the new ones stand for the same, row by row, and the old three are empty
+-- if the old tables stood for records, the new ones stand for the same, row by row, and for no act; the old three are
+-- empty
 pub record SameRows (db next : Database) : Type 0 where
   pub stands : Stands Moved next
   pub lists : lists_in Moved next.trees ≡ lists_then db.trees

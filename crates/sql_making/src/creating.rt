@@ -23,4 +23,7 @@ pub(crate) const CREATING: &str = "\
     exception (day INTEGER NOT NULL, reference TEXT NOT NULL, bank_ref TEXT NOT NULL, amount INTEGER \
     NOT NULL, text TEXT NOT NULL, PRIMARY KEY (day, reference, bank_ref, amount, text)) STRICT; \
     CREATE TABLE balance (kind INTEGER NOT NULL, day INTEGER NOT NULL, amount INTEGER NOT NULL, \
-    PRIMARY KEY (kind, day)) STRICT; INSERT INTO book (version) VALUES (2)";
+    PRIMARY KEY (kind, day)) STRICT; CREATE TABLE trail (seq INTEGER NOT NULL PRIMARY KEY \
+    AUTOINCREMENT, matter INTEGER NOT NULL, entry INTEGER NOT NULL, day INTEGER NOT NULL, deed \
+    INTEGER NOT NULL, caller TEXT NOT NULL, text TEXT NOT NULL, number INTEGER NOT NULL) STRICT; \
+    INSERT INTO book (version) VALUES (2)";

@@ -9,6 +9,7 @@ ghost use Rattle.sql_tables.specs.Script.{IsSettled};
 
 use crate::copying::COPYING;
 use crate::creating::CREATING;
+use crate::extending::EXTENDING;
 use sqlite::{Alter, Connection, Error, Transaction};
 
 /// What makes the tables of this version.
@@ -18,6 +19,8 @@ pub enum Script {
     Create,
     /// From the tables of version 1, whose rows it moves.
     Move,
+    /// From the tables of this version without the trail, which it adds.
+    Extend,
 }
 
 fn execute<S: Alter>(tx: &mut Transaction<'_, S>, script: Script) -> Result<(), Error>
@@ -34,6 +37,7 @@ fn execute<S: Alter>(tx: &mut Transaction<'_, S>, script: Script) -> Result<(), 
     match script {
         Script::Create => tx.execute_batch(CREATING),
         Script::Move => tx.execute_batch(COPYING),
+        Script::Extend => tx.execute_batch(EXTENDING),
     }
 }
 

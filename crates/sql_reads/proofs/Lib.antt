@@ -6,6 +6,7 @@ pub mod Gathered
 pub mod HeadsRead
 pub mod NamedEntries
 pub mod Parts
+pub mod ActsRead
 pub mod AllMatters
 pub mod Answer
 pub mod Fed

@@ -1,3 +1,4 @@
 pub mod Parts
+pub mod Causes
 pub mod Fed
 pub mod Shown

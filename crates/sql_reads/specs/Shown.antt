@@ -6,6 +6,7 @@ use Rattle.trust_base.specs.declared.line.Line.{Line}
 use Rattle.matter_rows.specs.declared.head.Head.{Head}
 use Rattle.matter_rows.specs.declared.seat.Seat.{Seat}
 use Rattle.matter_parts.specs.declared.kept.Kept.{Kept}
+use Rattle.firm_rows.specs.declared.matter_act.MatterAct.{MatterAct}
 use Rattle.firm_rows.specs.declared.movement.Movement.{Movement}
 use Rattle.firm_rows.specs.declared.ledger.FirmLine.{FirmLine}
 use Rattle.firm_rows.specs.declared.ledger.BalanceRow.{BalanceRow}
@@ -14,7 +15,7 @@ use Rattle.trust_store.specs.Kept.{kept_pairs}
 use Rattle.sql_tables.specs.Lists.{Lists}
 use Rattle.sql_tables.specs.Rows as table
 use Rattle.sql_rows.specs.Meaning.{head_from, kept_from, seat_from}
-use Rattle.sql_rows.specs.Meaning.{movement_from, firm_line_from, exception_from, balance_from}
+use Rattle.sql_rows.specs.Meaning.{movement_from, firm_line_from, exception_from, balance_from, act_from}
 
 -- the seat that a row of a matter shows
 abbrev pub seat_at : ℕ → Row → Seat
@@ -62,3 +63,7 @@ exception_at r = exception_from (table.exception_in (Int (pos 0) ∷ r))
 -- the balance that a row shows
 abbrev pub balance_at : Row → BalanceRow
 balance_at r = balance_from (table.balance_in (Int (pos 0) ∷ r))
+
+-- the act that a row of the trail shows
+abbrev pub act_at : Row → MatterAct
+act_at r = act_from (table.act_in (Int (pos 0) ∷ Null ∷ r))

@@ -6,11 +6,11 @@ ghost use Rattle.sqlite_value.specs.declared.value.Value.TheVariants.{Int, Null,
 ghost use Rattle.sqlite_value.specs.Order.{column};
 ghost use Rattle.sql_tables.specs.Rows as table;
 ghost use Rattle.sql_tables.specs.Given.{head_given, seat_given, entry_given, movement_given, firm_line_given};
-ghost use Rattle.sql_tables.specs.Given.{exception_given, balance_given};
+ghost use Rattle.sql_tables.specs.Given.{exception_given, balance_given, act_given};
 
 use sql_tables::{
-    BalanceColumns, EntryColumns, ExceptionColumns, FirmLineColumns, HeadColumns, MovementColumns,
-    SeatColumns, TotalsColumns,
+    ActColumns, BalanceColumns, EntryColumns, ExceptionColumns, FirmLineColumns, HeadColumns,
+    MovementColumns, SeatColumns, TotalsColumns,
 };
 use sqlite::Row;
 use sqlite_value::value::ValueRef;
@@ -161,6 +161,21 @@ pub(crate) fn movement_in(row: &Row) -> Result<MovementColumns, StoreFault>
         entry: number_at(row, 1)?,
         day: number_at(row, 2)?,
         amount: number_at(row, 3)?,
+    })
+}
+
+/// Reads the columns of an act, borrowing its texts from the row.
+pub(crate) fn act_in(row: &Row) -> Result<ActColumns<'_>, StoreFault>
+    ensures { IfOk result (λ c. act_given c ≡ table.act_in (Int (pos 0) ∷ Null ∷ row.now)) }
+{
+    Ok(ActColumns {
+        matter: number_at(row, 0)?,
+        entry: number_at(row, 1)?,
+        day: number_at(row, 2)?,
+        deed: number_at(row, 3)?,
+        caller: text_at(row, 4)?,
+        text: text_at(row, 5)?,
+        number: number_at(row, 6)?,
     })
 }
 

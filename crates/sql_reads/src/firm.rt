@@ -14,11 +14,12 @@ ghost use Rattle.sql_rows.specs.Standing.{firm_in};
 ghost use Rattle.sql_reads.specs.Parts.{without_matters};
 
 use crate::lists::{
-    StoredBalances, StoredExceptions, StoredFirmLines, StoredMovements, each_listed,
+    StoredActs, StoredBalances, StoredExceptions, StoredFirmLines, StoredMovements, each_listed,
 };
 use crate::matter::{opened_matters, whole_matter};
 use firm_rows::{
-    BalanceRow, BalanceSink, ExceptionSink, FirmLine, FirmLineSink, Movement, MovementSink, Owner,
+    ActSink, BalanceRow, BalanceSink, ExceptionSink, FirmLine, FirmLineSink, MatterAct, Movement,
+    MovementSink, Owner,
 };
 use sqlite::{Alter, Connection};
 use std::alloc::{AllocError, Global};
@@ -52,7 +53,7 @@ fn all_matters<S: Alter>(
     Ok(matters)
 }
 
-// Keeps the movements, the lines of the firm's own, the exceptions and the balances that are passed to it.
+// Keeps the movements, the lines of the firm's own, the exceptions, the balances and the acts that are passed to it.
 //
 // Contracts see it as the firm that has only these rows.
 #[derive(Drop)]
@@ -61,16 +62,18 @@ struct RowLists {
     firm_lines: Vec<FirmLine>,
     exceptions: Vec<Line>,
     balances: Vec<BalanceRow>,
+    acts: Vec<MatterAct>,
 }
 
 impl Model for RowLists {
     ghost use Rattle.std.specs.Prelude.{[]};
-    ghost use Rattle.firm_rows.specs.Firm.{Firm};
+    ghost use Rattle.firm_rows.specs.Firm.{Firm, with_acts};
     ghost use Rattle.trust_store.specs.Kept.{firm_of};
 
     ghost Value = { Firm };
 
-    ghost view = { λ l. firm_of [] l.movements.items l.firm_lines.items l.exceptions.items l.balances.items };
+    ghost view = { λ l. with_acts l.acts.items
+        (firm_of [] l.movements.items l.firm_lines.items l.exceptions.items l.balances.items) };
 }
 
 impl RowLists {
@@ -83,6 +86,7 @@ impl RowLists {
             firm_lines: Vec::new(alloc),
             exceptions: Vec::new(alloc),
             balances: Vec::new(alloc),
+            acts: Vec::new(alloc),
         }
     }
 }
@@ -124,7 +128,16 @@ impl FirmLineSink for RowLists {
     }
 }
 
-// Reads the rows that belong to no matter.
+impl ActSink for RowLists {
+    ghost remembered = { λ lists act. record lists { acts = lists.acts ++ act ∷ [] } };
+
+    fn act(&mut self, act: &MatterAct) -> Result<(), AllocError> {
+        self.acts.push(act.copied()?)?;
+        Ok(())
+    }
+}
+
+// Reads the lists of the firm: all but the rows of its matters.
 fn all_others<S: Alter>(conn: &mut Connection<S>, alloc: Global) -> Result<RowLists, StoreFault>
     requires { conn.old.in_transaction ≡ false }
     ensures mode { conn.new.in_transaction ≡ false }
@@ -137,13 +150,14 @@ fn all_others<S: Alter>(conn: &mut Connection<S>, alloc: Global) -> Result<RowLi
     each_listed(conn, &StoredFirmLines { alloc }, &mut lists)?;
     each_listed(conn, &StoredExceptions { alloc }, &mut lists)?;
     each_listed(conn, &StoredBalances, &mut lists)?;
+    each_listed(conn, &StoredActs { alloc }, &mut lists)?;
     Ok(lists)
 }
 
-/// Reads all rows of the firm at once: each matter that has a head with all its entries, by number; the movements and
-/// the lines of the firm's own, in order of acceptance; the exceptions and the balances, in their own order. The firm
-/// need not be sound, but each matter must be: returns `Store` for a matter that is not whole and sound, and for a
-/// row that stands for nothing.
+/// Reads all rows of the firm at once: each matter that has a head with all its entries, by number; the movements, the
+/// lines of the firm's own and the acts, in order of acceptance; the exceptions and the balances, in their own order.
+/// The firm need not be sound, but each matter must be: returns `Store` for a matter that is not whole and sound, and
+/// for a row that stands for nothing.
 pub fn all_rows<S: Alter>(conn: &mut Connection<S>, alloc: Global) -> Result<AllRows, StoreFault>
     requires { conn.old.in_transaction ≡ false }
     ensures mode { conn.new.in_transaction ≡ false }
@@ -161,5 +175,6 @@ pub fn all_rows<S: Alter>(conn: &mut Connection<S>, alloc: Global) -> Result<All
         firm_lines: others.firm_lines,
         exceptions: others.exceptions,
         balances: others.balances,
+        acts: others.acts,
     })
 }

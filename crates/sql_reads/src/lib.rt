@@ -1,8 +1,8 @@
 //! Reads a book's tables: single rows and lists of rows, as what they stand for. A row that stands for nothing is
 //! never guessed at: reading it returns `Store`. Out of memory is `Memory`.
 //!
-//! The rows of all matters, the movements, the lines of the firm's own, the exceptions and the balances can be passed
-//! to a sink one at a time (`each_row` and `each_listed`), or all read at once (`all_rows`).
+//! The rows of all matters, the movements, the lines of the firm's own, the exceptions, the balances and the acts can
+//! be passed to a sink one at a time (`each_row` and `each_listed`), or all read at once (`all_rows`).
 //!
 //! # What is promised
 //!
@@ -21,6 +21,8 @@
 //!   as the firm has them, and no others (`found`).
 //! - within the crate `head_and_seats`, `entries_of`; `laws` `parts_are_whole`: a matter's head, totals and seats, and
 //!   all its entries: each a field of one part, which is whole (`head`, `seats`, `found`).
+//! - within the crate `rows_of`: a query ends with a fault only if the connection ended it with an error, and with
+//!   Memory exactly if that one is of memory (`cause`).
 //! - `opened_matters`: the numbers of all matters that were opened, in ascending order; of tables that stand for
 //!   records, sound or not, those of the firm that the tables hold (`found`), and of their heads (`read`).
 //! - `firm_ledger`, `balance_at`: the firm's own lines; the balance of a kind and day (`found`).
@@ -32,10 +34,10 @@
 //!   column by column (`cases/spoiled-books.txt`), and also what is not noticed: a call that reads less than a whole
 //!   matter looks at no other rows. So totals that are off by a cent are returned as they are if they are asked for
 //!   without the ledger card, and an entry missing in the middle is left out of the trial balance.
-//! - `each_row`, and `each_listed` of `StoredMovements`, `StoredFirmLines`, `StoredExceptions` and `StoredBalances`
-//!   (each says what its `hands` is): a sink takes each row of the firm's list in its order, fewer than 2^64, one at a
-//!   time while the connection lends them, so that memory does not grow with them; at an error it has taken a prefix of
-//!   them (`handed`); nothing changes (`left`).
+//! - `each_row`, and `each_listed` of `StoredMovements`, `StoredFirmLines`, `StoredExceptions`, `StoredBalances` and
+//!   `StoredActs` (each says what its `hands` is): a sink takes each row of the firm's list in its order, fewer than
+//!   2^64, one at a time while the connection lends them, so that memory does not grow with them; at an error it has
+//!   taken a prefix of them (`handed`); nothing changes (`left`).
 #![tactic(auto)]
 
 mod columns;
@@ -47,8 +49,8 @@ mod query;
 
 pub use firm::all_rows;
 pub use lists::{
-    Listing, StoredBalances, StoredExceptions, StoredFirmLines, StoredMovements, balance_at,
-    each_listed, firm_ledger,
+    Listing, StoredActs, StoredBalances, StoredExceptions, StoredFirmLines, StoredMovements,
+    balance_at, each_listed, firm_ledger,
 };
 pub use matter::{each_row, matter_for, opened_matters, whole_matter};
 pub use query::fault_of;

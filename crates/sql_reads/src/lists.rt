@@ -1,6 +1,6 @@
-// The rows that belong to no matter: the movements of the journal, the lines of the firm's own ledger, the bank lines
-// that matched nothing, and the balances that the bank reported. Each is passed to a sink one row at a time; the ledger
-// is also read at once, and a single balance by its kind and day.
+// The lists of the firm: the movements of the journal, the lines of the firm's own ledger, the bank lines that matched
+// nothing, the balances that the bank reported, and the acts. Each is passed to a sink one row at a time; the ledger is
+// also read at once, and a single balance by its kind and day.
 
 ghost use Rattle.std.specs.Prelude.{◌≡◌, ◌≢◌, ℤ, false, List, [], ◌∷◌, ◌++◌, map, IfOk, IfErr, OnOk};
 ghost use Rattle.sqlite_value.specs.declared.value.Value.TheVariants.{Int};
@@ -17,13 +17,13 @@ ghost use Rattle.sql_rows.specs.Meaning.{firm_line_from};
 ghost use Rattle.sql_rows.specs.Standing.{StandsSound, firm_in};
 ghost use Rattle.sql_reads.specs.Fed.{IsListOf};
 
-use crate::columns::{balance_in, exception_in, firm_line_in, movement_in, number_at};
+use crate::columns::{act_in, balance_in, exception_in, firm_line_in, movement_in, number_at};
 use crate::query::{RowTaking, hand_rows, rows_of};
 use firm_rows::{
-    BalanceKind, BalanceSink, ExceptionSink, FirmLedger, FirmLine, FirmLineSink, MAX_OWN,
+    ActSink, BalanceKind, BalanceSink, ExceptionSink, FirmLedger, FirmLine, FirmLineSink, MAX_OWN,
     MovementSink,
 };
-use sql_rows::{balance_of, exception_of, firm_line_of, kind_column, movement_of};
+use sql_rows::{act_of, balance_of, exception_of, firm_line_of, kind_column, movement_of};
 use sqlite::{Alter, Connection, Row};
 use sqlite_value::value::ValueRef;
 use std::alloc::Global;
@@ -169,6 +169,38 @@ impl<K: BalanceSink> Listing<K> for StoredBalances {
 
     fn select<S: Alter>(&self) -> &'static str {
         "SELECT kind, day, amount FROM balance ORDER BY kind, day, rowid"
+    }
+}
+
+/// The acts, in order of acceptance.
+#[derive(Drop)]
+pub struct StoredActs {
+    pub alloc: Global,
+}
+
+impl<K: ActSink> RowTaking<K> for StoredActs {
+    ghost use Rattle.firm_rows.specs.Countable.{IsActInRange};
+    ghost use Rattle.sql_reads.specs.Shown.{act_at};
+
+    ghost taken = { λ _ sink row. K.remembered sink (act_at row) };
+
+    ghost fits = { λ _ row. IsActInRange (act_at row) };
+
+    fn take(&self, row: &Row, sink: &mut K) -> Result<(), StoreFault> {
+        let act = act_of(self.alloc, act_in(row)?)?;
+        sink.act(&act)?;
+        Ok(())
+    }
+}
+
+impl<K: ActSink> Listing<K> for StoredActs {
+    ghost use Rattle.firm_rows.specs.Countable.{IsActInRange};
+    ghost use Rattle.firm_rows.specs.Handing.{AreHanded};
+
+    ghost hands = { λ firm result old new. AreHanded K.remembered IsActInRange firm.acts result old new };
+
+    fn select<S: Alter>(&self) -> &'static str {
+        "SELECT matter, entry, day, deed, caller, text, number FROM trail ORDER BY seq"
     }
 }
 

@@ -1,11 +1,12 @@
 // Runs the queries: their rows all at once, or passed to a sink one after the other. And why one failed.
 
-ghost use Rattle.std.specs.Prelude.{◌≡◌, ◌↔◌, false, IfOk, OnOk, OnErr};
+ghost use Rattle.std.specs.Prelude.{◌≡◌, ◌↔◌, false, IfOk, IfErr, OnOk, OnErr};
 ghost use Rattle.sqlite.specs.declared.error.ErrorCode.TheVariants.{OutOfMemory};
 ghost use Rattle.sqlite.specs.Held.{state};
 ghost use Rattle.sqlite.specs.State.{HasCleanDisk, Shown};
 ghost use Rattle.sqlite.specs.Values.{bound};
 ghost use Rattle.sql_tables.specs.Reading.{IsSelect, LeavesAll};
+ghost use Rattle.sql_reads.specs.Causes.{IsCaused};
 ghost use Rattle.sql_reads.specs.Fed.{IsFed};
 
 use sqlite::{Alter, Connection, Error, ErrorCode, Row};
@@ -36,6 +37,8 @@ pub(crate) fn rows_of<S: Alter>(
     ensures shown { HasCleanDisk (state S.Store conn.new)
         → IfOk result (λ rows. Shown sql.now (bound params.now) (state S.Store conn.old) (state S.Store conn.new)
         rows.items) }
+    ensures cause { HasCleanDisk (state S.Store conn.new)
+        → IfErr result (IsCaused sql.now (bound params.now) (state S.Store conn.old) (state S.Store conn.new)) }
     ensures left { LeavesAll result (state S.Store conn.old) (state S.Store conn.new) }
 {
     // For the proof.

@@ -1,5 +1,5 @@
--- What a change of one matter makes of the firm for which the tables stand.
-use Rattle.sql_rows.proofs.Names.{◌≡◌, ℕ, ℤ, pos, List, [], ◌++◌, map, find, Option, Some, None, refl, ap, AllByRecursion, IsKeyedBy, all_weaker, Head, Entry, Rows, unopened, Sound, Figures, Kept, Part, IsWhole, AreKept, AreNumbered, entries_kept, no_figures, MatterChange, IsChange, changed, edited, head_after, seats_after, of, after_change, kept_movements, joined_movement, unopened-sound, rows_in, IsKeptAs, AreKeptWhole, put_head, is_head, seats_of, entries_of, Lists, head_columns, AreMeant, HasHeadAt, IsWrittenMovement, firm_from, matters_from, part_from, head_from, figures_from, seat_from, kept_from, movement_from, head_at, ◌∷◌, cond_both, nat_lt, ◌==◌, IsKeptWhole, KeptMatter, sort_by, rows_kept, arith, ints, nat_tests}
+-- What a change of one matter's rows makes of the firm for which the tables stand.
+use Rattle.sql_rows.proofs.Names.{◌≡◌, ℕ, ℤ, pos, List, [], ◌++◌, map, find, Option, Some, None, refl, sym, ap, subst, AllByRecursion, IsKeyedBy, all_weaker, Head, Entry, Rows, unopened, Sound, Figures, Kept, Part, IsWhole, AreKept, AreNumbered, entries_kept, no_figures, MatterChange, IsChange, changed, edited, head_after, seats_after, of, after_change, kept_movements, joined_movement, joined_acts, unopened-sound, rows_in, IsKeptAs, AreKeptWhole, put_head, is_head, seats_of, entries_of, Lists, head_columns, AreMeant, HasHeadAt, IsWrittenMovement, IsWrittenAct, act_from, firm_from, matters_from, part_from, head_from, figures_from, seat_from, kept_from, movement_from, head_at, ◌∷◌, cond_both, nat_lt, ◌==◌, IsKeptWhole, KeptMatter, sort_by, rows_kept, arith, ints, nat_tests}
 use Rattle.matter_parts.specs.declared.edit.Edit.TheVariants as edit
 use Rattle.trust_store.proofs.KeptMatters.{change_in, kept-whole, written_firm}
 use Rattle.sql_tables.specs.Rows as table
@@ -54,7 +54,7 @@ sound_in m (k ∷ ks) all = cond_both (nat_lt k.number m) (rows_in m ks) _ Sound
 pub change_at : (a : Lists) (m : ℕ) (c : MatterChange) → AreMeant a → IsChange (of m (firm_from a)) c
     → IsChange (rows_in m (matters_from a)) c
 change_at a m c meant may =
-    change_in m (matters_from a) _ _ _ _ (firm_from a) c meant.matters.ascends refl may
+    change_in m (matters_from a) _ _ _ _ _ (firm_from a) c meant.matters.ascends refl may
 
 -- The matter after a change of its head and seats.
 
@@ -99,11 +99,14 @@ with_matter a new seats entries movements = record a {
 
 -- The firm after the steps.
 
--- what the steps of a change of a matter make: the rows stand for the firm after it, and the exceptions stay
-pub record IsMatterMade (m : ℕ) (c : MatterChange) (a b : Lists) : Type 0 where
-  pub firm : firm_from b ≡ after_change m c (firm_from a)
-  pub meant : AreMeant b
+-- what the steps of a change of a matter make of its rows: with the acts after the change they stand for the firm after
+-- it, and the exceptions and the acts stay
+pub record AreRowsMade (m : ℕ) (c : MatterChange) (a b : Lists) : Type 0 where
+  pub firm : (acts : List table.Act) → map act_from acts ≡ joined_acts m c.edit c.act (map act_from a.acts)
+      → firm_from (record b { acts = acts }) ≡ after_change m c (firm_from a)
+  pub meant : (acts : List table.Act) → AllByRecursion IsWrittenAct acts → AreMeant (record b { acts = acts })
   pub exceptions : b.exceptions ≡ a.exceptions
+  pub acts : b.acts ≡ a.acts
 
 -- the head and the rows behind it are put in
 module _ (m : ℕ) (c : MatterChange) (a : Lists) (h : Head) (seats : List table.Seat) (entries : List table.Entry)
@@ -114,13 +117,15 @@ module _ (m : ℕ) (c : MatterChange) (a : Lists) (h : Head) (seats : List table
   abbrev end : Lists
   end = with_matter a new seats entries movements
 
-  -- the firm is that after the change, and its matters are whole
+  -- the firm is that after the change, with the acts after it, and its matters are whole
   matter_becomes : IsKeyedBy key a.heads → AreMeant a → IsChange (of m (firm_from a)) c
       → (c.edit ≡ edit.Nothing → ⊥) → ArePlaced m a seats entries movements
       → IsWhole (part_from end new) (changed c (rows_in m (matters_from a)))
       → map movement_from movements
       ≡ kept_movements m c.edit (map movement_from a.movements ++ joined_movement m c.movement)
-      → (firm_from end ≡ after_change m c (firm_from a)) × AreKeptWhole (matters_from end)
+      → ((acts : List table.Act) → map act_from acts ≡ joined_acts m c.edit c.act (map act_from a.acts)
+      → firm_from (record end { acts = acts }) ≡ after_change m c (firm_from a))
+      × AreKeptWhole (matters_from end)
   matter_becomes up meant may some placed whole moved =
       let ks = matters_from a in
       let here : IsChange (rows_in m ks) c = change_at a m c meant may in
@@ -134,22 +139,26 @@ module _ (m : ℕ) (c : MatterChange) (a : Lists) (h : Head) (seats : List table
           kept = map kept_from (placed.entries_placed.others x.no other i);
         });
       } in (
-        written_firm m c ks (matters_from end) _ _ _ _ _ meant.matters.ascends here kept moved (firm_from a) some refl,
+        (λ acts acted.
+            written_firm m c ks (matters_from end) _ _ _ _ _ _ _ meant.matters.ascends here kept moved acted
+            (firm_from a) some refl),
         kept-whole m (changed c (rows_in m ks)) ks (matters_from end) here.sound kept meant.matters,
       )
 
-  -- tables with these rows stand for the firm after the change, where the matter's rows are those after it
+  -- tables with these rows and the acts after the change stand for the firm after it, where the matter's rows are those
+  -- after it
   pub matter_done : (b : Lists) → b ≡ end → IsKeyedBy key a.heads → AreMeant a → IsChange (of m (firm_from a)) c
       → (c.edit ≡ edit.Nothing → ⊥) → HasDays h → ArePlaced m a seats entries movements
       → IsWhole (part_from end new) (changed c (rows_in m (matters_from a)))
       → map movement_from movements
       ≡ kept_movements m c.edit (map movement_from a.movements ++ joined_movement m c.movement)
-      → IsMatterMade m c a b
+      → AreRowsMade m c a b
   matter_done b same up meant may some days placed whole moved =
       let done = matter_becomes up meant may some placed whole moved in
       let here : HasHeadAt end.heads (pos m) = has_put_head new a.heads in
       let still : (k : ℤ) → HasHeadAt a.heads k → HasHeadAt end.heads k = still_has_head new a.heads in
-      let rows : AreMeant end = record {
+      let rows : (acts : List table.Act) → AllByRecursion IsWrittenAct acts → AreMeant (record end { acts = acts }) =
+      λ acts acted. record {
         written = record {
           heads = written_put_head m h c.moves.figures a.heads days meant.written.heads;
           seats = placed.seats_placed.written;
@@ -158,6 +167,7 @@ module _ (m : ℕ) (c : MatterChange) (a : Lists) (h : Head) (seats : List table
           firm_lines = meant.written.firm_lines;
           exceptions = meant.written.exceptions;
           balances = meant.written.balances;
+          acts = acted;
         };
         matters = done.1;
         seated = placed.seats_placed.headed end.heads here
@@ -167,4 +177,4 @@ module _ (m : ℕ) (c : MatterChange) (a : Lists) (h : Head) (seats : List table
             (all_weaker (λ (e : table.Entry). HasHeadAt a.heads e.matter)
             (λ (e : table.Entry). HasHeadAt end.heads e.matter) (λ e has. still e.matter has) a.entries meant.entered);
       } in
-      grind (arith, ints, nat_tests, firm_from)
+      subst (AreRowsMade m c a) (sym same) (record { firm = done.0; meant = rows; exceptions = refl; acts = refl })

@@ -1,5 +1,5 @@
 -- The head of a matter after a change of it, which the steps of the change put in first.
-use Rattle.sql_rows.proofs.Names.{◌≡◌, ℕ, pos, find, Option, Some, None, option_map, refl, sym, ap, subst, ◌∙◌, AllByRecursion, IsSome, false≢true, IsKeyedBy, Head, Purged, Rows, closed_on, Edit, MatterChange, IsChange, IsPlace, head_after, rows_in, Lists, HasHead, head_columns, totals_columns, AreMeant, IsWrittenHead, head_from, matters_from, IsTypedEdit, AreMade, head_at, head_steps, totals_steps, edit_steps, matter_steps, changed_by, Sound, arith, ints, nat_tests}
+use Rattle.sql_rows.proofs.Names.{◌≡◌, ℕ, pos, find, Option, Some, None, option_map, refl, sym, ap, subst, ◌∙◌, AllByRecursion, IsSome, false≢true, IsKeyedBy, Head, Purged, Rows, closed_on, Edit, MatterChange, IsChange, IsPlace, head_after, rows_in, Lists, HasHead, head_columns, totals_columns, AreMeant, IsWrittenHead, head_from, matters_from, IsTypedEdit, AreMade, head_at, head_steps, totals_steps, edit_steps, row_steps, changed_by, Sound, arith, ints, nat_tests}
 use Rattle.matter_parts.specs.declared.edit.Edit.TheVariants as edit
 use Rattle.sql_tables.specs.declared.columns.TotalsColumns.{TotalsColumns}
 use Rattle.sql_tables.specs.Rows as table
@@ -94,7 +94,7 @@ pub record HeadFirst (m : ℕ) (c : MatterChange) (a b : Lists) : Type 0 where
 -- the steps of a change that is something put it in first
 pub head_first : (m : ℕ) (c : MatterChange) (a b : Lists) → IsKeyedBy key a.heads → AreMeant a
     → IsChange (rows_in m (matters_from a)) c → (c.edit ≡ edit.Nothing → ⊥) → IsTypedEdit c.edit
-    → AreMade (matter_steps m c c.edit) a b → HeadFirst m c a b
+    → AreMade (row_steps m c c.edit) a b → HeadFirst m c a b
 head_first m c a b up meant here some typed made =
     let parts = made-append (head_steps m c c.edit) (edit_steps m c c.edit) a b made in
     let put = head_put m c a parts.0 up meant.written.heads (rows_in m (matters_from a)) c.edit

@@ -1,3 +1,4 @@
+pub mod Acts
 pub mod Back
 pub mod Balances
 pub mod Becomes

@@ -1,15 +1,44 @@
--- What the steps of each change of a matter make: the rows stand for the firm after it.
-use Rattle.sql_rows.proofs.Names.{◌≡◌, ◌⊎◌, inl, inr, ℕ, ◌≤◌, refl, sym, subst, Edit, Numbered, MatterChange, IsChange, of, after_change, after_edit, Lists, AreKeyed, AreMeant, firm_from, IsTypedEdit, AreMade, matter_steps, arith, ints, nat_tests}
+-- What the steps of each change of a matter make: the rows and the acts stand for the firm after it.
+use Rattle.sql_rows.proofs.Names.{◌≡◌, ◌⊎◌, inl, inr, ℕ, ◌≤◌, List, map, refl, sym, ap, subst, ◌∙◌, AllByRecursion, Edit, Numbered, MatterChange, IsChange, of, acted, after_change, after_edit, joined_acts, Lists, AreKeyed, AreMeant, IsWrittenAct, act_from, firm_from, IsTypedAct, IsTypedEdit, AreMade, matter_steps, row_steps, trail_steps}
 use Rattle.matter_parts.specs.declared.edit.Edit.TheVariants as edit
-use Rattle.sql_rows.proofs.Becomes.{IsMatterMade}
+use Rattle.sql_tables.specs.Rows as table
+use Rattle.sql_rows.proofs.Acts.{acts_made}
+use Rattle.sql_rows.proofs.Becomes.{AreRowsMade}
 use Rattle.sql_rows.proofs.EntryFits.{IsEntryChange}
+use Rattle.sql_rows.proofs.Steps.{made-append}
 use Rattle.sql_rows.proofs.WithEntry.{with_entry_made}
 use Rattle.sql_rows.proofs.WithoutEntry.{WritesNoEntry, without_entry_made}
+
+-- what the steps of a change of a matter make: the tables stand for the firm after it, and the exceptions stay
+pub record IsMatterMade (m : ℕ) (c : MatterChange) (a b : Lists) : Type 0 where
+  pub firm : firm_from b ≡ after_change m c (firm_from a)
+  pub meant : AreMeant b
+  pub exceptions : b.exceptions ≡ a.exceptions
 
 -- a change that is nothing makes nothing
 nothing_made : (m : ℕ) (c : MatterChange) (a b : Lists) → c.edit ≡ edit.Nothing → AreMeant a
     → AreMade (matter_steps m c c.edit) a b → IsMatterMade m c a b
-nothing_made m c a b none meant made = grind (arith, ints, nat_tests, matter_steps, after_change, firm_from, after_edit)
+nothing_made m c a b none meant made =
+    let same : b ≡ a = subst (λ e. AreMade (matter_steps m c e) a b) none made in record {
+      firm = ap firm_from same
+          ∙ subst (λ e. firm_from a ≡ acted m e c.act (after_edit m e c.last (firm_from a))) (sym none) refl;
+      meant = subst AreMeant (sym same) meant;
+      exceptions = ap (λ (l : Lists). l.exceptions) same;
+    }
+
+-- behind the rows the acts are made
+with_acts_made : (m : ℕ) (c : MatterChange) (a mid b : Lists) → IsTypedAct c.act → AreMeant a → AreRowsMade m c a mid
+    → AreMade (trail_steps m c.act c.edit) mid b → IsMatterMade m c a b
+with_acts_made m c a mid b typed meant rows made =
+    let written : AllByRecursion IsWrittenAct mid.acts =
+    subst (AllByRecursion IsWrittenAct) (sym rows.acts) meant.written.acts in
+    let done = acts_made m mid b written c.act c.edit typed made in
+    let shown : map act_from done.acts ≡ joined_acts m c.edit c.act (map act_from a.acts) =
+    done.shown ∙ ap (λ (xs : List table.Act). joined_acts m c.edit c.act (map act_from xs)) rows.acts in record {
+      firm = ap firm_from done.same ∙ rows.firm done.acts shown;
+      meant = subst AreMeant (sym done.same) (rows.meant done.acts done.written);
+      exceptions = ap (λ (l : Lists). l.exceptions) done.same ∙ rows.exceptions;
+    }
 
 -- an edit is nothing, writes an entry, or writes none
 edit_kinds : (c : MatterChange) (e : Edit) → c.edit ≡ e
@@ -21,11 +50,16 @@ edit_kinds c _ is = inr (inl (subst WritesNoEntry (sym is) tt))
 
 -- so the steps of a change, whatever it is, make what it says
 pub matter_made : (m : ℕ) (c : MatterChange) (a b : Lists) → 1 ≤ m → AreKeyed a → AreMeant a → IsTypedEdit c.edit
-    → IsChange (of m (firm_from a)) c → AreMade (matter_steps m c c.edit) a b → IsMatterMade m c a b
-matter_made m c a b one keyed meant typed may made = elim (edit_kinds c c.edit refl) [
-  | inl none ↦ nothing_made m c a b none meant made
-  | inr some ↦ elim some [
-    | inl w ↦ without_entry_made m c a b w one keyed meant typed may made
-    | inr w ↦ with_entry_made m c w.0 a b w.1 one keyed meant may made
-  ]
-]
+    → IsTypedAct c.act → IsChange (of m (firm_from a)) c → AreMade (matter_steps m c c.edit) a b
+    → IsMatterMade m c a b
+matter_made m c a b one keyed meant typed act may made =
+    let parts = made-append (row_steps m c c.edit) (trail_steps m c.act c.edit) a b made in
+    let rest : AreRowsMade m c a parts.0 → IsMatterMade m c a b =
+    λ rows. with_acts_made m c a parts.0 b act meant rows parts.2 in
+    elim (edit_kinds c c.edit refl) [
+      | inl none ↦ nothing_made m c a b none meant made
+      | inr some ↦ elim some [
+        | inl w ↦ rest (without_entry_made m c a parts.0 w one keyed meant typed may parts.1)
+        | inr w ↦ rest (with_entry_made m c w.0 a parts.0 w.1 one keyed meant may parts.1)
+      ]
+    ]

@@ -10,7 +10,7 @@ matter_script : StaysSound → (m : ℕ) (c : MatterChange) (line : Option Line)
 matter_script stays m c line a b sound keyed typed fits made =
     let parts = made-append (matter_steps m c c.edit) (line_steps line) a b made in
     let mid = parts.0 in
-    let done = matter_made m c a mid typed.0 sound.keyed sound.meant typed.1 fits parts.1 in
+    let done = matter_made m c a mid typed.0 sound.keyed sound.meant typed.1 typed.2 fits parts.1 in
     let up : IsKeyedBy key mid.exceptions = subst (IsKeyedBy key) (sym done.exceptions) sound.keyed.exceptions in
     let gone = line_gone line mid b parts.2 up done.meant in
     meant_after stays (OfMatter m line c) a b sound keyed fits (gone.0 ∙ ap (matched_by line) done.firm) gone.1

@@ -20,7 +20,7 @@ seat_total = then_total (on_total (λ (s : table.Seat). s.person) nat_list_cmp_t
 
 -- The columns of a seat give it back, whatever its number.
 
-role_back : (r : Role) → role_from (role_column r) ≡ r
+pub role_back : (r : Role) → role_from (role_column r) ≡ r
 role_back r = grind arith
 
 seat_back : (m : ℕ) (s : Seat) (id : ℤ) → seat_from (record (seat_columns m s) { id = id }) ≡ s

@@ -1,9 +1,9 @@
 -- What the steps of a change of a matter make that writes an entry, a new one or one in the place of another.
-use Rattle.sql_rows.proofs.Names.{◌≡◌, ℕ, pos, ◌≤◌, List, ◌++◌, map, Option, Some, refl, sym, ap, subst, ◌∙◌, Head, seen_on, Numbered, Part, IsWhole, IsWritten, entry_put, kept_as, other_written, MatterChange, IsChange, changed, head_after, Movement, of, kept_movements, joined_movement, rows_in, seats_of, Lists, head_columns, AreKeyed, AreMeant, IsWrittenSeat, firm_from, matters_from, part_from, head_from, seat_from, movement_from, IsTypedEdit, AreMade, head_at, edit_steps, entry_steps, movement_steps, matter_steps, arith, ints, nat_tests}
+use Rattle.sql_rows.proofs.Names.{◌≡◌, ℕ, pos, ◌≤◌, List, ◌++◌, map, Option, Some, refl, sym, ap, subst, ◌∙◌, Head, seen_on, Numbered, Part, IsWhole, IsWritten, entry_put, kept_as, other_written, MatterChange, IsChange, changed, head_after, Movement, of, kept_movements, joined_movement, rows_in, seats_of, Lists, head_columns, AreKeyed, AreMeant, IsWrittenSeat, firm_from, matters_from, part_from, head_from, seat_from, movement_from, IsTypedEdit, AreMade, head_at, edit_steps, entry_steps, movement_steps, row_steps, arith, ints, nat_tests}
 use Rattle.matter_parts.specs.declared.edit.Edit.TheVariants as edit
 use Rattle.matter_parts.proofs.Applied.{IsAfter, after-append, after-exchange}
 use Rattle.sql_tables.specs.Rows as table
-use Rattle.sql_rows.proofs.Becomes.{ArePlaced, part_at, whole_at, sound_in, change_at, with_matter, IsMatterMade, matter_done}
+use Rattle.sql_rows.proofs.Becomes.{ArePlaced, part_at, whole_at, sound_in, change_at, with_matter, AreRowsMade, matter_done}
 use Rattle.sql_rows.proofs.EntriesMade.{entry_made}
 use Rattle.sql_rows.proofs.EntryFits.{IsEntryChange, fits-change}
 use Rattle.sql_rows.proofs.EntryOrder.{kept_of}
@@ -62,8 +62,8 @@ both_put a mid b es ms first second = second ∙ ap (λ (l : Lists). record l { 
 
 -- so its steps make what it says
 pub with_entry_made : (m : ℕ) (c : MatterChange) (x : Numbered) (a b : Lists) → IsEntryChange c x → 1 ≤ m → AreKeyed a
-    → AreMeant a → IsChange (of m (firm_from a)) c → AreMade (matter_steps m c c.edit) a b
-    → IsMatterMade m c a b
+    → AreMeant a → IsChange (of m (firm_from a)) c → AreMade (row_steps m c c.edit) a b
+    → AreRowsMade m c a b
 with_entry_made m c x a b w one keyed meant may made =
     let rows = rows_in m (matters_from a) in
     let here = change_at a m c meant may in

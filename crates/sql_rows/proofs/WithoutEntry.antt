@@ -1,8 +1,8 @@
 -- What the steps of a change of a matter make that writes no entry: one of the head and the seats, or a purge.
-use Rattle.sql_rows.proofs.Names.{◌≡◌, ℕ, pos, ◌≤◌, List, [], ◌++◌, map, Option, Some, None, refl, sym, ap, subst, ◌∙◌, append-nil, AllByRecursion, IsKeyedBy, delete_where, Head, Seat, Entry, EntryMovement, Rows, role_in, seats_with, seats_without, Sound, IsHeaded, Edit, IsWhole, MatterChange, IsChange, IsPlace, changed, edited, head_after, seats_after, movement_of, of, kept_movements, joined_movement, moved_without, rows_in, seats_of, entries_of, is_seat, is_seat_of, is_entry_of, is_movement_of, add_seat, Lists, seat_columns, head_columns, AreKeyed, AreMeant, AreWritten, IsWrittenSeat, IsWrittenEntry, IsWrittenMovement, firm_from, matters_from, part_from, head_from, seat_from, kept_from, movement_from, IsTypedEdit, AreMade, edit_steps, matter_steps, all-filter, arith, ints, nat_tests}
+use Rattle.sql_rows.proofs.Names.{◌≡◌, ℕ, pos, ◌≤◌, List, [], ◌++◌, map, Option, Some, None, refl, sym, ap, subst, ◌∙◌, append-nil, AllByRecursion, IsKeyedBy, delete_where, Head, Seat, Entry, EntryMovement, Rows, role_in, seats_with, seats_without, Sound, IsHeaded, Edit, IsWhole, MatterChange, IsChange, IsPlace, changed, edited, head_after, seats_after, movement_of, of, kept_movements, joined_movement, moved_without, rows_in, seats_of, entries_of, is_seat, is_seat_of, is_entry_of, is_movement_of, add_seat, Lists, seat_columns, head_columns, AreKeyed, AreMeant, AreWritten, IsWrittenSeat, IsWrittenEntry, IsWrittenMovement, firm_from, matters_from, part_from, head_from, seat_from, kept_from, movement_from, IsTypedEdit, AreMade, edit_steps, row_steps, all-filter, arith, ints, nat_tests}
 use Rattle.matter_parts.specs.declared.edit.Edit.TheVariants as edit
 use Rattle.sql_tables.specs.Rows as table
-use Rattle.sql_rows.proofs.Becomes.{AreEntries, ArePlaced, part_at, whole_at, sound_in, change_at, whole_entries, whole_after, no_entries, with_matter, IsMatterMade, matter_done}
+use Rattle.sql_rows.proofs.Becomes.{AreEntries, ArePlaced, part_at, whole_at, sound_in, change_at, whole_entries, whole_after, no_entries, with_matter, AreRowsMade, matter_done}
 use Rattle.sql_rows.proofs.EntryWritten.{kept_gone, placed_gone}
 use Rattle.sql_rows.proofs.HeadFirst.{head_first}
 use Rattle.sql_rows.proofs.Heads.{head_back}
@@ -111,8 +111,8 @@ placed_by m e a written = grind (arith, ints, nat_tests, seats_placed, entries_p
 
 -- so its steps make what it says
 pub without_entry_made : (m : ℕ) (c : MatterChange) (a b : Lists) → WritesNoEntry c.edit → 1 ≤ m → AreKeyed a
-    → AreMeant a → IsTypedEdit c.edit → IsChange (of m (firm_from a)) c → AreMade (matter_steps m c c.edit) a b
-    → IsMatterMade m c a b
+    → AreMeant a → IsTypedEdit c.edit → IsChange (of m (firm_from a)) c → AreMade (row_steps m c c.edit) a b
+    → AreRowsMade m c a b
 without_entry_made m c a b w one keyed meant typed may made =
     let e = c.edit in
     let rows = rows_in m (matters_from a) in

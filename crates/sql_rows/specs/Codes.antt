@@ -83,3 +83,62 @@ opening_balance = 1
 
 abbrev pub closing_balance : ℕ
 closing_balance = 2
+
+-- `deed` of an act, in the order of the kinds of deeds
+
+abbrev pub opened_deed : ℕ
+opened_deed = 1
+
+abbrev pub seated_deed : ℕ
+seated_deed = 2
+
+abbrev pub unseated_deed : ℕ
+unseated_deed = 3
+
+abbrev pub closed_deed : ℕ
+closed_deed = 4
+
+abbrev pub deposited_deed : ℕ
+deposited_deed = 5
+
+abbrev pub cancelled_deed : ℕ
+cancelled_deed = 6
+
+abbrev pub cleared_deed : ℕ
+cleared_deed = 7
+
+abbrev pub returned_deed : ℕ
+returned_deed = 8
+
+abbrev pub proposed_deed : ℕ
+proposed_deed = 9
+
+abbrev pub approved_deed : ℕ
+approved_deed = 10
+
+abbrev pub declined_deed : ℕ
+declined_deed = 11
+
+abbrev pub withdrawn_deed : ℕ
+withdrawn_deed = 12
+
+abbrev pub voided_deed : ℕ
+voided_deed = 13
+
+abbrev pub earned_deed : ℕ
+earned_deed = 14
+
+abbrev pub disputed_deed : ℕ
+disputed_deed = 15
+
+abbrev pub claimed_deed : ℕ
+claimed_deed = 16
+
+abbrev pub offered_deed : ℕ
+offered_deed = 17
+
+abbrev pub accepted_deed : ℕ
+accepted_deed = 18
+
+abbrev pub awarded_deed : ℕ
+awarded_deed = 19

@@ -4,5 +4,6 @@ pub mod Standing
 pub mod Steps
 pub mod Codes
 pub mod Columns
+pub mod Acts
 pub mod Entries
 pub mod Heads

@@ -1,9 +1,16 @@
 -- The firm whose rows the tables stand for.
-use Rattle.std.specs.Prelude.{◌≡◌, ℕ, ℤ, pos, nat_abs, true, ◌==◌, cond, List, map, Option, Some, None}
+use Rattle.std.specs.Prelude.{◌≡◌, ℕ, ℤ, pos, nat_abs, true, ◌==◌, cond, List, [], ◌∷◌, map, find, Option, Some, None, unwrap_or}
 use Rattle.std.specs.List.{AllByRecursion}
+use Rattle.std.specs.Ordering.{int_eq}
+use Rattle.std.specs.Str.{bytes_eq}
 use Rattle.sqlite_keyed.specs.Keyed.{IsKeyedBy, has_key}
 use Rattle.sqlite_keyed.specs.Lists.{sort_by}
+use Rattle.trust_base.specs.Names.{cashier_text}
 use Rattle.trust_base.specs.declared.line.Line.{Line}
+use Rattle.matter_rows.specs.declared.act.Caller.{Caller}
+use Rattle.matter_rows.specs.declared.act.Caller.TheVariants.{Cashier, Person}
+use Rattle.matter_rows.specs.declared.act.Deed.{Deed}
+use Rattle.matter_rows.specs.declared.act.Deed.TheVariants as deed
 use Rattle.matter_rows.specs.declared.clearing.Clearing.{Clearing}
 use Rattle.matter_rows.specs.declared.payment.Fund.{Fund}
 use Rattle.matter_rows.specs.declared.payment.Fund.TheVariants as fund
@@ -26,6 +33,7 @@ use Rattle.matter_rows.specs.declared.seat.Seat.{Seat}
 use Rattle.matter_parts.specs.declared.figures.Figures.{Figures}
 use Rattle.matter_parts.specs.declared.kept.Kept.{Kept}
 use Rattle.matter_parts.specs.Parts.{Part}
+use Rattle.firm_rows.specs.declared.matter_act.MatterAct.{MatterAct}
 use Rattle.firm_rows.specs.declared.movement.Movement.{Movement}
 use Rattle.firm_rows.specs.declared.movement.Owner.{Owner}
 use Rattle.firm_rows.specs.declared.movement.Owner.TheVariants as owner
@@ -33,7 +41,7 @@ use Rattle.firm_rows.specs.declared.ledger.BalanceKind.{BalanceKind}
 use Rattle.firm_rows.specs.declared.ledger.BalanceKind.TheVariants.{Opening, Closing}
 use Rattle.firm_rows.specs.declared.ledger.FirmLine.{FirmLine}
 use Rattle.firm_rows.specs.declared.ledger.BalanceRow.{BalanceRow}
-use Rattle.firm_rows.specs.Firm.{Firm}
+use Rattle.firm_rows.specs.Firm.{Firm, with_acts}
 use Rattle.firm_rows.specs.FirmSound.{FirmSound}
 use Rattle.trust_store.specs.declared.plain.KeptMatter.{KeptMatter}
 use Rattle.trust_store.specs.Kept.{AreKeptWhole, firm_of}
@@ -42,6 +50,7 @@ use Rattle.sql_tables.specs.Lists.{Lists}
 use Rattle.sql_rows.specs.Codes.{payment_kind, fee_kind, claim_kind, deposit_cleared, deposit_cancelled}
 use Rattle.sql_rows.specs.Codes.{deposit_returned, payment_declined, payment_issued, payment_cleared, payment_voided}
 use Rattle.sql_rows.specs.Codes.{claim_offered, claim_settled, fee_fund, claim_fund, lawyer_role, closing_balance}
+use Rattle.sql_rows.specs.Acts.{act_columns, deed_column}
 use Rattle.sql_rows.specs.Columns.{balance_columns, movement_columns, firm_line_columns, exception_columns, seat_columns}
 use Rattle.sql_rows.specs.Entries.{Parts, entry_columns}
 use Rattle.sql_rows.specs.Heads.{HasHead}
@@ -177,6 +186,40 @@ entry_from p =
 abbrev pub kept_from : table.Entry → Kept
 kept_from e = record { number = nat_abs e.no; left = nat_abs e.left_now; entry = entry_from (parts_from e) }
 
+-- An act.
+
+-- 0 means no entry
+abbrev pub entry_or_none : ℕ → Option ℕ
+entry_or_none n = cond (n == 0) None (Some n)
+
+-- no person is called `cashier`
+abbrev pub caller_from : List ℕ → Caller
+caller_from text = cond (bytes_eq text cashier_text) Cashier (Person text)
+
+-- one deed of each kind, with this person, and this number as its role or part
+abbrev pub deeds_with : List ℕ → ℤ → List Deed
+deeds_with text number =
+    deed.Opened text ∷ deed.Seated (record { person = text; role = role_from number }) ∷ deed.Unseated text ∷
+    deed.Closed ∷ deed.Deposited ∷ deed.Cancelled ∷ deed.Cleared ∷ deed.Returned ∷ deed.Proposed ∷ deed.Approved ∷
+    deed.Declined ∷ deed.Withdrawn ∷ deed.Voided ∷ deed.Earned ∷ deed.Disputed ∷ deed.Claimed ∷
+    deed.Offered (nat_abs number) ∷ deed.Accepted ∷ deed.Awarded ∷ []
+
+-- the one that has this code
+unfoldable pub deed_from : ℤ → List ℕ → ℤ → Deed
+deed_from code text number =
+    unwrap_or (find (λ d. int_eq (deed_column d) code) (deeds_with text number)) (deed.Opened text)
+
+abbrev pub act_from : table.Act → MatterAct
+act_from a = record {
+  matter = nat_abs a.matter;
+  act = record {
+    entry = entry_or_none (nat_abs a.entry);
+    day = nat_abs a.day;
+    caller = caller_from a.caller;
+    deed = deed_from a.deed a.text a.number;
+  };
+}
+
 -- The firm's own rows. Matter 0 means the firm.
 
 abbrev pub owner_from : table.Movement → Owner
@@ -220,13 +263,14 @@ matter_from a h = record { number = nat_abs h.no; matter = part_from a h }
 abbrev pub matters_from : Lists → List KeptMatter
 matters_from a = map (matter_from a) a.heads
 
--- matters by number, movements and the firm's lines in order of acceptance, exceptions and balances in their own
+-- matters by number, movements, the firm's lines and acts in order of acceptance, exceptions and balances in their own
 -- order
 abbrev pub firm_from : Lists → Firm
 firm_from a =
-    firm_of (matters_from a) (map movement_from a.movements) (map firm_line_from a.firm_lines)
+    with_acts (map act_from a.acts)
+    (firm_of (matters_from a) (map movement_from a.movements) (map firm_line_from a.firm_lines)
     (map exception_from (sort_by table.exception_cmp a.exceptions))
-    (map balance_from (sort_by table.balance_cmp a.balances))
+    (map balance_from (sort_by table.balance_cmp a.balances)))
 
 -- The rows are exactly what would be written for what they stand for, except the rowids.
 
@@ -253,6 +297,9 @@ IsWrittenException e = record e { id = pos 0 } ≡ exception_columns (exception_
 abbrev pub IsWrittenBalance : table.Balance → Type 0
 IsWrittenBalance b = record b { id = pos 0 } ≡ balance_columns (balance_from b)
 
+abbrev pub IsWrittenAct : table.Act → Type 0
+IsWrittenAct a = record a { seq = pos 0 } ≡ act_columns (act_from a)
+
 -- this holds of each row of each table
 pub record AreWritten (a : Lists) : Type 0 where
   pub heads : AllByRecursion IsWrittenHead a.heads
@@ -262,6 +309,7 @@ pub record AreWritten (a : Lists) : Type 0 where
   pub firm_lines : AllByRecursion IsWrittenFirmLine a.firm_lines
   pub exceptions : AllByRecursion IsWrittenException a.exceptions
   pub balances : AllByRecursion IsWrittenBalance a.balances
+  pub acts : AllByRecursion IsWrittenAct a.acts
 
 -- a head has this number
 abbrev pub HasHeadAt : List table.Head → ℤ → Type 0
@@ -284,6 +332,7 @@ pub record AreKeyed (a : Lists) : Type 0 where
   pub firm_lines : IsKeyedBy (λ (l : table.FirmLine). l.seq) a.firm_lines
   pub exceptions : IsKeyedBy (λ (e : table.Exception). e.id) a.exceptions
   pub balances : IsKeyedBy (λ (b : table.Balance). b.id) a.balances
+  pub acts : IsKeyedBy (λ (x : table.Act). x.seq) a.acts
 
 -- the rows stand for the rows of a sound firm
 pub record AreSound (a : Lists) : Type 0 where

@@ -1,16 +1,18 @@
 -- What the scripts of changes mean: the tables after a script stand for the firm after its change.
-use Rattle.std.specs.Prelude.{◌≡◌, ◌≤◌, IfSome}
+use Rattle.std.specs.Prelude.{◌≡◌, ◌≤◌, Option, Some, None, IfSome}
 use Rattle.trust_base.specs.declared.line.Line.{Line}
+use Rattle.matter_rows.specs.declared.act.Act.{Act}
 use Rattle.matter_parts.specs.declared.edit.Edit.{Edit}
 use Rattle.matter_parts.specs.declared.edit.Edit.TheVariants as edit
 use Rattle.firm_rows.specs.declared.ledger.BalanceKind.{BalanceKind}
 use Rattle.firm_rows.specs.FirmChange.{FirmChange, OfMatter, Repeated, Unmatched, OfFirm, OfBalance, after, FitsFirm}
 use Rattle.sql_tables.specs.Lists.{Lists}
+use Rattle.sql_rows.specs.Acts.{IsCaller}
 use Rattle.sql_rows.specs.Meaning.{AreKeyed, AreSound, firm_from}
 use Rattle.sql_rows.specs.Steps.{steps_of, AreMade}
 
--- What the types guarantee of a change's values, as much as the tables need: a column uses 0 for no day, and matter 0
--- for the firm.
+-- What the types guarantee of a change's values, as much as the tables need: a column uses 0 for no day, matter 0 for
+-- the firm, entry 0 for none, and the name `cashier` for the cashier.
 
 -- the days of an edit whose columns use 0 for no day: the day of closing, also when a matter is opened, and that of a
 -- purge
@@ -24,8 +26,13 @@ IsTypedEdit (edit.Purge day) = 1 ≤ day
 IsTypedEdit (edit.Append x) = Unit {0}
 IsTypedEdit (edit.Exchange x) = Unit {0}
 
+-- the entry and the caller of an act, if there is one
+abbrev pub IsTypedAct : Option Act → Type 0
+IsTypedAct None = Unit {0}
+IsTypedAct (Some act) = IfSome act.entry (λ number. 1 ≤ number) × IsCaller act.caller
+
 abbrev pub IsTyped : FirmChange → Type 0
-IsTyped (OfMatter m line c) = (1 ≤ m) × IsTypedEdit c.edit
+IsTyped (OfMatter m line c) = (1 ≤ m) × IsTypedEdit c.edit × IsTypedAct c.act
 IsTyped (Repeated line) = Unit {0}
 IsTyped (Unmatched line) = Unit {0}
 IsTyped (OfFirm line) = Unit {0}

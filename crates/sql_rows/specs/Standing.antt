@@ -46,6 +46,7 @@ no_lists = record {
   firm_lines = [];
   exceptions = [];
   balances = [];
+  acts = [];
 }
 
 -- empty tables stand for the firm without rows

@@ -2,6 +2,7 @@
 use Rattle.std.specs.Prelude.{◌≡◌, ℕ, ℤ, pos, List, [], ◌∷◌, ◌++◌, map, Option, Some, None, find, option_map}
 use Rattle.sqlite_keyed.specs.Lists.{delete_where}
 use Rattle.trust_base.specs.declared.line.Line.{Line}
+use Rattle.matter_rows.specs.declared.act.Act.{Act}
 use Rattle.matter_rows.specs.declared.head.Head.{Head}
 use Rattle.matter_rows.specs.declared.movement.EntryMovement.{EntryMovement}
 use Rattle.matter_parts.specs.declared.change.Left.{Left}
@@ -10,15 +11,16 @@ use Rattle.matter_parts.specs.declared.edit.Edit.{Edit}
 use Rattle.matter_parts.specs.declared.edit.Edit.TheVariants as edit
 use Rattle.matter_parts.specs.declared.edit.Numbered.{Numbered}
 use Rattle.matter_parts.specs.Changes.{MatterChange}
-use Rattle.firm_rows.specs.Firm.{joined_movement, own_movement}
+use Rattle.firm_rows.specs.Firm.{joined_act, joined_movement, own_movement}
 use Rattle.firm_rows.specs.FirmChange.{FirmChange, OfMatter, Repeated, Unmatched, OfFirm, OfBalance}
 use Rattle.firm_rows.specs.FirmLines.{as_firm_line, balance_row}
 use Rattle.sql_tables.specs.declared.columns.TotalsColumns.{TotalsColumns}
 use Rattle.sql_tables.specs.declared.statements.SqlStatement.{SqlStatement}
 use Rattle.sql_tables.specs.declared.statements.SqlStatement.TheVariants as statement
-use Rattle.sql_tables.specs.Given.{head_given, seat_given, entry_given, movement_given, firm_line_given, exception_given, balance_given}
+use Rattle.sql_tables.specs.Given.{head_given, seat_given, entry_given, movement_given, firm_line_given, exception_given, balance_given, act_given}
 use Rattle.sql_tables.specs.Lists.{Lists}
 use Rattle.sql_tables.specs.Rows as table
+use Rattle.sql_rows.specs.Acts.{act_columns}
 use Rattle.sql_rows.specs.Columns.{balance_columns, movement_columns, firm_line_columns, exception_columns, seat_columns}
 use Rattle.sql_rows.specs.Entries.{entry_columns}
 use Rattle.sql_rows.specs.Heads.{head_columns, totals_columns}
@@ -44,6 +46,8 @@ pub data Step : Type 0 where
   SeatsGone : (matter : ℤ) → Step
   EntriesGone : (matter : ℤ) → Step
   MovementsGone : (matter : ℤ) → Step
+  AddAct : (act : table.Act) → Step
+  ActsGone : (matter : ℤ) → Step
 
 abbrev pub step_of : SqlStatement → Step
 step_of (statement.Head h) = PutHead (head_given h)
@@ -62,6 +66,8 @@ step_of (statement.Balance b) = AddBalance (balance_given b)
 step_of (statement.SeatsGone m) = SeatsGone m
 step_of (statement.EntriesGone m) = EntriesGone m
 step_of (statement.MovementsGone m) = MovementsGone m
+step_of (statement.Act x) = AddAct (act_given x)
+step_of (statement.ActsGone m) = ActsGone m
 
 -- how a step changes the lists; a table with AUTOINCREMENT gives a new row its own number
 abbrev pub IsMade : Step → Lists → Lists → Type 0
@@ -83,6 +89,9 @@ IsMade (AddBalance c) a b = b ≡ record a { balances = table.add_balance c a.ba
 IsMade (SeatsGone m) a b = b ≡ record a { seats = delete_where (table.is_seat_of m) a.seats }
 IsMade (EntriesGone m) a b = b ≡ record a { entries = delete_where (table.is_entry_of m) a.entries }
 IsMade (MovementsGone m) a b = b ≡ record a { movements = delete_where (table.is_movement_of m) a.movements }
+IsMade (AddAct x) a b =
+    (seq : ℤ) × (b ≡ record a { acts = a.acts ++ record x { seq = seq } ∷ [] })
+IsMade (ActsGone m) a b = b ≡ record a { acts = delete_where (table.is_act_of m) a.acts }
 
 -- the steps, one after the other
 abbrev pub AreMade : List Step → Lists → Lists → Type 0
@@ -123,7 +132,7 @@ entry_steps m x v = PutEntry (entry_columns m x.number v.left x.entry) ∷ left_
 abbrev pub movement_steps : ℕ → Option EntryMovement → List Step
 movement_steps m v = map (λ x. AddMovement (movement_columns x)) (joined_movement m v)
 
--- what is written after the head: the seat, the entries and the movement; a purge deletes all of these
+-- what is written of the rows after the head: the seat, the entries and the movement; a purge deletes all of these
 abbrev pub edit_steps : ℕ → MatterChange → Edit → List Step
 edit_steps m c edit.Nothing = []
 edit_steps m c (edit.Open o) = AddSeat (seat_columns m o.seat) ∷ []
@@ -134,9 +143,28 @@ edit_steps m c (edit.Purge day) = SeatsGone (pos m) ∷ EntriesGone (pos m) ∷ 
 edit_steps m c (edit.Append x) = entry_steps m x c.moves ++ movement_steps m c.movement
 edit_steps m c (edit.Exchange x) = entry_steps m x c.moves ++ movement_steps m c.movement
 
--- a change of a matter: the head first, since seats and entries refer to it; an empty change writes nothing
+-- the rows of a matter: the head first, since seats and entries refer to it
+abbrev pub row_steps : ℕ → MatterChange → Edit → List Step
+row_steps m c e = head_steps m c e ++ edit_steps m c e
+
+-- the act that a change of a matter is remembered by, if it is by one
+abbrev pub act_steps : ℕ → Option Act → List Step
+act_steps m act = map (λ x. AddAct (act_columns x)) (joined_act m act)
+
+-- what is written of the acts: the one of the change; a purge deletes the matter's
+abbrev pub trail_steps : ℕ → Option Act → Edit → List Step
+trail_steps m act edit.Nothing = []
+trail_steps m act (edit.Open o) = act_steps m act
+trail_steps m act (edit.Seat s) = act_steps m act
+trail_steps m act (edit.Unseat p) = act_steps m act
+trail_steps m act (edit.Close day) = act_steps m act
+trail_steps m act (edit.Purge day) = ActsGone (pos m) ∷ []
+trail_steps m act (edit.Append x) = act_steps m act
+trail_steps m act (edit.Exchange x) = act_steps m act
+
+-- a change of a matter: its rows, and then what it is remembered by; an empty change writes nothing
 abbrev pub matter_steps : ℕ → MatterChange → Edit → List Step
-matter_steps m c e = head_steps m c e ++ edit_steps m c e
+matter_steps m c e = row_steps m c e ++ trail_steps m c.act e
 
 -- a line that was applied or is repeated is removed from the exceptions
 abbrev pub line_steps : Option Line → List Step

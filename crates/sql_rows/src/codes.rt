@@ -53,3 +53,42 @@ pub(crate) const LAWYER_ROLE: i64 = 2;
 pub(crate) const OPENING_BALANCE: i64 = 1;
 
 pub(crate) const CLOSING_BALANCE: i64 = 2;
+
+// `deed` of an act, in the order of the kinds of deeds.
+pub(crate) const OPENED_DEED: i64 = 1;
+
+pub(crate) const SEATED_DEED: i64 = 2;
+
+pub(crate) const UNSEATED_DEED: i64 = 3;
+
+pub(crate) const CLOSED_DEED: i64 = 4;
+
+pub(crate) const DEPOSITED_DEED: i64 = 5;
+
+pub(crate) const CANCELLED_DEED: i64 = 6;
+
+pub(crate) const CLEARED_DEED: i64 = 7;
+
+pub(crate) const RETURNED_DEED: i64 = 8;
+
+pub(crate) const PROPOSED_DEED: i64 = 9;
+
+pub(crate) const APPROVED_DEED: i64 = 10;
+
+pub(crate) const DECLINED_DEED: i64 = 11;
+
+pub(crate) const WITHDRAWN_DEED: i64 = 12;
+
+pub(crate) const VOIDED_DEED: i64 = 13;
+
+pub(crate) const EARNED_DEED: i64 = 14;
+
+pub(crate) const DISPUTED_DEED: i64 = 15;
+
+pub(crate) const CLAIMED_DEED: i64 = 16;
+
+pub(crate) const OFFERED_DEED: i64 = 17;
+
+pub(crate) const ACCEPTED_DEED: i64 = 18;
+
+pub(crate) const AWARDED_DEED: i64 = 19;

@@ -1,12 +1,14 @@
 // Reads the values of single columns.
 
 ghost use Rattle.std.specs.Prelude.{◌≡◌, ◌≤◌, ◌↔◌, ℕ, pos, Ok, IfOk, IfErr};
-ghost use Rattle.trust_values.specs.Limits.{IsDay, IsEntryNo, IsAmount, IsAmountOrZero};
+ghost use Rattle.trust_values.specs.Limits.{IsDay, IsMatterNo, IsEntryNo, IsAmount, IsAmountOrZero};
 ghost use Rattle.trust_base.specs.BankTexts.{IsBankText, IsLineText};
-ghost use Rattle.trust_base.specs.Names.{IsLabel};
+ghost use Rattle.trust_base.specs.Names.{IsLabel, IsPerson};
 
 use std::alloc::Global;
-use trust_base::{BankText, Cents, CentsOrZero, Day, EntryNo, Label, LineText, StoreFault};
+use trust_base::{
+    BankText, Cents, CentsOrZero, Day, EntryNo, Label, LineText, MatterNo, PersonId, StoreFault,
+};
 
 /// Reads a day, written year * 10000 + month * 100 + day of the month. Returns `Store` if the calendar does not have
 /// it.
@@ -23,9 +25,21 @@ pub(crate) fn day_in(column: i64) -> Result<Day, StoreFault>
     Day::from_number(column as u32).ok_or(StoreFault::Store)
 }
 
+/// Reads the number of a matter. Returns `Store` for any other number.
+pub(crate) fn matter_no_in(column: i64) -> Result<MatterNo, StoreFault>
+    ensures ok { IfOk result (λ m. pos m ≡ column) }
+    ensures form { IfOk result IsMatterNo }
+    ensures back { (m : ℕ) → IsMatterNo m → pos m ≡ column → result ≡ Ok m }
+    ensures store { IfErr result (λ e. e ≡ StoreFault.Store) }
+{
+    let number = number_in(column, 99_999_999)?;
+    MatterNo::from_number(number as u32).ok_or(StoreFault::Store)
+}
+
 /// Reads the number of an entry. Returns `Store` for any other number.
 pub(crate) fn entry_no_in(column: i64) -> Result<EntryNo, StoreFault>
     ensures ok { IfOk result (λ n. pos n ≡ column) }
+    ensures form { IfOk result IsEntryNo }
     ensures back { (n : ℕ) → IsEntryNo n → pos n ≡ column → result ≡ Ok n }
     ensures store { IfErr result (λ e. e ≡ StoreFault.Store) }
 {
@@ -64,6 +78,7 @@ pub(crate) fn amount_in(column: i64) -> Result<Cents, StoreFault>
 /// Reads an amount in cents that may be 0. Returns `Store` for any other number.
 pub(crate) fn part_in(column: i64) -> Result<CentsOrZero, StoreFault>
     ensures ok { IfOk result (λ a. pos a ≡ column) }
+    ensures form { IfOk result IsAmountOrZero }
     ensures back { (a : ℕ) → IsAmountOrZero a → pos a ≡ column → result ≡ Ok a }
     ensures store { IfErr result (λ e. e ≡ StoreFault.Store) }
 {
@@ -96,5 +111,15 @@ pub(crate) fn label_in(alloc: Global, column: &[u8]) -> Result<Label, StoreFault
     ensures err { IfErr result (λ e. e ≡ StoreFault.Memory ↔ IsLabel column.now) }
 {
     let text = Label::read(alloc, column)?;
+    text.ok_or(StoreFault::Store)
+}
+
+/// Reads a person's name. Returns `Store` for invalid bytes, and `Memory` if memory runs out for valid ones.
+pub(crate) fn person_in(alloc: Global, column: &[u8]) -> Result<PersonId, StoreFault>
+    ensures ok { IfOk result (λ t. t ≡ column.now) }
+    ensures form { IfOk result IsPerson }
+    ensures err { IfErr result (λ e. e ≡ StoreFault.Memory ↔ IsPerson column.now) }
+{
+    let text = PersonId::read(alloc, column)?;
     text.ok_or(StoreFault::Store)
 }

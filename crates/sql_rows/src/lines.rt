@@ -14,11 +14,11 @@ ghost use Rattle.sql_rows.specs.Columns.{matter_column, entry_column, movement_c
 ghost use Rattle.sql_rows.specs.Columns.{IsBankLine, IsFirmLine, BeginsLine, GivesBack};
 
 use crate::codes::{CLOSING_BALANCE, OPENING_BALANCE};
-use crate::column::{bank_text_in, day_in, entry_no_in, line_text_in, number_in};
+use crate::column::{bank_text_in, day_in, entry_no_in, line_text_in, matter_no_in};
 use firm_rows::{BalanceKind, BalanceRow, FirmLine, Movement, Owner};
 use sql_tables::{BalanceColumns, ExceptionColumns, FirmLineColumns, MovementColumns};
 use std::alloc::Global;
-use trust_base::{BankAmount, Day, Line, MatterNo, StoreFault};
+use trust_base::{BankAmount, Day, Line, StoreFault};
 
 // Reads the day and the amount of a line or balance.
 fn dated_amount(day: i64, amount: i64) -> Result<(Day, BankAmount), StoreFault>
@@ -164,8 +164,7 @@ fn owner_in(matter: i64, entry: i64) -> Result<Owner, StoreFault>
     if matter == 0 && entry == 0 {
         return Ok(Owner::Firm);
     }
-    let number = number_in(matter, 99_999_999)?;
-    let matter = MatterNo::from_number(number as u32).ok_or(StoreFault::Store)?;
+    let matter = matter_no_in(matter)?;
     let entry = entry_no_in(entry)?;
     Ok(Owner::Matter { matter, entry })
 }

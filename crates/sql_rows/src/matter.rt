@@ -6,20 +6,21 @@ ghost use Rattle.trust_values.specs.Limits.{IsDay};
 ghost use Rattle.trust_base.specs.Names.{IsLabel, IsPerson};
 ghost use Rattle.matter_rows.specs.declared.head.Head.{Head as Kept};
 ghost use Rattle.matter_rows.specs.declared.head.Holder.{Holder as Held};
+ghost use Rattle.matter_rows.specs.declared.seat.Role.{Role as Standing};
 ghost use Rattle.matter_rows.specs.declared.seat.Seat.{Seat as Taken};
-ghost use Rattle.sql_rows.specs.Columns.{GivesBack, HasSeat, seat_columns};
+ghost use Rattle.sql_rows.specs.Columns.{GivesBack, HasSeat, role_column, seat_columns};
 ghost use Rattle.sql_rows.specs.Heads.{client_column, purged_column, closed_column, head_columns, totals_columns};
 ghost use Rattle.sql_rows.specs.Heads.{HasHead, HasTotals, IsHolder, IsHead, HasClientsHead};
 ghost use Rattle.matter_parts.specs.declared.figures.Figures.{Figures as Totals};
 ghost use Rattle.matter_parts.specs.Parts.{AreSmall};
 
 use crate::codes::{CLIENT_ROLE, LAWYER_ROLE};
-use crate::column::{day_in, label_in, number_in};
+use crate::column::{day_in, label_in, number_in, person_in};
 use matter_parts::Figures;
 use matter_rows::{Head, Holder, MAX_TOTAL, Role, Seat};
 use sql_tables::{HeadColumns, SeatColumns, TotalsColumns};
 use std::alloc::Global;
-use trust_base::{Day, MAX_ENTRY, MatterNo, PersonId, StoreFault};
+use trust_base::{Day, MAX_ENTRY, MatterNo, StoreFault};
 
 // The client's name, or nothing after a purge.
 fn client_column(holder: &Holder) -> &[u8]
@@ -174,18 +175,37 @@ pub fn totals_of(columns: HeadColumns<'_>) -> Result<Figures, StoreFault>
     })
 }
 
+/// The code of a role: 1 for a client, 2 for a lawyer.
+pub(crate) fn role_column(role: Role) -> i64
+    ensures { result ≡ role_column role }
+{
+    match role {
+        Role::Client => CLIENT_ROLE,
+        Role::Lawyer => LAWYER_ROLE,
+    }
+}
+
+/// Reads a role from its code. Returns `Store` for any other number.
+pub(crate) fn role_in(column: i64) -> Result<Role, StoreFault>
+    ensures ok { IfOk result (λ r. role_column r ≡ column) }
+    ensures back { (r : Standing) → role_column r ≡ column → result ≡ Ok r }
+    ensures store { IfErr result (λ e. e ≡ StoreFault.Store) }
+{
+    match column {
+        CLIENT_ROLE => Ok(Role::Client),
+        LAWYER_ROLE => Ok(Role::Lawyer),
+        _ => Err(StoreFault::Store),
+    }
+}
+
 /// Returns the columns of a seat of a matter: the person, and the role (1 for a client, 2 for a lawyer).
 pub fn seat_columns(matter: MatterNo, seat: &Seat) -> SeatColumns<'_>
     ensures { seat_given result ≡ seat_columns matter seat.now }
 {
-    let role = match seat.role {
-        Role::Client => CLIENT_ROLE,
-        Role::Lawyer => LAWYER_ROLE,
-    };
     SeatColumns {
         matter: matter.get() as i64,
         person: seat.person.as_slice(),
-        role,
+        role: role_column(seat.role),
     }
 }
 
@@ -204,11 +224,7 @@ pub fn seat_of(
     if columns.matter != matter.get() as i64 {
         return Err(StoreFault::Store);
     }
-    let role = match columns.role {
-        CLIENT_ROLE => Role::Client,
-        LAWYER_ROLE => Role::Lawyer,
-        _ => return Err(StoreFault::Store),
-    };
-    let person = PersonId::read(alloc, columns.person)?.ok_or(StoreFault::Store)?;
+    let role = role_in(columns.role)?;
+    let person = person_in(alloc, columns.person)?;
     Ok(Seat { person, role })
 }

@@ -51,6 +51,6 @@ abbrev pub old_tables : List Table
 old_tables = book_table Moved ∷ old_matter_table ∷ old_seat_table ∷ old_entry_table ∷ journal_table Moved ∷
     sequence_table Moved ∷ firm_line_table Moved ∷ exception_table Moved ∷ balance_table Moved ∷ []
 
--- laid out as in a database whose rows were moved, without the three tables that replaced the old ones
+-- laid out as in a database whose rows were moved, without the three tables that replaced the old ones and the trail
 abbrev pub old_schema : Schema
 old_schema = record { tables = old_tables; indexes = old_indexes; views = [] }

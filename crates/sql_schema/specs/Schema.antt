@@ -113,6 +113,16 @@ balance_place l = 8
 abbrev pub balance_tree : Layout → ℕ
 balance_tree l = 11
 
+-- the index of the act table in the list of tables
+abbrev pub act_place : Layout → ℕ
+act_place Made = 9
+act_place Moved = 12
+
+-- the tree of its rows
+abbrev pub act_tree : Layout → ℕ
+act_tree Made = 13
+act_tree Moved = 18
+
 -- the index of the sequence table in the list of tables
 abbrev pub sequence_place : Layout → ℕ
 sequence_place l = 5
@@ -145,6 +155,9 @@ exception_table_name = codes "exception"
 
 abbrev pub balance_table_name : List ℕ
 balance_table_name = codes "balance"
+
+abbrev pub act_table_name : List ℕ
+act_table_name = codes "trail"
 
 abbrev pub book_text : List ℕ
 book_text = codes "CREATE TABLE book (version INTEGER NOT NULL) STRICT"
@@ -405,6 +418,30 @@ balance_table l = record {
   is_counted = false;
 }
 
+abbrev pub act_text : List ℕ
+act_text =
+    codes "CREATE TABLE trail (seq INTEGER NOT NULL PRIMARY KEY AUTOINCREMENT, matter INTEGER NOT NULL, entry " ++
+    codes "INTEGER NOT NULL, day INTEGER NOT NULL, deed INTEGER NOT NULL, caller TEXT NOT NULL, text TEXT NOT NULL, " ++
+    codes "number INTEGER NOT NULL) STRICT"
+
+abbrev pub act_table : Layout → Table
+act_table l = record {
+  name = act_table_name;
+  tree = act_tree l;
+  columns = column (codes "seq") Integer ∷ column (codes "matter") Integer ∷ column (codes "entry") Integer ∷
+      column (codes "day") Integer ∷ column (codes "deed") Integer ∷ column (codes "caller") Text ∷
+      column (codes "text") Text ∷ column (codes "number") Integer ∷ [];
+  key = Some 0;
+  primary = 0 ∷ [];
+  uniques = [];
+  orders = [];
+  checks = [];
+  references = [];
+  computed = [];
+  stamps = record { places = []; terms = []; formats = [] };
+  is_counted = true;
+}
+
 abbrev pub sequence_table : Layout → Table
 sequence_table l = record {
   name = codes "sqlite_sequence";
@@ -459,7 +496,7 @@ made_indexes =
 
 abbrev pub made_tables : List Table
 made_tables = book_table Made ∷ matter_table Made ∷ seat_table Made ∷ entry_table Made ∷ journal_table Made ∷
-    sequence_table Made ∷ firm_line_table Made ∷ exception_table Made ∷ balance_table Made ∷ []
+    sequence_table Made ∷ firm_line_table Made ∷ exception_table Made ∷ balance_table Made ∷ act_table Made ∷ []
 
 abbrev pub moved_indexes : List Index
 moved_indexes =
@@ -516,7 +553,7 @@ moved_indexes =
 abbrev pub moved_tables : List Table
 moved_tables = book_table Moved ∷ old_matter_table ∷ old_seat_table ∷ old_entry_table ∷ journal_table Moved ∷
     sequence_table Moved ∷ firm_line_table Moved ∷ exception_table Moved ∷ balance_table Moved ∷ matter_table Moved ∷
-    seat_table Moved ∷ entry_table Moved ∷ []
+    seat_table Moved ∷ entry_table Moved ∷ act_table Moved ∷ []
 
 abbrev pub book_schema : Layout → Schema
 book_schema Made = record { tables = made_tables; indexes = made_indexes; views = [] }

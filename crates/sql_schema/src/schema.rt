@@ -1,6 +1,7 @@
 //! Checks whether a schema is a book's.
 
 ghost use Rattle.std.specs.Prelude.{◌≡◌, ◌↔◌, Some, IsTrue};
+ghost use Rattle.sql_schema.specs.Bare.{bare_schema};
 ghost use Rattle.sql_schema.specs.Old.{old_schema};
 ghost use Rattle.sql_schema.specs.Schema.{book_schema};
 ghost use Rattle.sql_schema.specs.Shapes.{schema_of};
@@ -25,6 +26,8 @@ fn is_of(schema: &Schema, tables: &[TableShape<'_>], indexes: &[IndexShape<'_>])
 pub enum BookTables {
     /// Those of this version, in this layout.
     Now(Layout),
+    /// The same without the trail, which came later.
+    Bare(Layout),
     /// Those of version 1, which keeps matters, their seats and their entries in three other tables.
     Old,
 }
@@ -32,17 +35,22 @@ pub enum BookTables {
 /// Returns the tables of a book that the schema has, or `None` if it is not exactly a book's, down to the last column:
 /// names, kinds, NOT NULL, keys, references and indexes, created in this order, with no view and nothing else. Does
 /// not allocate.
-#[tactic(auto, using(crate::proofs::Apart::never_both))]
+#[tactic(auto, using(crate::proofs::Apart::apart))]
 pub fn book_tables(schema: &Schema) -> Option<BookTables>
     ensures now { (l : Layout) → (result ≡ Some (BookTables.Now l)) ↔ (schema.now ≡ book_schema l) }
+    ensures bare { (l : Layout) → (result ≡ Some (BookTables.Bare l)) ↔ (schema.now ≡ bare_schema l) }
     ensures old { (result ≡ Some BookTables.Old) ↔ (schema.now ≡ old_schema) }
 {
     if is_of(schema, MADE_TABLES, MADE_INDEXES) {
         Some(BookTables::Now(Layout::Made))
     } else if is_of(schema, MOVED_TABLES, MOVED_INDEXES) {
         Some(BookTables::Now(Layout::Moved))
+    } else if is_of(schema, &MADE_TABLES[..9], MADE_INDEXES) {
+        Some(BookTables::Bare(Layout::Made))
+    } else if is_of(schema, &MOVED_TABLES[..12], MOVED_INDEXES) {
+        Some(BookTables::Bare(Layout::Moved))
     } else if is_of(schema, &MOVED_TABLES[..9], &MOVED_INDEXES[..4]) {
-        // A moved book has the tables of version 1, and after them the three that replaced the old ones.
+        // A moved book has the tables of version 1, and after them the three that replaced the old ones, and the trail.
         Some(BookTables::Old)
     } else {
         None

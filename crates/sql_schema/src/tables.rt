@@ -139,6 +139,11 @@ const BALANCE: TableShape<'static> = table![
     KEYED, 11, b"balance": Integer b"kind", Integer b"day", Integer b"amount"
 ];
 
+const ACT: TableShape<'static> = table![
+    COUNTED, 13, b"trail": Integer b"seq", Integer b"matter", Integer b"entry", Integer b"day", Integer b"deed",
+    Text b"caller", Text b"text", Integer b"number"
+];
+
 const SEQUENCE: TableShape<'static> = TableShape {
     name: b"sqlite_sequence",
     tree: 7,
@@ -156,7 +161,7 @@ const SEQUENCE: TableShape<'static> = TableShape {
 };
 
 pub(crate) const MADE_TABLES: &[TableShape<'static>] = &[
-    BOOK, MATTER, SEAT, ENTRY, JOURNAL, SEQUENCE, FIRM_LINE, EXCEPTION, BALANCE,
+    BOOK, MATTER, SEAT, ENTRY, JOURNAL, SEQUENCE, FIRM_LINE, EXCEPTION, BALANCE, ACT,
 ];
 
 pub(crate) const MADE_INDEXES: &[IndexShape<'static>] = &[
@@ -172,6 +177,8 @@ const MOVED_SEAT: TableShape<'static> = TableShape { tree: 14, ..SEAT };
 
 const MOVED_ENTRY: TableShape<'static> = TableShape { tree: 16, ..ENTRY };
 
+const MOVED_ACT: TableShape<'static> = TableShape { tree: 18, ..ACT };
+
 pub(crate) const MOVED_TABLES: &[TableShape<'static>] = &[
     BOOK,
     OLD_MATTER,
@@ -185,6 +192,7 @@ pub(crate) const MOVED_TABLES: &[TableShape<'static>] = &[
     MOVED_MATTER,
     MOVED_SEAT,
     MOVED_ENTRY,
+    MOVED_ACT,
 ];
 
 pub(crate) const MOVED_INDEXES: &[IndexShape<'static>] = &[

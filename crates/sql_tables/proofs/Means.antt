@@ -5,7 +5,7 @@ use Rattle.sqlite_resolve.specs.Compile.{first}
 use Rattle.sql_tables.specs.declared.statements.SqlStatement.{SqlStatement}
 use Rattle.sql_tables.specs.declared.statements.SqlStatement.TheVariants as statement
 use Rattle.sql_tables.proofs.Calls.{IsQuery, IsCommand, looked_at, seen_as, asking, commands, queries, begins}
-use Rattle.sql_tables.specs.Texts.{head_read_text, head_read_query, head_read_names, next_head_text, next_head_query, next_head_names, head_scan_text, head_scan_query, head_scan_names, seats_read_text, seats_read_query, seats_read_names, entries_read_text, entries_read_query, entries_read_names, entry_read_text, entry_read_query, entry_read_names, balance_read_text, balance_read_query, balance_read_names, journal_scan_text, journal_scan_query, journal_scan_names, firm_scan_text, firm_scan_query, firm_scan_names, exception_scan_text, exception_scan_query, exception_scan_names, balance_scan_text, balance_scan_query, balance_scan_names, head_write_text, head_write_command, totals_write_text, totals_write_command, closed_write_text, closed_write_command, purged_write_text, purged_write_command, entry_write_text, entry_write_command, left_write_text, left_write_command, seat_insert_text, seat_insert_command, seat_delete_text, seat_delete_command, journal_insert_text, journal_insert_command, firm_insert_text, firm_insert_command, exception_insert_text, exception_insert_command, exception_delete_text, exception_delete_command, balance_insert_text, balance_insert_command, purge_seats_text, purge_seats_command, purge_entries_text, purge_entries_command, purge_journal_text, purge_journal_command}
+use Rattle.sql_tables.specs.Texts.{head_read_text, head_read_query, head_read_names, next_head_text, next_head_query, next_head_names, head_scan_text, head_scan_query, head_scan_names, seats_read_text, seats_read_query, seats_read_names, entries_read_text, entries_read_query, entries_read_names, entry_read_text, entry_read_query, entry_read_names, balance_read_text, balance_read_query, balance_read_names, journal_scan_text, journal_scan_query, journal_scan_names, firm_scan_text, firm_scan_query, firm_scan_names, exception_scan_text, exception_scan_query, exception_scan_names, balance_scan_text, balance_scan_query, balance_scan_names, head_write_text, head_write_command, totals_write_text, totals_write_command, closed_write_text, closed_write_command, purged_write_text, purged_write_command, entry_write_text, entry_write_command, left_write_text, left_write_command, seat_insert_text, seat_insert_command, seat_delete_text, seat_delete_command, journal_insert_text, journal_insert_command, firm_insert_text, firm_insert_command, exception_insert_text, exception_insert_command, exception_delete_text, exception_delete_command, balance_insert_text, balance_insert_command, purge_seats_text, purge_seats_command, purge_entries_text, purge_entries_command, purge_journal_text, purge_journal_command, act_scan_text, act_scan_query, act_scan_names, act_insert_text, act_insert_command, purge_acts_text, purge_acts_command}
 
 head_read_seen : looked_at (first head_read_text) ≡ seen_as true (asking head_read_query head_read_names)
 unfolding everything
@@ -181,6 +181,24 @@ purge_journal_seen : looked_at (first purge_journal_text) ≡ seen_as false purg
 unfolding everything
 purge_journal_seen = refl
 
+act_scan_seen : looked_at (first act_scan_text) ≡ seen_as true (asking act_scan_query act_scan_names)
+unfolding everything
+act_scan_seen = refl
+
+pub act_scan_asks : (l : Layout) → IsQuery (book_schema l) act_scan_text (act_scan_query l) act_scan_names
+act_scan_asks = queries act_scan_text act_scan_query act_scan_names act_scan_seen
+
+pub act_scan_selects : IsSelect act_scan_text
+act_scan_selects = begins act_scan_text act_scan_query act_scan_names act_scan_seen
+
+act_insert_seen : looked_at (first act_insert_text) ≡ seen_as false act_insert_command
+unfolding everything
+act_insert_seen = refl
+
+purge_acts_seen : looked_at (first purge_acts_text) ≡ seen_as false purge_acts_command
+unfolding everything
+purge_acts_seen = refl
+
 -- what a statement that writes means
 abbrev pub meaning : Layout → SqlStatement → Command
 meaning l (statement.Head _) = head_write_command l
@@ -199,6 +217,8 @@ meaning l (statement.Balance _) = balance_insert_command l
 meaning l (statement.SeatsGone _) = purge_seats_command l
 meaning l (statement.EntriesGone _) = purge_entries_command l
 meaning l (statement.MovementsGone _) = purge_journal_command l
+meaning l (statement.Act _) = act_insert_command l
+meaning l (statement.ActsGone _) = purge_acts_command l
 
 pub means : (l : Layout) (s : SqlStatement) → IsCommand (book_schema l) (call_of s).text (meaning l s)
 means l (statement.Head _) = commands head_write_text false head_write_command head_write_seen l
@@ -217,3 +237,5 @@ means l (statement.Balance _) = commands balance_insert_text false balance_inser
 means l (statement.SeatsGone _) = commands purge_seats_text false purge_seats_command purge_seats_seen l
 means l (statement.EntriesGone _) = commands purge_entries_text false purge_entries_command purge_entries_seen l
 means l (statement.MovementsGone _) = commands purge_journal_text false purge_journal_command purge_journal_seen l
+means l (statement.Act _) = commands act_insert_text false act_insert_command act_insert_seen l
+means l (statement.ActsGone _) = commands purge_acts_text false purge_acts_command purge_acts_seen l

@@ -11,9 +11,9 @@ use Rattle.sqlite_keyed.proofs.ListLemmas.{all_weaker, map_back}
 use Rattle.sqlite.specs.Effect.{Database, IsDatabase}
 use Rattle.sql_schema.specs.declared.layout.Layout.{Layout}
 use Rattle.sql_schema.specs.declared.layout.Layout.TheVariants.{Made, Moved}
-use Rattle.sql_schema.specs.Schema.{book_schema, version_now, book_tree, sequence_tree, matter_tree, seat_tree, entry_tree, journal_tree, firm_line_tree, exception_tree, balance_tree}
-use Rattle.sql_tables.specs.Standing.{Holds, Stands, KeepsOthers, Changed, versions_in, HeadsHold, SeatsHold, EntriesHold, MovementsHold, FirmLinesHold, ExceptionsHold, BalancesHold}
-use Rattle.sql_tables.specs.Rows.{Head, head_row, head_in, Seat, seat_row, seat_in, Entry, entry_row, entry_in, Movement, movement_row, movement_in, FirmLine, firm_line_row, firm_line_in, Exception, exception_row, exception_in, Balance, balance_row, balance_in}
+use Rattle.sql_schema.specs.Schema.{book_schema, version_now, book_tree, sequence_tree, matter_tree, seat_tree, entry_tree, journal_tree, firm_line_tree, exception_tree, balance_tree, act_tree}
+use Rattle.sql_tables.specs.Standing.{Holds, Stands, KeepsOthers, Changed, versions_in, HeadsHold, SeatsHold, EntriesHold, MovementsHold, FirmLinesHold, ExceptionsHold, BalancesHold, ActsHold}
+use Rattle.sql_tables.specs.Rows.{Head, head_row, head_in, Seat, seat_row, seat_in, Entry, entry_row, entry_in, Movement, movement_row, movement_in, FirmLine, firm_line_row, firm_line_in, Exception, exception_row, exception_in, Balance, balance_row, balance_in, Act, act_row, act_in}
 use Rattle.sql_tables.specs.Lists.{Lists, lists_in}
 use Rattle.sql_tables.proofs.KindLemmas.{Put}
 
@@ -27,6 +27,7 @@ record Seen : Type 0 where
   pub firm_lines : List Row
   pub exceptions : List Row
   pub balances : List Row
+  pub acts : List Row
 
 abbrev seen : Layout → Trees → Seen
 seen l db = record {
@@ -38,6 +39,7 @@ seen l db = record {
   firm_lines = db (firm_line_tree l);
   exceptions = db (exception_tree l);
   balances = db (balance_tree l);
+  acts = db (act_tree l);
 }
 
 abbrev lists_of : Seen → Lists
@@ -49,6 +51,7 @@ lists_of s = record {
   firm_lines = map firm_line_in s.firm_lines;
   exceptions = map exception_in s.exceptions;
   balances = map balance_in s.balances;
+  acts = map act_in s.acts;
 }
 
 -- those of each hold the records of its kind
@@ -60,6 +63,7 @@ record AreHeld (s : Seen) : Type 0 where
   pub firm_lines : FirmLinesHold s.firm_lines
   pub exceptions : ExceptionsHold s.exceptions
   pub balances : BalancesHold s.balances
+  pub acts : ActsHold s.acts
 
 -- the tables with the rows of one of them changed
 abbrev pub with_rows : Trees → ℕ → List Row → Trees
@@ -95,6 +99,7 @@ others_kept Made tree db next o = let k = each_kept Made tree db next o in λ i.
   firm_lines = k.1.1.1.1.1.1.0 refl i;
   exceptions = k.1.1.1.1.1.1.1.0 refl i;
   balances = k.1.1.1.1.1.1.1.1.0 refl i;
+  acts = k.1.1.1.1.1.1.1.1.1.0 refl i;
 }
 others_kept Moved tree db next o = let k = each_kept Moved tree db next o in λ i. record {
   book = k.0 refl i;
@@ -105,6 +110,7 @@ others_kept Moved tree db next o = let k = each_kept Moved tree db next o in λ 
   firm_lines = k.1.1.1.1.1.1.0 refl i;
   exceptions = k.1.1.1.1.1.1.1.0 refl i;
   balances = k.1.1.1.1.1.1.1.1.0 refl i;
+  acts = k.1.1.1.1.1.1.1.1.1.1.1.1.0 refl i;
 }
 
 -- only the rows of that table are others
@@ -116,8 +122,9 @@ rows_put : (l : Layout) (db : Trees) (rows : List Row)
     × (seen l (with_rows db (firm_line_tree l) rows) ≡ record (seen l db) { firm_lines = rows })
     × (seen l (with_rows db (exception_tree l) rows) ≡ record (seen l db) { exceptions = rows })
     × (seen l (with_rows db (balance_tree l) rows) ≡ record (seen l db) { balances = rows })
-rows_put Made db rows = (refl, refl, refl, refl, refl, refl, refl)
-rows_put Moved db rows = (refl, refl, refl, refl, refl, refl, refl)
+    × (seen l (with_rows db (act_tree l) rows) ≡ record (seen l db) { acts = rows })
+rows_put Made db rows = (refl, refl, refl, refl, refl, refl, refl, refl)
+rows_put Moved db rows = (refl, refl, refl, refl, refl, refl, refl, refl)
 
 -- rows that stand for a list, with rising keys
 pub now_read : {X : Type 0} {to_row : X → Row} (of_row : Row → X) (back : (x : X) → of_row (to_row x) ≡ x)
@@ -190,3 +197,9 @@ module _ (l : Layout) {db next : Database} (s : Stands l db) where
   balances_did p =
       alone balance_in (λ _. refl) (λ xs. record (lists_in l db.trees) { balances = xs }) p
       (rows_put l db.trees (next.trees (balance_tree l))).6 refl refl (λ held. assumption (held, s))
+
+  pub acts_did : {now : List Act} → Put l (act_tree l) act_row (λ (x : Act). x.seq) now db next
+      → IsAlone l (act_tree l) act_row now (record (lists_in l db.trees) { acts = now }) db next
+  acts_did p =
+      alone act_in (λ _. refl) (λ xs. record (lists_in l db.trees) { acts = xs }) p
+      (rows_put l db.trees (next.trees (act_tree l))).7 refl refl (λ held. assumption (held, s))

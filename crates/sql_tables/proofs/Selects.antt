@@ -1,7 +1,6 @@
 -- A SELECT has no RETURNING, whatever tables there are.
 use Rattle.sql_tables.proofs.Names.{◌≡◌, ℕ, Bool, true, if◌then◌else◌, List, None, Ok, Err, Command, Schema, Trees, Row, understood, reads_listing, is_select, if_select, listing_schema, State, CommitsShowing, is_selection, selects, IsSelect, arith, ints, nat_tests}
 use Rattle.sqlite_ast.specs.declared.Statement.{Statement}
-use Rattle.sqlite_ast.specs.declared.Statement.TheVariants as written
 use Rattle.sqlite_syntax.specs.declared.statement.Parsed.{Parsed}
 use Rattle.sqlite_resolve.specs.Compile.{first, planned, meaning, returning, small, with_command, compiled}
 use Rattle.sqlite_resolve.specs.declared.compiled.Compiled.{Compiled}

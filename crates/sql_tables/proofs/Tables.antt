@@ -1,18 +1,20 @@
 -- What each statement makes of the lists that the tables hold.
-use Rattle.sql_tables.proofs.Names.{all_of, all_weaker, ◌≡◌, ℤ, ◌<ℤ◌, false, ◌∷◌, slice_get, None, Some, inl, inr, refl, ap, arith, int_eq, ints, Null, Eq, cast_row, with_rowid, Chosen, conflicts, Has, next_key, at_ints, at_texts, then_term, last_term, sequence, State, Layout, Stands, book_schema, matter_tree, matter_place, matter_table, seat_place, seat_table, entry_place, entry_table, journal_place, journal_table, firm_line_place, firm_line_table, exception_place, exception_table, balance_place, balance_table, sequence_table, Head, head_row, heads_in, is_head, with_totals, with_closing, with_purge, is_seat_of, is_seat, Entry, entry_values, entry_row, entries_in, is_entry_of, is_entry_at, is_entry, with_left, is_movement_of, Exception, exception_row, exceptions_in, is_exception, IsDatabase, Database, Does, Int, balance_values, exception_values, firm_line_values, head_shown, movement_values, seat_values, nat_tests}
+use Rattle.sql_tables.proofs.Names.{all_of, all_weaker, ◌≡◌, ◌≢◌, ℤ, ◌<ℤ◌, false, ◌∷◌, slice_get, None, Some, inl, inr, refl, ap, arith, int_eq, ints, Null, Eq, cast_row, with_rowid, Chosen, conflicts, Has, next_key, at_ints, at_texts, then_term, last_term, sequence, State, Layout, Stands, book_schema, matter_tree, matter_place, matter_table, seat_place, seat_table, entry_place, entry_table, journal_place, journal_table, firm_line_place, firm_line_table, exception_place, exception_table, balance_place, balance_table, sequence_table, Head, head_row, heads_in, is_head, with_totals, with_closing, with_purge, is_seat_of, is_seat, Entry, entry_values, entry_row, entries_in, is_entry_of, is_entry_at, is_entry, with_left, is_movement_of, Exception, exception_row, exceptions_in, is_exception, IsDatabase, Database, Does, Int, balance_values, exception_values, firm_line_values, head_shown, movement_values, seat_values, nat_tests}
 use Rattle.std.proofs.Math.Bool.{and-true, or-false}
 use Rattle.sqlite_value.specs.Keys.{first_key}
 use Rattle.sqlite_schema.specs.Names.{same_name}
 use Rattle.sql_tables.specs.declared.statements.SqlStatement.{SqlStatement}
 use Rattle.sql_tables.specs.declared.statements.SqlStatement.TheVariants as statement
-use Rattle.sql_tables.specs.Given.{head_given, seat_given, entry_given, movement_given, firm_line_given, exception_given, balance_given}
+use Rattle.sql_tables.specs.Given.{head_given, seat_given, entry_given, movement_given, firm_line_given, exception_given, balance_given, act_given}
+use Rattle.sql_schema.specs.Schema.{act_place, act_table, act_tree, sequence_tree}
+use Rattle.sql_tables.specs.Rows.{act_values, is_act_of}
 use Rattle.sql_tables.specs.Lists.{lists_in, IsStep}
 use Rattle.sql_schema.specs.declared.layout.Layout.TheVariants.{Made, Moved}
 use Rattle.sql_tables.proofs.Casts.{row_kept, below_next}
 pub use Rattle.sql_tables.proofs.KindLemmas.{idle}
 use Rattle.sql_tables.proofs.KindLemmas.{Ran, set, deleted, replaces, last_row, adds, adds_or_not, counts}
 use Rattle.sql_tables.proofs.Means.{means}
-use Rattle.sql_tables.proofs.Others.{heads_did, seats_did, entries_did, movements_did, firm_lines_did, exceptions_did, balances_did}
+use Rattle.sql_tables.proofs.Others.{heads_did, seats_did, entries_did, movements_did, firm_lines_did, exceptions_did, balances_did, acts_did}
 
 -- ---- where each table stands
 
@@ -37,6 +39,9 @@ exception_at = elim [ Made ↦ refl | Moved ↦ refl ]
 balance_at : (l : Layout) → slice_get (book_schema l).tables (balance_place l) ≡ Some (balance_table l)
 balance_at = elim [ Made ↦ refl | Moved ↦ refl ]
 
+act_at : (l : Layout) → slice_get (book_schema l).tables (act_place l) ≡ Some (act_table l)
+act_at = elim [ Made ↦ refl | Moved ↦ refl ]
+
 listed : (l : Layout) → sequence (book_schema l) ≡ Some (sequence_table l)
 unfolding same_name
 listed = elim [ Made ↦ refl | Moved ↦ refl ]
@@ -46,6 +51,13 @@ has_journal = elim [ Made ↦ inr (inr (inr (inr (inl refl)))) | Moved ↦ inr (
 
 has_firm_line : (l : Layout) → Has (book_schema l).tables (firm_line_table l)
 has_firm_line = elim [ Made ↦ inr (inr (inr (inr (inr (inr (inl refl)))))) | Moved ↦ inr (inr (inr (inr (inr (inr (inl refl)))))) ]
+
+has_act : (l : Layout) → Has (book_schema l).tables (act_table l)
+has_act = elim [ Made ↦ inr (inr (inr (inr (inr (inr (inr (inr (inr (inl refl))))))))) | Moved ↦ inr (inr (inr (inr (inr (inr (inr (inr (inr (inr (inr (inr (inl refl)))))))))))) ]
+
+not_sequence : (l : Layout) → act_tree l ≢ sequence_tree l
+not_sequence Made e = omega (arith, e)
+not_sequence Moved e = omega (arith, e)
 
 -- ---- the rows that a new one meets
 
@@ -148,3 +160,10 @@ did l old new st (statement.EntriesGone m) r =
 did l old new st (statement.MovementsGone m) r =
     movements_did l st (deleted r (journal_place l) (journal_at l) st.movements (λ _. refl) refl refl _ (means l (statement.MovementsGone m))
     (is_movement_of m) (λ x. last_term (at_ints false Eq x.matter m)))
+did l old new st (statement.Act a) r =
+    let it = counts r (act_place l) (act_at l) st.acts (λ _. refl) refl refl (λ k. record (act_given a) { seq = k })
+    (Null ∷ act_values (act_given a)) (λ _. refl) (λ _. refl) refl _ _ (means l (statement.Act a)) refl (listed l) refl (has_act l) (not_sequence l) in
+    grind (arith, ints, nat_tests, acts_did)
+did l old new st (statement.ActsGone m) r =
+    acts_did l st (deleted r (act_place l) (act_at l) st.acts (λ _. refl) refl refl _ (means l (statement.ActsGone m))
+    (is_act_of m) (λ x. last_term (at_ints false Eq x.matter m)))

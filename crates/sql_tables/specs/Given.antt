@@ -4,10 +4,11 @@ use Rattle.sql_tables.specs.declared.columns.HeadColumns.{HeadColumns}
 use Rattle.sql_tables.specs.declared.columns.SeatColumns.{SeatColumns}
 use Rattle.sql_tables.specs.declared.columns.EntryColumns.{EntryColumns}
 use Rattle.sql_tables.specs.declared.columns.MovementColumns.{MovementColumns}
+use Rattle.sql_tables.specs.declared.columns.ActColumns.{ActColumns}
 use Rattle.sql_tables.specs.declared.columns.FirmLineColumns.{FirmLineColumns}
 use Rattle.sql_tables.specs.declared.columns.ExceptionColumns.{ExceptionColumns}
 use Rattle.sql_tables.specs.declared.columns.BalanceColumns.{BalanceColumns}
-use Rattle.sql_tables.specs.Rows.{Head, Seat, Entry, Movement, FirmLine, Exception, Balance}
+use Rattle.sql_tables.specs.Rows.{Head, Seat, Entry, Movement, FirmLine, Exception, Balance, Act}
 
 abbrev pub head_given : HeadColumns → Head
 head_given h = record {
@@ -53,6 +54,18 @@ entry_given n = record {
 
 abbrev pub movement_given : MovementColumns → Movement
 movement_given m = record { seq = pos 0; matter = m.matter; entry = m.entry; day = m.day; amount = m.amount }
+
+abbrev pub act_given : ActColumns → Act
+act_given a = record {
+  seq = pos 0;
+  matter = a.matter;
+  entry = a.entry;
+  day = a.day;
+  deed = a.deed;
+  caller = a.caller.now;
+  text = a.text.now;
+  number = a.number;
+}
 
 abbrev pub firm_line_given : FirmLineColumns → FirmLine
 firm_line_given f = record { seq = pos 0; day = f.day; bank_ref = f.bank_ref.now; amount = f.amount; text = f.text.now }

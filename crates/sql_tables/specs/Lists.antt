@@ -5,8 +5,8 @@ use Rattle.sqlite_keyed.specs.Lists.{delete_where}
 use Rattle.sql_schema.specs.declared.layout.Layout.{Layout}
 use Rattle.sql_tables.specs.declared.statements.SqlStatement.{SqlStatement}
 use Rattle.sql_tables.specs.declared.statements.SqlStatement.TheVariants as statement
-use Rattle.sql_tables.specs.Rows.{Head, heads_in, put_head, with_totals, with_closing, with_purge, change_head, Seat, seats_in, add_seat, is_seat, is_seat_of, Entry, entries_in, put_entry, put_left, is_entry_of, Movement, movements_in, is_movement_of, FirmLine, firm_lines_in, Exception, exceptions_in, note_exception, is_exception, Balance, balances_in, add_balance}
-use Rattle.sql_tables.specs.Given.{head_given, seat_given, entry_given, movement_given, firm_line_given, exception_given, balance_given}
+use Rattle.sql_tables.specs.Rows.{Head, heads_in, put_head, with_totals, with_closing, with_purge, change_head, Seat, seats_in, add_seat, is_seat, is_seat_of, Entry, entries_in, put_entry, put_left, is_entry_of, Movement, movements_in, is_movement_of, FirmLine, firm_lines_in, Exception, exceptions_in, note_exception, is_exception, Balance, balances_in, add_balance, Act, acts_in, is_act_of}
+use Rattle.sql_tables.specs.Given.{head_given, seat_given, entry_given, movement_given, firm_line_given, exception_given, balance_given, act_given}
 
 pub record Lists : Type 0 where
   pub heads : List Head
@@ -16,6 +16,7 @@ pub record Lists : Type 0 where
   pub firm_lines : List FirmLine
   pub exceptions : List Exception
   pub balances : List Balance
+  pub acts : List Act
 
 abbrev pub lists_in : Layout → Trees → Lists
 lists_in l db = record {
@@ -26,6 +27,7 @@ lists_in l db = record {
   firm_lines = firm_lines_in l db;
   exceptions = exceptions_in l db;
   balances = balances_in l db;
+  acts = acts_in l db;
 }
 
 -- how an SQL statement changes the lists; a table with AUTOINCREMENT gives a new row its own number
@@ -49,6 +51,9 @@ IsStep (statement.Balance b) a c = c ≡ record a { balances = add_balance (bala
 IsStep (statement.SeatsGone m) a b = b ≡ record a { seats = delete_where (is_seat_of m) a.seats }
 IsStep (statement.EntriesGone m) a b = b ≡ record a { entries = delete_where (is_entry_of m) a.entries }
 IsStep (statement.MovementsGone m) a b = b ≡ record a { movements = delete_where (is_movement_of m) a.movements }
+IsStep (statement.Act x) a b =
+    (seq : ℤ) × (b ≡ record a { acts = a.acts ++ record (act_given x) { seq = seq } ∷ [] })
+IsStep (statement.ActsGone m) a b = b ≡ record a { acts = delete_where (is_act_of m) a.acts }
 
 -- the SQL statements, one after the other
 abbrev pub AreSteps : List SqlStatement → Lists → Lists → Type 0

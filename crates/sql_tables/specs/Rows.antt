@@ -11,7 +11,7 @@ use Rattle.sqlite_rules.specs.Edit.{id_in}
 use Rattle.sqlite_keyed.specs.Lists.{sort_by, update_where, delete_where}
 use Rattle.sqlite_keyed.specs.Keyed.{insert_by, next_key}
 use Rattle.sql_schema.specs.declared.layout.Layout.{Layout}
-use Rattle.sql_schema.specs.Schema.{matter_tree, seat_tree, entry_tree, journal_tree, firm_line_tree, exception_tree, balance_tree}
+use Rattle.sql_schema.specs.Schema.{matter_tree, seat_tree, entry_tree, journal_tree, firm_line_tree, exception_tree, balance_tree, act_tree}
 use Rattle.sql_tables.specs.declared.columns.TotalsColumns.{TotalsColumns}
 
 -- compares texts byte by byte
@@ -287,6 +287,42 @@ movements_in l db = map movement_in (db (journal_tree l))
 
 abbrev pub is_movement_of : ℤ → Movement → Bool
 is_movement_of matter m = int_eq m.matter matter
+
+-- ---- an act of a matter
+
+pub record Act : Type 0 where
+  pub seq : ℤ
+  pub matter : ℤ
+  pub entry : ℤ
+  pub day : ℤ
+  pub deed : ℤ
+  pub caller : List ℕ
+  pub text : List ℕ
+  pub number : ℤ
+
+abbrev pub act_values : Act → Row
+act_values a = Int a.matter ∷ Int a.entry ∷ Int a.day ∷ Int a.deed ∷ Text a.caller ∷ Text a.text ∷ Int a.number ∷ []
+
+abbrev pub act_row : Act → Row
+act_row a = Int a.seq ∷ Null ∷ act_values a
+
+abbrev pub act_in : Row → Act
+act_in r = record {
+  seq = id_in (column r 0);
+  matter = id_in (column r 2);
+  entry = id_in (column r 3);
+  day = id_in (column r 4);
+  deed = id_in (column r 5);
+  caller = bytes (column r 6);
+  text = bytes (column r 7);
+  number = id_in (column r 8);
+}
+
+abbrev pub acts_in : Layout → Trees → List Act
+acts_in l db = map act_in (db (act_tree l))
+
+abbrev pub is_act_of : ℤ → Act → Bool
+is_act_of matter a = int_eq a.matter matter
 
 -- ---- a line of the firm's own ledger
 

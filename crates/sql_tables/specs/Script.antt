@@ -9,14 +9,14 @@ use Rattle.sqlite.specs.Effect.{Database, IsDatabase}
 use Rattle.sqlite.specs.State.{State, Executes}
 use Rattle.sqlite.specs.Held.{Held, state}
 use Rattle.sql_schema.specs.declared.layout.Layout.{Layout}
-use Rattle.sql_schema.specs.Schema.{matter_tree, seat_tree, entry_tree, journal_tree, firm_line_tree, exception_tree, balance_tree}
+use Rattle.sql_schema.specs.Schema.{matter_tree, seat_tree, entry_tree, journal_tree, firm_line_tree, exception_tree, balance_tree, act_tree}
 use Rattle.sql_tables.specs.declared.statements.SqlStatement.{SqlStatement}
 use Rattle.sql_tables.specs.declared.statements.SqlStatement.TheVariants as statement
-use Rattle.sql_tables.specs.Rows.{head_row, head_values, heads_in, put_head, totals_values, with_totals, with_closing, with_purge, change_head, seat_row, seat_values, seats_in, add_seat, is_seat, is_seat_of, entry_row, entry_values, entries_in, put_entry, put_left, is_entry_of, Movement, movement_row, movement_values, movements_in, is_movement_of, FirmLine, firm_line_row, firm_line_values, firm_lines_in, exception_row, exception_values, exceptions_in, note_exception, is_exception, balance_row, balance_values, balances_in, add_balance}
+use Rattle.sql_tables.specs.Rows.{head_row, head_values, heads_in, put_head, totals_values, with_totals, with_closing, with_purge, change_head, seat_row, seat_values, seats_in, add_seat, is_seat, is_seat_of, entry_row, entry_values, entries_in, put_entry, put_left, is_entry_of, Movement, movement_row, movement_values, movements_in, is_movement_of, FirmLine, firm_line_row, firm_line_values, firm_lines_in, exception_row, exception_values, exceptions_in, note_exception, is_exception, balance_row, balance_values, balances_in, add_balance, Act, act_row, act_values, acts_in, is_act_of}
 use Rattle.sql_tables.specs.Standing.{Stands, Changed, Counted}
-use Rattle.sql_tables.specs.Given.{head_given, seat_given, entry_given, movement_given, firm_line_given, exception_given, balance_given}
+use Rattle.sql_tables.specs.Given.{head_given, seat_given, entry_given, movement_given, firm_line_given, exception_given, balance_given, act_given}
 use Rattle.sql_tables.specs.Lists.{lists_in, AreSteps}
-use Rattle.sql_tables.specs.Texts.{head_write_text, totals_write_text, closed_write_text, purged_write_text, seat_insert_text, seat_delete_text, entry_write_text, left_write_text, journal_insert_text, firm_insert_text, exception_insert_text, exception_delete_text, balance_insert_text, purge_seats_text, purge_entries_text, purge_journal_text}
+use Rattle.sql_tables.specs.Texts.{head_write_text, totals_write_text, closed_write_text, purged_write_text, seat_insert_text, seat_delete_text, entry_write_text, left_write_text, journal_insert_text, firm_insert_text, exception_insert_text, exception_delete_text, balance_insert_text, purge_seats_text, purge_entries_text, purge_journal_text, act_insert_text, purge_acts_text}
 
 -- an SQL text and its parameters
 pub record Call : Type 0 where
@@ -43,6 +43,8 @@ call_of (statement.Balance b) = record { text = balance_insert_text; params = ba
 call_of (statement.SeatsGone m) = record { text = purge_seats_text; params = Int m ∷ [] }
 call_of (statement.EntriesGone m) = record { text = purge_entries_text; params = Int m ∷ [] }
 call_of (statement.MovementsGone m) = record { text = purge_journal_text; params = Int m ∷ [] }
+call_of (statement.Act a) = record { text = act_insert_text; params = act_values (act_given a) }
+call_of (statement.ActsGone m) = record { text = purge_acts_text; params = Int m ∷ [] }
 
 abbrev pub calls_of : List SqlStatement → List Call
 calls_of = map call_of
@@ -89,6 +91,10 @@ Does l (statement.EntriesGone m) db = Changed l (entry_tree l) entry_row
     (delete_where (is_entry_of m) (entries_in l db.trees)) db
 Does l (statement.MovementsGone m) db = Changed l (journal_tree l) movement_row
     (delete_where (is_movement_of m) (movements_in l db.trees)) db
+Does l (statement.Act a) db = Counted l (act_tree l) act_row (λ (x : Act). x.seq)
+    (acts_in l db.trees) (λ seq. record (act_given a) { seq = seq }) db
+Does l (statement.ActsGone m) db = Changed l (act_tree l) act_row
+    (delete_where (is_act_of m) (acts_in l db.trees)) db
 
 -- the SQL statements, one after the other
 abbrev pub DoesAll : Layout → List SqlStatement → Database → Database → Type 0

@@ -8,8 +8,8 @@ use Rattle.sqlite_trees.specs.Tree.{Trees}
 use Rattle.sqlite_keyed.specs.Keyed.{IsKeyedBy}
 use Rattle.sqlite.specs.Effect.{Database, IsDatabase}
 use Rattle.sql_schema.specs.declared.layout.Layout.{Layout}
-use Rattle.sql_schema.specs.Schema.{book_schema, version_now, book_tree, matter_tree, seat_tree, entry_tree, journal_tree, sequence_tree, firm_line_tree, exception_tree, balance_tree}
-use Rattle.sql_tables.specs.Rows.{Head, head_row, head_in, Seat, seat_row, seat_in, Entry, entry_row, entry_in, Movement, movement_row, movement_in, FirmLine, firm_line_row, firm_line_in, Exception, exception_row, exception_in, Balance, balance_row, balance_in}
+use Rattle.sql_schema.specs.Schema.{book_schema, version_now, book_tree, matter_tree, seat_tree, entry_tree, journal_tree, sequence_tree, firm_line_tree, exception_tree, balance_tree, act_tree}
+use Rattle.sql_tables.specs.Rows.{Head, head_row, head_in, Seat, seat_row, seat_in, Entry, entry_row, entry_in, Movement, movement_row, movement_in, FirmLine, firm_line_row, firm_line_in, Exception, exception_row, exception_in, Balance, balance_row, balance_in, Act, act_row, act_in}
 
 -- the rows are exactly those of some records, in rowid order
 pub record Holds {X : Type 0} (to_row : X → Row) (of_row : Row → X) (key : X → ℤ) (rows : List Row) : Type 0 where
@@ -37,6 +37,9 @@ ExceptionsHold = Holds exception_row exception_in (λ (x : Exception). x.id)
 abbrev pub BalancesHold : List Row → Type 0
 BalancesHold = Holds balance_row balance_in (λ (x : Balance). x.id)
 
+abbrev pub ActsHold : List Row → Type 0
+ActsHold = Holds act_row act_in (λ (x : Act). x.seq)
+
 -- the version in each row of the table `book`
 abbrev pub versions_in : Layout → Trees → List Value
 versions_in l db = map (λ (r : Row). column r 1) (db (book_tree l))
@@ -53,6 +56,7 @@ pub record Stands (l : Layout) (db : Database) : Type 0 where
   pub firm_lines : FirmLinesHold (db.trees (firm_line_tree l))
   pub exceptions : ExceptionsHold (db.trees (exception_tree l))
   pub balances : BalancesHold (db.trees (balance_tree l))
+  pub acts : ActsHold (db.trees (act_tree l))
 
 -- every other table is unchanged, except the database's own table of counts
 abbrev pub KeepsOthers : Layout → ℕ → Database → Database → Type 0

@@ -11,7 +11,7 @@ use Rattle.sqlite_schema.specs.declared.command.Source.TheVariants.{Values}
 use Rattle.sqlite_schema.specs.declared.command.Command.{Command}
 use Rattle.sqlite_schema.specs.declared.command.Command.TheVariants.{Insert, InsertOr, Update, Delete}
 use Rattle.sql_schema.specs.declared.layout.Layout.{Layout}
-use Rattle.sql_schema.specs.Schema.{matter_tree, matter_place, seat_tree, seat_place, entry_tree, entry_place, journal_tree, journal_place, firm_line_tree, firm_line_place, exception_tree, exception_place, balance_tree, balance_place}
+use Rattle.sql_schema.specs.Schema.{matter_tree, matter_place, seat_tree, seat_place, entry_tree, entry_place, journal_tree, journal_place, firm_line_tree, firm_line_place, exception_tree, exception_place, balance_tree, balance_place, act_tree, act_place}
 
 abbrev pub head_read_text : List ℕ
 head_read_text =
@@ -502,3 +502,52 @@ purge_journal_query l = record {
 
 abbrev pub purge_journal_command : Layout → Command
 purge_journal_command l = Delete (journal_place l) (record { lets = []; body = purge_journal_query l })
+
+abbrev pub act_scan_text : List ℕ
+act_scan_text = codes "SELECT matter, entry, day, deed, caller, text, number FROM trail ORDER BY seq"
+
+abbrev pub act_scan_query : Layout → Query
+act_scan_query l = record {
+  from = inner (act_tree l) end;
+  filter = [];
+  group = None;
+  project = col 1 2 ∷ col 1 3 ∷ col 1 4 ∷ col 1 5 ∷ col 1 6 ∷ col 1 7 ∷ col 1 8 ∷ [];
+  distinct = false;
+  collations = [];
+  order = (col 1 0, record { collation = Binary; descending = false }) ∷ [];
+  limit = lit (Int (negsuc 0));
+  offset = lit (Int (pos 0));
+}
+
+abbrev pub act_scan_names : List (List ℕ)
+act_scan_names = codes "matter" ∷ codes "entry" ∷ codes "day" ∷ codes "deed" ∷ codes "caller" ∷ codes "text" ∷
+    codes "number" ∷ []
+
+abbrev pub act_insert_text : List ℕ
+act_insert_text =
+    codes "INSERT INTO trail (matter, entry, day, deed, caller, text, number) VALUES (?1, ?2, ?3, ?4, ?5, ?6, ?7)"
+
+abbrev pub act_insert_terms : List Term
+act_insert_terms = lit Null ∷ lit Null ∷ col 0 0 ∷ col 0 1 ∷ col 0 2 ∷ col 0 3 ∷ col 0 4 ∷ col 0 5 ∷ col 0 6 ∷ []
+
+abbrev pub act_insert_command : Layout → Command
+act_insert_command l = Insert (act_place l) (Values act_insert_terms 9)
+
+abbrev pub purge_acts_text : List ℕ
+purge_acts_text = codes "DELETE FROM trail WHERE matter = ?1"
+
+abbrev pub purge_acts_query : Layout → Query
+purge_acts_query l = record {
+  from = inner (act_tree l) end;
+  filter = op2 (Compare Eq Binary) (col 1 2) (col 0 0) ∷ [];
+  group = None;
+  project = col 1 0 ∷ [];
+  distinct = false;
+  collations = [];
+  order = [];
+  limit = lit (Int (negsuc 0));
+  offset = lit (Int (pos 0));
+}
+
+abbrev pub purge_acts_command : Layout → Command
+purge_acts_command l = Delete (act_place l) (record { lets = []; body = purge_acts_query l })

@@ -86,6 +86,18 @@ pub struct MovementColumns {
     pub amount: i64,
 }
 
+/// The columns of an act of a matter. The table numbers its rows itself.
+#[derive(Clone, Copy)]
+pub struct ActColumns<'a> {
+    pub matter: i64,
+    pub entry: i64,
+    pub day: i64,
+    pub deed: i64,
+    pub caller: &'a [u8],
+    pub text: &'a [u8],
+    pub number: i64,
+}
+
 /// The columns of a line of the firm's own ledger. The table numbers its rows itself.
 #[derive(Clone, Copy)]
 pub struct FirmLineColumns<'a> {

@@ -16,7 +16,7 @@ pub mod columns;
 pub mod statements;
 
 pub use columns::{
-    BalanceColumns, EntryColumns, ExceptionColumns, FirmLineColumns, HeadColumns, LeftColumns,
-    MatterDay, MovementColumns, SeatColumns, SeatName, TotalsColumns,
+    ActColumns, BalanceColumns, EntryColumns, ExceptionColumns, FirmLineColumns, HeadColumns,
+    LeftColumns, MatterDay, MovementColumns, SeatColumns, SeatName, TotalsColumns,
 };
 pub use statements::{SqlStatement, write};

@@ -11,8 +11,8 @@ ghost use Rattle.sql_tables.specs.Performing.{IsPerformed};
 ghost use Rattle.sql_tables.specs.Standing.{Stands};
 
 use crate::columns::{
-    BalanceColumns, EntryColumns, ExceptionColumns, FirmLineColumns, HeadColumns, LeftColumns,
-    MatterDay, MovementColumns, SeatColumns, SeatName, TotalsColumns,
+    ActColumns, BalanceColumns, EntryColumns, ExceptionColumns, FirmLineColumns, HeadColumns,
+    LeftColumns, MatterDay, MovementColumns, SeatColumns, SeatName, TotalsColumns,
 };
 use sqlite::{Alter, Connection, Error, Transaction};
 use sqlite_value::value::ValueRef;
@@ -52,6 +52,10 @@ pub enum SqlStatement<'a> {
     EntriesGone(i64),
     /// No movement of this matter.
     MovementsGone(i64),
+    /// This act, after the others.
+    Act(ActColumns<'a>),
+    /// No act of this matter.
+    ActsGone(i64),
 }
 
 // Executes an SQL text with these values, each after its kind.
@@ -120,6 +124,11 @@ fn perform<S: Alter>(
             execute![tx, "DELETE FROM entry_v2 WHERE matter = ?1", Int matter],
         SqlStatement::MovementsGone(matter) =>
             execute![tx, "DELETE FROM journal WHERE matter = ?1", Int matter],
+        SqlStatement::Act(a) => execute![tx,
+            "INSERT INTO trail (matter, entry, day, deed, caller, text, number) VALUES (?1, ?2, ?3, ?4, ?5, ?6, ?7)",
+            Int a.matter, Int a.entry, Int a.day, Int a.deed, Text a.caller, Text a.text, Int a.number],
+        SqlStatement::ActsGone(matter) =>
+            execute![tx, "DELETE FROM trail WHERE matter = ?1", Int matter],
     }
 }
 

@@ -14,10 +14,12 @@ use Rattle.sqlite.specs.Files.{IsOpened, file_state, image_of, over_files}
 use Rattle.sqlite.specs.Held.{Held}
 use Rattle.sqlite.specs.Start.{FindsIn}
 use Rattle.trust_store.specs.Crashes.{LeavesAlone}
+use Rattle.sql_schema.specs.declared.layout.Layout.{Layout}
 use Rattle.sql_making.specs.Books.{no_schema}
+use Rattle.sql_book.specs.Bare.{firm_bare}
 use Rattle.sql_book.specs.Books.{HeldBook, firm_of, IsServing, IsStanding, IsSure, IsLasting, MayLeave}
 use Rattle.sql_book.specs.Opening.{IsMade, IsTaken}
-use Rattle.sql_book.specs.Stops.{IsNext, IsOldStanding, IsLeftInMoving, IsOfFirm}
+use Rattle.sql_book.specs.Stops.{IsNext, IsOldStanding, IsBareStanding, IsLeftInTaking, IsOfFirm}
 use Rattle.sql_book.specs.Then.{firm_then}
 
 -- the contents of two files of which nothing is known: those that the kit's `Unknown` stands for
@@ -85,5 +87,14 @@ module _ {D E : Type 0} (g : disk.Ghosts D) (h : disk.Ghosts E) where
   StoppedMovesAreFound =
       (db : Database) (before : Held (FileStore D g)) (image : Image) (next : BookOf h)
       → IsTrue (view before.store).is_numbered → (state before.store).may_leave image → IsOldStanding db
-      → ((trees : Trees) → (file_state before).may_leave trees → IsLeftInMoving db trees)
+      → ((trees : Trees) → (file_state before).may_leave trees → IsLeftInTaking db trees)
       → IsFoundIn image next → ∥ IsOfFirm over_files (firm_then db.trees) next ∥₁
+
+  -- if a run stops while it takes a book of this version without the trail, the next run over what is left of its files
+  -- finds a book that stands for the same firm
+  abbrev pub StoppedExtensionsAreFound : Type 0
+  StoppedExtensionsAreFound =
+      (l : Layout) (db : Database) (before : Held (FileStore D g)) (image : Image) (next : BookOf h)
+      → IsTrue (view before.store).is_numbered → (state before.store).may_leave image → IsBareStanding l db
+      → ((trees : Trees) → (file_state before).may_leave trees → IsLeftInTaking db trees)
+      → IsFoundIn image next → ∥ IsOfFirm over_files (firm_bare l db.trees) next ∥₁

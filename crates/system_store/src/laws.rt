@@ -1,6 +1,6 @@
 //! Laws about one run over files and the next. Each is the contract of a function that does nothing.
 
-ghost use Rattle.system_store.specs.Runs.{PutBooksAreFound, StoppedBooksAreFound, StoppedMovesAreFound};
+ghost use Rattle.system_store.specs.Runs.{PutBooksAreFound, StoppedBooksAreFound, StoppedMovesAreFound, StoppedExtensionsAreFound};
 ghost use Rattle.system_store.specs.SentAgain.{AsksAreSpentAfterStops, LinesAreOverAfterStops};
 
 use sqlite_disk::Disk;
@@ -22,6 +22,13 @@ pub fn stopped_books_are_found<D: Disk, E: Disk>()
 /// what is left of its files takes a book that stands for the same firm, whether or not the rows had been moved.
 pub fn stopped_moves_are_found<D: Disk, E: Disk>()
     ensures { StoppedMovesAreFound D.Disk E.Disk }
+{}
+
+/// If a run was broken off while it took a book of this version without the trail whose tables stood for a sound firm,
+/// the next run over what is left of its files takes a book that stands for the same firm, whether or not the trail had
+/// been added.
+pub fn stopped_extensions_are_found<D: Disk, E: Disk>()
+    ensures { StoppedExtensionsAreFound D.Disk E.Disk }
 {}
 
 /// What was accepted and acknowledged before a stop adds nothing if it is sent again in a later run, whatever ran in

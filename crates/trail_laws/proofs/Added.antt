@@ -1,5 +1,5 @@
 -- Which steps add an act.
-use Rattle.trail_laws.proofs.Names.{Act, Ask, Asked, Bool, Caller, Deed, Edit, Entry, IsApplied, LineEffect, List, None, Option, Dossier, Refusal, Some, [], act_by, acts_after, acts_after_line, after, after_line_effect, ap, append-nil, arith, asked, claim-changes, cond, deed_of, done_by, edit_of, edit_on, entry_at, facts_of, false, false≢true, ints, is_changing, is_missing_for, is_of_another_kind_for, is_purging, is_repeat, is_some, joined_act, line_act, line_on, nat_tests, number_named, option_map, passes, refl, refusal, subst, sym, true, ℕ, ◌++◌, ◌∷◌, ◌≡◌}
+use Rattle.trail_laws.proofs.Names.{Act, Ask, Asked, Bool, Caller, Deed, Edit, Entry, IsApplied, LineEffect, List, None, Option, Dossier, Refusal, Some, [], act_by, acts_after, acts_after_line, after, after_line_effect, ap, arith, asked, claim-changes, cond, deed_of, done_by, edit_of, edit_on, entry_at, facts_of, false, false≢true, ints, is_changing, is_missing_for, is_of_another_kind_for, is_purging, is_repeat, is_some, option_to_list, line_act, line_on, nat_tests, number_named, option_map, passes, refl, refusal, subst, sym, true, ℕ, ◌++◌, ◌∷◌, ◌≡◌}
 use Rattle.matter_parts.specs.declared.edit.Edit.TheVariants as edit
 use Rattle.trust_matter.specs.declared.ask.Ask.TheVariants as ask
 use Rattle.trust_matter.specs.declared.line_verdict.LineEffect.TheVariants as told
@@ -17,7 +17,7 @@ pub refusal-adds-none : RefusalAddsNone
 refusal-adds-none p a is = refused-none p a (refusal p.rows a) (edit_on p.rows a) is
 
 nothing-none : (p : Dossier) (a : Asked) (r : Option Refusal) → dossier-by p a r edit.Nothing ≡ p
-nothing-none p a None = ap (λ (acts : List Act). let q : Dossier = record { rows = p.rows; acts = acts } in q) (append-nil p.acts)
+nothing-none p a None = refl
 nothing-none p a (Some r) = refl
 
 repeat-edit : (b : Bool) (e : Edit) → b ≡ true → cond b edit.Nothing e ≡ edit.Nothing
@@ -66,7 +66,7 @@ one-more acts a edit.Nothing (Some d) is some made = absurd made
 one-more acts a (edit.Purge day) (Some d) is some made = absurd made
 one-more acts a e (Some d) is some made = record {
   act = done_by a d;
-  added = ap (λ (o : Option Deed). acts ++ joined_act (option_map (done_by a) o)) is;
+  added = ap (λ (o : Option Deed). acts ++ option_to_list (option_map (done_by a) o)) is;
   caller = refl;
   day = refl;
   entry = refl;

@@ -24,7 +24,7 @@ pub use Rattle.std.proofs.lemmas.List.Elements.{filter-append}
 pub use Rattle.std.proofs.lemmas.List.Sums.{fold-append}
 pub use Rattle.std.specs.List.{AllByRecursion, filter}
 pub use Rattle.std.specs.Option.{option_map}
-pub use Rattle.std.specs.Prelude.{is_some}
+pub use Rattle.std.specs.Prelude.{is_some, option_to_list}
 pub use Rattle.trust_base.specs.declared.line.Line.{Line}
 pub use Rattle.trust_base.specs.declared.refusal.Refusal.{Refusal}
 pub use Rattle.trust_base.specs.declared.refusal.Rule.{Rule}
@@ -43,4 +43,4 @@ pub use Rattle.trust_matter.specs.declared.ask.Ask.{Ask}
 pub use Rattle.trust_matter.specs.declared.bank_line.BankLine.{BankLine}
 pub use Rattle.trust_matter.specs.declared.line_verdict.DatedEdit.{DatedEdit}
 pub use Rattle.trust_matter.specs.declared.line_verdict.LineEffect.{LineEffect}
-pub use Rattle.trail_laws.specs.Dossier.{Dossier, acts_after, acts_after_line, joined_act, no_dossier, dossier_after_run, dossier_after_step}
+pub use Rattle.trail_laws.specs.Dossier.{Dossier, acts_after, acts_after_line, no_dossier, dossier_after_run, dossier_after_step}

@@ -1,5 +1,5 @@
 -- What each step adds to a matter's acts, seats and issues.
-use Rattle.trail_laws.proofs.Names.{Act, Against, Ask, Asked, BankLine, Bool, Caller, DatedEdit, Deed, Doing, AnAsk, ALine, Edit, Entry, Head, Line, LineEffect, List, None, Option, Dossier, Payment, PaymentState, Refusal, Rows, Seat, Some, [], act_by, after, allows, ap, append-nil, applied-matched, arith, asked, changed_by, cleared_payment, cond, claim_of, deposit_of, payment_of, fee_of, settled, deed_against, deed_of, done_by, edit_of, edited, entry_at, entry_at-append, entry_at-with, eqb, facts_of, false, false≢true, first, fold, has_no_seat, ints, is_not_allowed, is_number, is_in_another_state_for, is_not_yet_closed_for, is_opening, is_proposed_state, is_purging, is_repeat, is_return, is_some, joined_act, last_by, line_act, line_facts, line_on, nat_tests, none-is, none-past, not, not-false, number_named, option_map, dossier_after_step, passes, Passes, refl, refusal, Rule, rule_against, rule_of, seats_after, subst, sym, told_by, true, voided, was_purged, with_entry, ℕ, ◌++◌, ◌∙◌, ◌∷◌, ◌≡◌, ◌&&◌}
+use Rattle.trail_laws.proofs.Names.{Act, Against, Ask, Asked, BankLine, Bool, Caller, DatedEdit, Deed, Doing, AnAsk, ALine, Edit, Entry, Head, Line, LineEffect, List, None, Option, Dossier, Payment, PaymentState, Refusal, Rows, Seat, Some, [], act_by, allows, ap, append-nil, applied-matched, arith, asked, changed_by, cleared_payment, cond, claim_of, deposit_of, payment_of, fee_of, settled, deed_against, deed_of, done_by, edit_of, edited, entry_at, entry_at-append, entry_at-with, eqb, facts_of, false, false≢true, first, fold, has_no_seat, ints, is_not_allowed, is_number, is_in_another_state_for, is_not_yet_closed_for, is_opening, is_proposed_state, is_purging, is_repeat, is_return, is_some, option_to_list, last_by, line_act, line_facts, line_on, nat_tests, none-is, none-past, not, not-false, number_named, option_map, dossier_after_step, passes, Passes, refl, refusal, Rule, rule_against, rule_of, seats_after, subst, sym, told_by, true, voided, was_purged, with_entry, ℕ, ◌++◌, ◌∙◌, ◌∷◌, ◌≡◌, ◌&&◌}
 use Rattle.matter_rows.specs.declared.act.Caller.TheVariants as caller
 use Rattle.matter_rows.specs.declared.act.Deed.TheVariants as deed
 use Rattle.matter_rows.specs.declared.claim.Against.TheVariants as against
@@ -50,26 +50,26 @@ allowed-asked rows a none =
     not-false (allows rows.seats a.caller (rule_of a.ask))
     (third-passes (is_repeat f a) (has_no_seat f a) (was_purged f a) (is_not_allowed f a) _ _ _ _ _ none)
 
-allowed-deed : (seats : List Seat) (a : Asked) (o : Option Deed) → deed_of a.ask ≡ o → allows seats a.caller (rule_of a.ask) ≡ true → AreAllowed seats (joined_act (option_map (done_by a) o))
+allowed-deed : (seats : List Seat) (a : Asked) (o : Option Deed) → deed_of a.ask ≡ o → allows seats a.caller (rule_of a.ask) ≡ true → AreAllowed seats (option_to_list (option_map (done_by a) o))
 allowed-deed seats a None is may = tt
 allowed-deed seats a (Some d) is may =
     let P : Rule → Type 0 = λ r. allows seats a.caller r ≡ true in
     (subst P (sym (rule-is_of_ask a.ask d is)) may, tt)
 
-allowed-act : (seats : List Seat) (a : Asked) (e : Edit) → allows seats a.caller (rule_of a.ask) ≡ true → AreAllowed seats (joined_act (act_by e a))
+allowed-act : (seats : List Seat) (a : Asked) (e : Edit) → allows seats a.caller (rule_of a.ask) ≡ true → AreAllowed seats (option_to_list (act_by e a))
 allowed-act seats a edit.Nothing may = tt
 allowed-act seats a e may = allowed-deed seats a (deed_of a.ask) refl may
 
 -- a matter is opened by an opening alone
-against-opens : (on : Against) (a : Asked) → begins_with_opening (joined_act (option_map (done_by a) (Some (deed_against on)))) ≡ false
+against-opens : (on : Against) (a : Asked) → begins_with_opening (option_to_list (option_map (done_by a) (Some (deed_against on)))) ≡ false
 against-opens (against.General claimant) a = refl
 against-opens (against.Fee k) a = refl
 
-opens-none : (a : Asked) (e : Edit) → begins_with_opening (joined_act (option_map (done_by a) (deed_of a.ask))) ≡ false → begins_with_opening (joined_act (act_by e a)) ≡ false
+opens-none : (a : Asked) (e : Edit) → begins_with_opening (option_to_list (option_map (done_by a) (deed_of a.ask))) ≡ false → begins_with_opening (option_to_list (act_by e a)) ≡ false
 opens-none a edit.Nothing none = refl
 opens-none a e none = none
 
-fresh-asked : (c : Caller) (q : Ask) (day : ℕ) (e : Edit) (head : Option Head) → (is_opening q && is_some head) ≡ false → begins_with_opening (joined_act (act_by e (asked c q day))) ≡ true → head ≡ None
+fresh-asked : (c : Caller) (q : Ask) (day : ℕ) (e : Edit) (head : Option Head) → (is_opening q && is_some head) ≡ false → begins_with_opening (option_to_list (act_by e (asked c q day))) ≡ true → head ≡ None
 fresh-asked c (ask.OpenMatter o) day e head new opens = none-is head new
 fresh-asked c (ask.RaiseClaim g) day e head new opens =
     absurd (false≢true (sym (opens-none (asked c (ask.RaiseClaim g) day) e (against-opens g.against (asked c (ask.RaiseClaim g) day))) ∙ opens))
@@ -78,7 +78,7 @@ fresh-asked c q day e head new opens = absurd (false≢true (sym (opens-none (as
 -- The seats after an ask.
 
 abbrev SeatsFollow : List Seat → Edit → Asked → Type 0
-SeatsFollow seats e a = seats_after seats e ≡ fold seats_by seats (joined_act (act_by e a))
+SeatsFollow seats e a = seats_after seats e ≡ fold seats_by seats (option_to_list (act_by e a))
 
 against-seats : (seats : List Seat) (on : Against) → seats_by_deed seats (deed_against on) ≡ seats
 against-seats seats (against.General claimant) = refl
@@ -106,14 +106,14 @@ issued-kept es k old new n at same = grind (arith, nat_tests, (entry_at-with es 
 -- the acts that an edit is remembered by say which issues are new
 abbrev IssuesFollow : List Entry → Edit → Asked → ℕ → Type 0
 IssuesFollow es e a n =
-    days_of_issue (entry_at (edited es e) n) ≡ days_of_issue (entry_at es n) ++ days_of_approval n (joined_act (act_by e a))
+    days_of_issue (entry_at (edited es e) n) ≡ days_of_issue (entry_at es n) ++ days_of_approval n (option_to_list (act_by e a))
 
 -- what is no approval
-approvals-none : (a : Asked) (e : Edit) (n : ℕ) → days_of_approval n (joined_act (option_map (done_by a) (deed_of a.ask))) ≡ [] → days_of_approval n (joined_act (act_by e a)) ≡ []
+approvals-none : (a : Asked) (e : Edit) (n : ℕ) → days_of_approval n (option_to_list (option_map (done_by a) (deed_of a.ask))) ≡ [] → days_of_approval n (option_to_list (act_by e a)) ≡ []
 approvals-none a edit.Nothing n none = refl
 approvals-none a e n none = none
 
-none-new : (es : List Entry) (e : Edit) (a : Asked) (n : ℕ) → days_of_approval n (joined_act (option_map (done_by a) (deed_of a.ask))) ≡ [] → days_of_issue (entry_at (edited es e) n) ≡ days_of_issue (entry_at es n) → IssuesFollow es e a n
+none-new : (es : List Entry) (e : Edit) (a : Asked) (n : ℕ) → days_of_approval n (option_to_list (option_map (done_by a) (deed_of a.ask))) ≡ [] → days_of_issue (entry_at (edited es e) n) ≡ days_of_issue (entry_at es n) → IssuesFollow es e a n
 none-new es e a n none same =
     same ∙ (sym (append-nil (days_of_issue (entry_at es n)))
     ∙ ap (λ (days : List ℕ). days_of_issue (entry_at es n) ++ days) (sym (approvals-none a e n none)))
@@ -135,12 +135,12 @@ approved-new : (es : List Entry) (k : ℕ) (p : Payment) (c : Caller) (day n : �
 approved-new es k p c day n at none = grind (arith, nat_tests, (entry_at-with es k (entry.Payment p) (entry.Payment (record p { state = payment.Issued day })) n), (eqb n k), is_number)
 
 -- an entry that was not issued is added
-added-new : (es : List Entry) (a : Asked) (k : ℕ) (x : Entry) (n : ℕ) → days_of_approval n (joined_act (option_map (done_by a) (deed_of a.ask))) ≡ [] → days_of_issue (Some x) ≡ [] → IssuesFollow es (edit.Append (record { number = k; entry = x })) a n
+added-new : (es : List Entry) (a : Asked) (k : ℕ) (x : Entry) (n : ℕ) → days_of_approval n (option_to_list (option_map (done_by a) (deed_of a.ask))) ≡ [] → days_of_issue (Some x) ≡ [] → IssuesFollow es (edit.Append (record { number = k; entry = x })) a n
 added-new es a k x n none first =
     none-new es (edit.Append (record { number = k; entry = x })) a n none (issued-added es x n first)
 
 -- an entry is exchanged for one with the same days of issue
-kept-new : (es : List Entry) (a : Asked) (k : ℕ) (old new : Entry) (n : ℕ) → days_of_approval n (joined_act (option_map (done_by a) (deed_of a.ask))) ≡ [] → entry_at es k ≡ Some old → days_of_issue (Some new) ≡ days_of_issue (Some old) → IssuesFollow es (edit.Exchange (record { number = k; entry = new })) a n
+kept-new : (es : List Entry) (a : Asked) (k : ℕ) (old new : Entry) (n : ℕ) → days_of_approval n (option_to_list (option_map (done_by a) (deed_of a.ask))) ≡ [] → entry_at es k ≡ Some old → days_of_issue (Some new) ≡ days_of_issue (Some old) → IssuesFollow es (edit.Exchange (record { number = k; entry = new })) a n
 kept-new es a k old new n none at same =
     none-new es (edit.Exchange (record { number = k; entry = new })) a n none (issued-kept es k old new n at same)
 
@@ -212,10 +212,12 @@ abbrev HoldsOf : Type 1
 HoldsOf = Beginning → Dossier → Type 0
 
 -- an edit that is no purge, made by an ask
-edit-adds : (b : Beginning) (p : Dossier) (a : Asked) (e : Edit) (P : HoldsOf) → IsNoPurge e → SeatsFollow p.rows.seats e a → AreAllowed p.rows.seats (joined_act (act_by e a)) → ((n : ℕ) → IssuesFollow p.rows.entries e a n) → (begins_with_opening (joined_act (act_by e a)) ≡ true → p.rows.head ≡ None) → ((after : Dossier) → Adds p after → P b after) → P (begun_after None e b) (dossier-by p a None e)
+edit-adds : (b : Beginning) (p : Dossier) (a : Asked) (e : Edit) (P : HoldsOf) → IsNoPurge e → SeatsFollow p.rows.seats e a → AreAllowed p.rows.seats (option_to_list (act_by e a)) → ((n : ℕ) → IssuesFollow p.rows.entries e a n) → (begins_with_opening (option_to_list (act_by e a)) ≡ true → p.rows.head ≡ None) → ((after : Dossier) → Adds p after → P b after) → P (begun_after None e b) (dossier-by p a None e)
 edit-adds b p a (edit.Purge day) P stays seats allowed issued fresh of = absurd stays
+edit-adds b p a edit.Nothing P stays seats allowed issued fresh of =
+    of (dossier-by p a None edit.Nothing) (record { more = []; acts = sym (append-nil p.acts); seats = seats; allowed = allowed; issued = issued; fresh = fresh })
 edit-adds b p a e P stays seats allowed issued fresh of =
-    of (dossier-by p a None e) (record { more = joined_act (act_by e a); acts = refl; seats = seats; allowed = allowed; issued = issued; fresh = fresh })
+    of (dossier-by p a None e) (record { more = option_to_list (act_by e a); acts = refl; seats = seats; allowed = allowed; issued = issued; fresh = fresh })
 
 -- an ask that passes the table, by what is asked
 passed-adds : (b : Beginning) (p : Dossier) (c : Caller) (q : Ask) (day : ℕ) (P : HoldsOf) → allows p.rows.seats c (rule_of q) ≡ true → Passes (facts_of p.rows q) (asked c q day) → ((after : Dossier) → Adds p after → P b after) → ((after : Dossier) → AreBare after → P nothing_before after) → P (begun_after None (edit_of q (entry_at p.rows.entries (number_named q)) day) b) (dossier-by p (asked c q day) None (edit_of q (entry_at p.rows.entries (number_named q)) day))
@@ -231,7 +233,7 @@ passed-adds b p c q day P may passed of bare =
 
 ask-adds : (b : Beginning) (p : Dossier) (a : Asked) (r : Option Refusal) (again : Bool) (P : HoldsOf) → refusal p.rows a ≡ r → is_repeat (facts_of p.rows a.ask) a ≡ again → ((after : Dossier) → Adds p after → P b after) → ((after : Dossier) → AreBare after → P nothing_before after) → P (begun_after r (cond again edit.Nothing (edit_of a.ask (entry_at p.rows.entries (number_named a.ask)) a.day)) b) (dossier-by p a r (cond again edit.Nothing (edit_of a.ask (entry_at p.rows.entries (number_named a.ask)) a.day)))
 ask-adds b p a (Some r) again P none new of bare = of p (adds-nothing p p.acts (sym (append-nil p.acts)))
-ask-adds b p a None true P none new of bare = of (record p { acts = p.acts ++ [] }) (adds-nothing p (p.acts ++ []) refl)
+ask-adds b p a None true P none new of bare = of p (adds-nothing p p.acts (sym (append-nil p.acts)))
 ask-adds b p a None false P none new of bare =
     passed-adds b p a.caller a.ask a.day P (allowed-asked p.rows a none) (passes (facts_of p.rows a.ask) a (rw new at none)) of bare
 

@@ -4,7 +4,7 @@ use Rattle.trust_base.specs.declared.refusal.Refusal.{Refusal}
 use Rattle.matter_rows.specs.declared.act.Act.{Act}
 use Rattle.matter_rows.specs.Rows.{Rows, unopened, entry_at}
 use Rattle.matter_parts.specs.declared.edit.Edit.{Edit}
-use Rattle.matter_parts.specs.declared.edit.Edit.TheVariants as edit
+use Rattle.matter_parts.specs.Changes.{acts_by}
 use Rattle.trust_matter.specs.declared.bank_line.BankLine.{BankLine}
 use Rattle.trust_matter.specs.declared.line_verdict.LineEffect.{LineEffect}
 use Rattle.trust_matter.specs.declared.line_verdict.LineEffect.TheVariants as told
@@ -22,18 +22,9 @@ pub record Dossier : Type 0 where
 abbrev pub no_dossier : Dossier
 no_dossier = record { rows = unopened; acts = [] }
 
--- a purge leaves no acts, as it leaves no entries; any other edit leaves all of them
-abbrev pub kept_acts : Edit → List Act → List Act
-kept_acts (edit.Purge day) acts = []
-kept_acts _ acts = acts
-
--- the act that is added, if any
-abbrev pub joined_act : Option Act → List Act
-joined_act None = []
-joined_act (Some act) = act ∷ []
-
+-- a refusal leaves the acts as they are
 abbrev pub acts_after : Option Refusal → Edit → Option Act → List Act → List Act
-acts_after None e act acts = kept_acts e acts ++ joined_act act
+acts_after None e act acts = acts_by e act acts
 acts_after (Some r) e act acts = acts
 
 -- the dossier after an ask

@@ -1,5 +1,5 @@
 //! Laws of a matter's acts, which say who did what in it. A matter's dossier is its rows with its acts, as asks and
-//! bank lines leave them. No book keeps acts.
+//! bank lines leave them. The laws speak of one matter, not of a book, which keeps the acts of all matters in one list.
 //!
 //! # What is promised
 //!

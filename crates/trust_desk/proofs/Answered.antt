@@ -1,5 +1,5 @@
 -- How a request is answered, by what the calls of the book were.
-use Rattle.trust_desk.proofs.Names.{Seen, ◌≡◌, ◌⊎◌, inl, inr, ◌∙◌, ℕ, true, false, Ok, Err, Result, refl, ap, sym, subst, IfOk, cond-false, is_fault, refused_by, Refusal, StoreFault, Ask, Asked, Caller, refusal, IsDecided, MatterChange, Firm, FirmChange, of, after, after_change, after_edit, IsRead, IsWrite, Reply, IsAnswered, counted_end, counted_reply, is_store, IsMade, KindIsMade, is_fault_end, Steps, after_ask, after_asked, firm_step, kind_step, Heard, Kind, OfMatter, OnlyShown, OnlyTold, asked_on, kind_of, is_fault_reply, refused, replied, reply_for, reply_of, json_reply, text_reply, List, arith, ints, nat_tests}
+use Rattle.trust_desk.proofs.Names.{Seen, ◌≡◌, ◌⊎◌, inl, inr, ◌∙◌, ℕ, true, false, Ok, Err, Result, refl, ap, sym, subst, IfOk, cond-false, is_fault, refused_by, Refusal, StoreFault, Ask, Asked, Caller, refusal, IsDecided, MatterChange, Firm, FirmChange, of, after, acted, after_change, after_edit, IsRead, IsWrite, Reply, IsAnswered, counted_end, counted_reply, is_store, IsMade, KindIsMade, is_fault_end, Steps, after_ask, after_asked, firm_step, kind_step, Heard, Kind, OfMatter, OnlyShown, OnlyTold, asked_on, kind_of, is_fault_reply, refused, replied, reply_for, reply_of, json_reply, text_reply, List, arith, ints, nat_tests}
 use Rattle.trust_desk.proofs.Calls.{uncounted, kept-as, kept-then, read-kept, write-kept}
 use Rattle.trust_desk.proofs.Crashes.{leave-as, leave-failed, read-leaves, written-leaves}
 use Rattle.trust_desk.proofs.Refused.{IsTold, fault-counted, fault-told}
@@ -47,7 +47,9 @@ shown-answered {old} {new} day h json result kind plain fine read tells =
 
 -- what was decided makes its step
 pub change-makes : (firm : Firm) (m : ℕ) (a : Asked) (c : MatterChange) → IsDecided (of m firm) a c → after_change m c firm ≡ after_ask m a firm
-change-makes firm m a c d = (λ i. after_edit m (d.edit i) (d.last i) firm) ∙ sym (ap (λ o. after_asked o m a firm) d.accepted)
+change-makes firm m a c d =
+    (λ i. acted m (d.edit i) (d.act i) (after_edit m (d.edit i) (d.last i) firm))
+    ∙ sym (ap (λ o. after_asked o m a firm) d.accepted)
 
 module _ (day : ℕ) (h : Heard) (m : ℕ) (caller : Caller) (ask : Ask) (kind : kind_of h ≡ OfMatter m caller ask) where
   abbrev a : Asked

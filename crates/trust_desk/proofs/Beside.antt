@@ -1,5 +1,5 @@
 -- How an item is applied beside what is known of the firm's own ledger.
-use Rattle.trust_desk.proofs.Names.{Counts, Seen, ◌≡◌, ◌∙◌, ℕ, List, Option, Some, None, Result, Ok, Err, ap, IfOk, IfSome, OnErr, ⊤, Line, StoreFault, LineEffect, BankLine, line_on, BalanceKind, FirmLine, Verdict, Firm, of, FirmChange, after, by_balance, by_firm_line, firm_verdict, IsFirmVerdict, edit-leaves, Item, IsRead, IsWrite, IsWriteIf, Counted, IsItemApplied, AgreesWith, IsAppliedBeside, KeepsBeside, lines_after, KeepsBook, after_item, after_told, balance_on, counted_by, counted_of, arith, ints, nat_tests}
+use Rattle.trust_desk.proofs.Names.{Counts, Seen, ◌≡◌, ◌∙◌, ℕ, List, Option, Some, None, Result, Ok, Err, refl, ap, IfOk, IfSome, OnErr, ⊤, Line, StoreFault, LineEffect, BankLine, line_on, BalanceKind, FirmLine, Verdict, Firm, of, FirmChange, after, by_balance, by_firm_line, firm_verdict, IsFirmVerdict, edit-leaves, Item, IsRead, IsWrite, IsWriteIf, Counted, IsItemApplied, AgreesWith, IsAppliedBeside, KeepsBeside, lines_after, KeepsBook, after_item, after_told, balance_on, counted_by, counted_of, arith, ints, nat_tests}
 use Rattle.trust_matter.specs.declared.line_verdict.LineEffect.TheVariants as told
 use Rattle.firm_rows.specs.declared.ledger.BalanceKind.TheVariants as kind
 use Rattle.firm_rows.specs.declared.ledger.Verdict.TheVariants as own
@@ -13,8 +13,10 @@ use Rattle.trust_desk.proofs.Crashes.{leave-as, leave-failed, leave-then, read-l
 balance-apart : (k : BalanceKind) (line : Line) (v : Verdict) (firm : Firm) → (after (by_balance k line v) firm).firm_lines ≡ firm.firm_lines
 balance-apart k line v firm = grind (arith, ints, nat_tests)
 
-told-apart : (l : BankLine) (e : LineEffect) (firm : Firm) → (after_told l e firm).firm_lines ≡ firm.firm_lines
-told-apart l e firm = grind (arith, ints, nat_tests, edit-leaves)
+told-apart : (l : BankLine) (day : ℕ) (e : LineEffect) (firm : Firm) → (after_told l day e firm).firm_lines ≡ firm.firm_lines
+told-apart l day (told.Applied e) firm = (edit-leaves l.matter e.edit e.last firm).0
+told-apart l day told.Repeat firm = refl
+told-apart l day (told.Unmatched r) firm = refl
 
 -- an item that is no line of the firm's own
 abbrev pub IsApart : Item → Type 0

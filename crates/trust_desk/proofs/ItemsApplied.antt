@@ -1,8 +1,9 @@
 -- How an item is applied, by what is decided of it and by the calls of the book.
-use Rattle.trust_desk.proofs.Names.{Seen, ◌≡◌, ◌≤◌, ℕ, true, None, Some, Ok, Err, Result, Sound, Part, IsPart, holds_for_line, line-held, Line, StoreFault, BankLine, Rows, LineDecides, BalanceKind, Verdict, Firm, FirmChange, of, after, by_balance, by_line, Item, counted, counted_fault, IsRead, IsWrite, Counted, IsItemApplied, after_item, after_told, balance_item, balance_on, counted_as, counted_by, counted_of, counted_verdict, arith, ints, nat_tests, IsPartFor}
+use Rattle.trust_desk.proofs.Names.{Seen, ◌≡◌, ◌≤◌, ℕ, true, None, Some, Ok, Err, Result, sym, ap, ◌∙◌, Sound, Part, IsPart, holds_for_line, line-held, Line, StoreFault, BankLine, LineEffect, Rows, LineDecides, BalanceKind, Verdict, Firm, FirmChange, of, acted, after, after_edit, by_balance, by_line, Item, counted, counted_fault, IsRead, IsWrite, Counted, IsItemApplied, after_item, after_told, balance_item, balance_on, counted_as, counted_by, counted_of, counted_verdict, arith, ints, nat_tests, IsPartFor}
 use Rattle.trust_base.specs.declared.refusal.StoreFault.TheVariants as faults
 use Rattle.trust_matter.specs.declared.line_verdict.LineVerdict.{LineVerdict}
 use Rattle.trust_matter.specs.declared.line_verdict.LineVerdict.TheVariants as verdict
+use Rattle.firm_rows.specs.Firm.{after_match}
 use Rattle.firm_rows.specs.declared.ledger.BalanceKind.TheVariants as kind
 use Rattle.statement_csv.specs.declared.item.Item.TheVariants as item
 use Rattle.trust_desk.proofs.Calls.{kept-as, kept-then, read-kept, write-kept}
@@ -13,7 +14,19 @@ use Rattle.trust_desk.proofs.Crashes.{leave-failed, read-leaves, written-leaves}
 -- what is written is the step
 pub verdict-tells : (day : ℕ) (firm : Firm) (l : BankLine) (v : LineVerdict) → LineDecides (of l.matter firm) l day (Ok v)
     → (counted_verdict v ≡ counted_of day firm (item.OfMatter l)) × (after (by_line l v) firm ≡ after_item day firm (item.OfMatter l))
-verdict-tells day firm l v d = grind (arith, ints, nat_tests, counted_as, after_told)
+verdict-tells day firm l (verdict.Applied c) d = (
+  sym (ap counted_as d.applied),
+  (λ i. after_match l.line (acted l.matter c.edit (d.act i) (after_edit l.matter c.edit c.last firm)))
+      ∙ sym (ap (λ (e : LineEffect). after_told l day e firm) d.applied),
+)
+verdict-tells day firm l verdict.Repeat d = (
+  sym (ap counted_as d),
+  sym (ap (λ (e : LineEffect). after_told l day e firm) d),
+)
+verdict-tells day firm l (verdict.Unmatched r) d = (
+  sym (ap counted_as d),
+  sym (ap (λ (e : LineEffect). after_told l day e firm) d),
+)
 
 -- what was read for a line is enough to decide it
 pub line-decided : (rows : Rows) (l : BankLine) (day : ℕ) (part : Part) (result : Result LineVerdict StoreFault) → 1 ≤ l.entry

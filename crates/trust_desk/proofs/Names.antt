@@ -1,9 +1,10 @@
 -- The names that the proofs of this crate cite, passed on from one place. Declares nothing.
+pub use Rattle.firm_rows.proofs.Acts.{sound-acts}
 pub use Rattle.firm_rows.proofs.Changed.{of-after_edit, of_other-after_edit}
 pub use Rattle.firm_rows.proofs.Kept.{IsKept, edit-sound, ledger-least}
 pub use Rattle.firm_rows.proofs.LinesStay.{edit-leaves}
 pub use Rattle.firm_rows.proofs.OwnLines.{balance-fits, firm_line-fits}
-pub use Rattle.firm_rows.specs.Firm.{Firm, after_change, after_edit, of}
+pub use Rattle.firm_rows.specs.Firm.{Firm, acted, after_change, after_edit, of}
 pub use Rattle.firm_rows.specs.FirmChange.{FirmChange, after, by_balance, by_firm_line, by_line}
 pub use Rattle.firm_rows.specs.FirmLines.{balance_verdict, firm_verdict, kept_balance}
 pub use Rattle.firm_rows.specs.FirmSound.{FirmSound, IsFirmVerdict}

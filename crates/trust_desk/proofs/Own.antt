@@ -7,7 +7,9 @@ use Rattle.trust_desk.proofs.OwnItems.{solo_rows-append, solo_replies-append, of
 -- An ask is seen in its matter, and in no other.
 
 pub of-after_asked : (o : Option Refusal) (m : ℕ) (a : Asked) (firm : Firm) → of m (after_asked o m a firm) ≡ after o (edit_on (of m firm) a) a.day (of m firm)
-of-after_asked o m a firm = grind (arith, ints, nat_tests, of-after_edit, edit_on, of, last_after)
+of-after_asked None m a firm =
+    of-after_edit m (edit_on (of m firm) a) (last_after (of m firm).head (edit_on (of m firm) a) a.day) firm
+of-after_asked (Some r) m a firm = refl
 
 of_other-after_asked : (o : Option Refusal) (n m : ℕ) (a : Asked) (firm : Firm) → n ≢ m → of n (after_asked o m a firm) ≡ of n firm
 of_other-after_asked None n m a firm apart = of_other-after_edit n m (edit_on (of m firm) a) (last_after (of m firm).head (edit_on (of m firm) a) a.day) firm apart

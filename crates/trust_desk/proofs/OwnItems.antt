@@ -22,14 +22,18 @@ solo_replies-append m rows (x ∷ xs) ys =
 
 -- A line is seen in its matter, and in no other.
 
-of-after_told : (l : BankLine) (e : LineEffect) (firm : Firm) → of l.matter (after_told l e firm) ≡ after_line_effect e (of l.matter firm)
-of-after_told l e firm = grind (arith, ints, nat_tests, of-after_edit)
+of-after_told : (l : BankLine) (day : ℕ) (e : LineEffect) (firm : Firm) → of l.matter (after_told l day e firm) ≡ after_line_effect e (of l.matter firm)
+of-after_told l day (told.Applied e) firm = of-after_edit l.matter e.edit e.last firm
+of-after_told l day told.Repeat firm = refl
+of-after_told l day (told.Unmatched r) firm = refl
 
 pub of-after_line : (l : BankLine) (day : ℕ) (firm : Firm) → of l.matter (after_item day firm (item.OfMatter l)) ≡ rows_after_line (of l.matter firm) l day
-of-after_line l day firm = of-after_told l (line_on (of l.matter firm) l day) firm
+of-after_line l day firm = of-after_told l day (line_on (of l.matter firm) l day) firm
 
-of_other-after_told : (m : ℕ) (l : BankLine) (e : LineEffect) (firm : Firm) → m ≢ l.matter → of m (after_told l e firm) ≡ of m firm
-of_other-after_told m l e firm apart = grind (arith, ints, nat_tests, of_other-after_edit)
+of_other-after_told : (m : ℕ) (l : BankLine) (day : ℕ) (e : LineEffect) (firm : Firm) → m ≢ l.matter → of m (after_told l day e firm) ≡ of m firm
+of_other-after_told m l day (told.Applied e) firm apart = of_other-after_edit m l.matter e.edit e.last firm apart
+of_other-after_told m l day told.Repeat firm apart = refl
+of_other-after_told m l day (told.Unmatched r) firm apart = refl
 
 -- A line of the firm's own, or a balance, is seen in none.
 

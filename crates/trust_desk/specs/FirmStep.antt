@@ -4,8 +4,8 @@ use Rattle.trust_base.specs.declared.refusal.Refusal.{Refusal}
 use Rattle.trust_base.specs.declared.refusal.Refusal.TheVariants.{Store, Memory}
 use Rattle.trust_matter.specs.Facts.{Asked}
 use Rattle.matter_parts.specs.Changes.{last_after}
-use Rattle.trust_matter.specs.Step.{refusal, edit_on}
-use Rattle.firm_rows.specs.Firm.{Firm, of, after_edit}
+use Rattle.trust_matter.specs.Step.{refusal, edit_on, act_on}
+use Rattle.firm_rows.specs.Firm.{Firm, of, after_edit, acted}
 use Rattle.firm_rows.specs.FirmSound.{FirmSound}
 use Rattle.statement_csv.specs.declared.item.Item.{Item}
 use Rattle.trust_desk.specs.declared.requests.Reply.{Reply}
@@ -17,10 +17,12 @@ use Rattle.trust_desk.specs.Dismissing.{after_dismissing, dismiss_refusal, dismi
 
 abbrev pub after_asked : Option Refusal → ℕ → Asked → Firm → Firm
 after_asked None m a firm =
-    after_edit m (edit_on (of m firm) a) (last_after (of m firm).head (edit_on (of m firm) a) a.day) firm
+    acted m (edit_on (of m firm) a) (act_on (of m firm) a)
+    (after_edit m (edit_on (of m firm) a) (last_after (of m firm).head (edit_on (of m firm) a) a.day) firm)
 after_asked (Some r) m a firm = firm
 
--- the firm after an ask of a matter: with its edit if it is accepted, otherwise unchanged
+-- the firm after an ask of a matter: if it is accepted, with its edit and the act that it is remembered by, otherwise
+-- unchanged
 abbrev pub after_ask : ℕ → Asked → Firm → Firm
 after_ask m a firm = after_asked (refusal (of m firm) a) m a firm
 

@@ -5,13 +5,15 @@ use Rattle.trust_matter.specs.declared.line_verdict.LineEffect.{LineEffect}
 use Rattle.trust_matter.specs.declared.line_verdict.LineEffect.TheVariants as told
 use Rattle.trust_matter.specs.declared.line_verdict.LineVerdict.{LineVerdict}
 use Rattle.trust_matter.specs.declared.line_verdict.LineVerdict.TheVariants as verdict
-use Rattle.trust_matter.specs.LineStep.{line_on}
+use Rattle.matter_rows.specs.declared.act.Act.{Act}
+use Rattle.matter_rows.specs.Rows.{entry_at}
+use Rattle.trust_matter.specs.LineStep.{line_on, line_act}
 use Rattle.trust_base.specs.declared.line.Line.{Line}
 use Rattle.firm_rows.specs.declared.ledger.BalanceKind.{BalanceKind}
 use Rattle.firm_rows.specs.declared.ledger.BalanceKind.TheVariants as kind
 use Rattle.firm_rows.specs.declared.ledger.Verdict.{Verdict}
 use Rattle.firm_rows.specs.declared.ledger.Verdict.TheVariants as own
-use Rattle.firm_rows.specs.Firm.{Firm, of, after_edit, after_match, after_stray}
+use Rattle.firm_rows.specs.Firm.{Firm, of, after_edit, acted, after_match, after_stray}
 use Rattle.firm_rows.specs.FirmChange.{Unmatched, after, by_balance, by_firm_line}
 use Rattle.firm_rows.specs.FirmLines.{balance_verdict, firm_verdict, kept_balance}
 use Rattle.statement_csv.specs.declared.item.Item.{Item}
@@ -27,11 +29,16 @@ abbrev pub balance_item : BalanceKind → Line → Item
 balance_item kind.Opening line = item.Opening line
 balance_item kind.Closing line = item.Closing line
 
--- the firm after a line that names an entry, according to its verdict
-abbrev pub after_told : BankLine → LineEffect → Firm → Firm
-after_told l (told.Applied e) firm = after_match l.line (after_edit l.matter e.edit e.last firm)
-after_told l told.Repeat firm = after_match l.line firm
-after_told l (told.Unmatched r) firm = after_stray l.line firm
+-- what a line that names an entry is remembered as on a business day, if it is applied
+abbrev pub told_act : BankLine → ℕ → Firm → Act
+told_act l day firm = line_act (entry_at (of l.matter firm).entries l.entry) l day
+
+-- the firm after a line that names an entry, according to its verdict on a business day: an applied one is remembered
+abbrev pub after_told : BankLine → ℕ → LineEffect → Firm → Firm
+after_told l day (told.Applied e) firm =
+    after_match l.line (acted l.matter e.edit (Some (told_act l day firm)) (after_edit l.matter e.edit e.last firm))
+after_told l day told.Repeat firm = after_match l.line firm
+after_told l day (told.Unmatched r) firm = after_stray l.line firm
 
 -- the verdict on a line of the firm's own on a day, according to the firm's ledger
 abbrev pub firm_line_on : Firm → Line → ℕ → Verdict
@@ -50,7 +57,7 @@ after_balance kind line day firm = after (by_balance kind line (balance_on firm 
 abbrev pub after_item : ℕ → Firm → Item → Firm
 after_item day firm (item.Opening line) = after_balance kind.Opening line day firm
 after_item day firm (item.Closing line) = after_balance kind.Closing line day firm
-after_item day firm (item.OfMatter l) = after_told l (line_on (of l.matter firm) l day) firm
+after_item day firm (item.OfMatter l) = after_told l day (line_on (of l.matter firm) l day) firm
 after_item day firm (item.OfFirm line) = after (by_firm_line line (firm_line_on firm line day)) firm
 after_item day firm (item.Stray line) = after (Unmatched line) firm
 after_item day firm (item.Unreadable number) = firm

@@ -56,7 +56,10 @@
 //! - `Desk::answer`, of lists: a caller's matters, and what waits in them, are answered in JSON by exactly the body of
 //!   the definition, of the firm's rows. Nothing changes, and these requests name no matter (by the same clauses).
 //!
-//! The laws of its runs are in the crate `desk_laws`.
+//! A firm's acts are part of its rows: an accepted ask that changes a matter, and an applied line that names an entry,
+//! leave the act that they are remembered by, and a purge takes those of its matter (`after_ask`, `after_told`).
+//!
+//! The laws of its runs are in the crate `desk_laws`, and those of the acts in `desk_trail`.
 #![tactic(auto)]
 
 mod desk;

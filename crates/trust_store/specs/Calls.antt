@@ -1,7 +1,6 @@
 -- What each read and each write of a book leaves, whatever else it returns.
-use Rattle.std.specs.Prelude.{◌≡◌, ℕ, OnOk, OnErr, Result}
+use Rattle.std.specs.Prelude.{◌≡◌, OnOk, OnErr, Result}
 use Rattle.trust_base.specs.declared.refusal.StoreFault.{StoreFault}
-use Rattle.firm_rows.specs.Firm.{Firm}
 use Rattle.firm_rows.specs.FirmChange.{FirmChange, after}
 use Rattle.trust_store.specs.Books.{counted}
 use Rattle.trust_store.specs.Crashes.{LeavesBefore, LeavesOr, LeavesAlone}

@@ -9,7 +9,7 @@ use Rattle.matter_parts.specs.Parts.{Part, IsWhole, entries_kept}
 use Rattle.firm_rows.specs.declared.movement.Movement.{Movement}
 use Rattle.firm_rows.specs.declared.ledger.FirmLine.{FirmLine}
 use Rattle.firm_rows.specs.declared.ledger.BalanceRow.{BalanceRow}
-use Rattle.firm_rows.specs.Firm.{Row, EntryRow, Firm, pairs, with_line, without_line}
+use Rattle.firm_rows.specs.Firm.{Row, EntryRow, Firm, pairs, with_line, without_line, with_acts}
 use Rattle.firm_rows.specs.FirmSound.{FirmSound}
 use Rattle.trust_store.specs.declared.all_rows.AllRows.{AllRows}
 use Rattle.trust_store.specs.declared.plain.KeptMatter.{KeptMatter}
@@ -50,15 +50,22 @@ pub record AreKeptWhole (ks : List KeptMatter) : Type 0 where
   pub ascends : Ascends ks
   pub whole : AllByRecursion IsKeptWhole ks
 
--- the firm that has these matters, movements, lines of its own, exceptions and balances
+-- the firm that has these matters, movements, lines of its own, exceptions and balances, and no acts
 abbrev pub firm_of : List KeptMatter → List Movement → List FirmLine → List Line → List BalanceRow → Firm
-firm_of ks movements own lines balances =
-    record { rows = joined ks; movements = movements; firm_lines = own; exceptions = lines; balances = balances }
+firm_of ks movements own lines balances = record {
+  rows = joined ks;
+  movements = movements;
+  firm_lines = own;
+  exceptions = lines;
+  balances = balances;
+  acts = [];
+}
 
 -- the firm that has all the rows that were read
 abbrev pub firm_of_all : AllRows → Firm
 firm_of_all rows =
-    firm_of rows.matters.items rows.movements.items rows.firm_lines.items rows.exceptions.items rows.balances.items
+    with_acts rows.acts.items
+    (firm_of rows.matters.items rows.movements.items rows.firm_lines.items rows.exceptions.items rows.balances.items)
 
 -- sound matters with all their entries; together with the other rows they make a sound firm
 pub record AreKept (ks : List KeptMatter) (movements : List Movement) (own : List FirmLine) (lines : List Line)

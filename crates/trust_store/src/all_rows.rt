@@ -3,7 +3,7 @@
 ghost use Rattle.std.specs.Prelude.{◌≡◌, IfOk};
 
 use crate::plain::KeptMatter;
-use firm_rows::{BalanceRow, FirmLine, Movement};
+use firm_rows::{BalanceRow, FirmLine, MatterAct, Movement};
 use matter_parts::Matter;
 use std::alloc::{AllocError, Global};
 use trust_base::Line;
@@ -21,6 +21,8 @@ pub struct AllRows {
     pub exceptions: Vec<Line>,
     /// The balances: openings before closings, each by day.
     pub balances: Vec<BalanceRow>,
+    /// The acts, in the order of acceptance.
+    pub acts: Vec<MatterAct>,
 }
 
 // A row that is copied where there is memory.
@@ -42,6 +44,12 @@ impl CopiedRow for KeptMatter {
             number: self.number,
             matter,
         })
+    }
+}
+
+impl CopiedRow for MatterAct {
+    fn copied_row(&self, _alloc: Global) -> Result<MatterAct, AllocError> {
+        self.copied()
     }
 }
 

@@ -3,7 +3,7 @@
 ghost use Rattle.std.specs.Prelude.{◌≡◌, ℕ, None, IfOk, IsOk};
 ghost use Rattle.matter_parts.specs.declared.edit.Edit.TheVariants.{Nothing};
 ghost use Rattle.matter_parts.specs.Parts.{IsWhole};
-ghost use Rattle.firm_rows.specs.Countable.{IsRowInRange, IsMovementInRange, IsFirmLineInRange, IsLineInRange, IsBalanceInRange};
+ghost use Rattle.firm_rows.specs.Countable.{IsRowInRange, IsMovementInRange, IsFirmLineInRange, IsLineInRange, IsBalanceInRange, IsActInRange};
 ghost use Rattle.firm_rows.specs.Firm.{Firm, of, opened_matters};
 ghost use Rattle.firm_rows.specs.FirmChange.{OfMatter, Repeated, Unmatched, FitsFirm, by_line, by_firm_line, by_balance};
 ghost use Rattle.firm_rows.specs.FirmLines.{kept_balance};
@@ -15,8 +15,8 @@ ghost use Rattle.trust_store.specs.Named.{IsPartFor};
 
 use crate::all_rows::AllRows;
 use firm_rows::{
-    BalanceKind, BalanceSink, ExceptionSink, FirmLedger, FirmLineSink, MovementSink, RowSink,
-    Verdict,
+    ActSink, BalanceKind, BalanceSink, ExceptionSink, FirmLedger, FirmLineSink, MovementSink,
+    RowSink, Verdict,
 };
 use std::alloc::Global;
 use trust_base::{Day, EntryNo, Line, MatterNo, StoreFault};
@@ -118,8 +118,14 @@ pub trait Book {
             → AreHanded S.balanced IsBalanceInRange (seen self.old).firm.balances result sink.old sink.new }
         ensures read { IsRead result (seen self.old) (seen self.new) };
 
-    /// Makes one change of a matter, or none if it is refused. It must be a change of the matter's rows as they are
-    /// now. A change of nothing is never refused.
+    /// Passes each act to the sink, in the order of acceptance. Stops if the sink runs out of memory.
+    fn each_act<S: ActSink>(&mut self, sink: &mut S) -> Result<(), StoreFault>
+        ensures handed { (seen self.new).clean → (seen self.old).stands
+            → AreHanded S.remembered IsActInRange (seen self.old).firm.acts result sink.old sink.new }
+        ensures read { IsRead result (seen self.old) (seen self.new) };
+
+    /// Makes one change of a matter, with the act that it is remembered by, or none if it is refused. It must be a
+    /// change of the matter's rows as they are now. A change of nothing is never refused.
     fn write_change(
         &mut self,
         alloc: Global,

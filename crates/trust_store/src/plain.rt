@@ -5,7 +5,7 @@ ghost use Rattle.matter_parts.specs.declared.edit.Edit.TheVariants.{Nothing};
 ghost use Rattle.matter_parts.specs.Parts.{IsWhole, AreNumbered};
 ghost use Rattle.matter_parts.specs.Changes.{IsChange, changed};
 ghost use Rattle.firm_rows.specs.Countable.{IsRowInRange, MOST_ROWS};
-ghost use Rattle.firm_rows.specs.Firm.{empty_firm, headed, of, joined_movement, kept_movements, moved_without, is_of_matter, pairs, head_pairs, seat_pairs, after_change, after_stray, after_match, own_movement, with_firm_line, with_balance_row};
+ghost use Rattle.firm_rows.specs.Firm.{empty_firm, headed, of, acts_left, acts_without, joined_act, joined_movement, kept_movements, moved_without, is_of_matter, pairs, head_pairs, seat_pairs, after_change, after_stray, after_match, own_movement, with_firm_line, with_balance_row};
 ghost use Rattle.firm_rows.specs.FirmLines.{IsOwnBalance, balance_of, as_firm_line, balance_row, kept_balance};
 ghost use Rattle.firm_rows.specs.FirmSound.{FirmSound};
 ghost use Rattle.firm_rows.specs.Handing.{AreHanded, FoldsFront};
@@ -18,9 +18,9 @@ use crate::balances::{add_balance, balance_kept};
 use crate::exceptions::{add_line, remove_line};
 use firm_rows::laws::{firm_stays_sound, verdicts_fit};
 use firm_rows::{
-    BalanceKind, BalanceRow, BalanceSink, ExceptionSink, FirmLedger, FirmLine, FirmLineSink,
-    MAX_OWN, Movement, MovementSink, Owner, RowSink, Verdict, hand_balances, hand_firm_lines,
-    hand_lines, hand_movements,
+    ActSink, BalanceKind, BalanceRow, BalanceSink, ExceptionSink, FirmLedger, FirmLine,
+    FirmLineSink, MAX_OWN, MatterAct, Movement, MovementSink, Owner, RowSink, Verdict, hand_acts,
+    hand_balances, hand_firm_lines, hand_lines, hand_movements,
 };
 use std::alloc::{AllocError, Global};
 use std::marker::Model;
@@ -34,8 +34,8 @@ pub struct KeptMatter {
     pub matter: Matter,
 }
 
-/// Stores everything in lists: whole matters by number, the movements, the firm's own ledger, and the exceptions and
-/// the balances, both sorted.
+/// Stores everything in lists: whole matters by number, the movements, the firm's own ledger, the exceptions and the
+/// balances, both sorted, and the acts.
 ///
 /// It never returns `Store`, and promises nothing about a crash.
 #[derive(Drop)]
@@ -45,16 +45,18 @@ pub struct PlainBook {
     own: FirmLedger,
     exceptions: Vec<Line>,
     balances: Vec<BalanceRow>,
+    acts: Vec<MatterAct>,
 }
 
 impl Model for PlainBook {
-    ghost use Rattle.firm_rows.specs.Firm.{Firm};
+    ghost use Rattle.firm_rows.specs.Firm.{Firm, with_acts};
 
     ghost Value = { Firm };
 
     ghost use Rattle.trust_store.specs.Kept.{firm_of, AreKept};
 
-    ghost view = { λ b. firm_of b.matters.items b.movements.items b.own b.exceptions.items b.balances.items };
+    ghost view = { λ b. with_acts b.acts.items
+        (firm_of b.matters.items b.movements.items b.own b.exceptions.items b.balances.items) };
 
     ghost invariant = { λ b. AreKept b.matters.items b.movements.items b.own b.exceptions.items b.balances.items };
 }
@@ -73,6 +75,7 @@ impl PlainBook {
             own: FirmLedger::new(alloc),
             exceptions: Vec::new(alloc),
             balances: Vec::new(alloc),
+            acts: Vec::new(alloc),
         }
     }
 
@@ -94,10 +97,11 @@ impl PlainBook {
         if let Edit::Nothing = change.edit() {
             return Ok(());
         }
-        write_kept(
+        write_with_act(
             alloc,
             &mut self.matters,
             &mut self.movements,
+            &mut self.acts,
             matter,
             change,
         )?;
@@ -192,6 +196,7 @@ impl Book for PlainBook {
             firm_lines: copies(alloc, self.own.lines())?,
             exceptions: copies(alloc, &self.exceptions)?,
             balances: Vec::from_slice(alloc, &self.balances)?,
+            acts: copies(alloc, &self.acts)?,
         })
     }
 
@@ -213,6 +218,10 @@ impl Book for PlainBook {
 
     fn each_balance<S: BalanceSink>(&mut self, sink: &mut S) -> Result<(), StoreFault> {
         Ok(hand_balances(&self.balances, sink)?)
+    }
+
+    fn each_act<S: ActSink>(&mut self, sink: &mut S) -> Result<(), StoreFault> {
+        Ok(hand_acts(&self.acts, sink)?)
     }
 
     fn write_change(
@@ -354,6 +363,43 @@ fn part_of(
     }
 }
 
+// Makes the change with what it moves and what it is remembered by, or nothing on an error.
+fn write_with_act(
+    alloc: Global,
+    kept: &mut Vec<KeptMatter>,
+    movements: &mut Vec<Movement>,
+    acts: &mut Vec<MatterAct>,
+    matter: MatterNo,
+    change: &Change,
+) -> Result<(), AllocError>
+    requires whole { AreKeptWhole kept.old.items }
+    requires change { IsChange (rows_in matter kept.old.items) change.now }
+    ensures kept { OnOk result
+        (IsKeptAs matter (changed change.now (rows_in matter kept.old.items)) kept.old.items kept.new.items) }
+    ensures moved { OnOk result
+        (movements.new.items ≡ kept_movements matter change.now.edit
+        (movements.old.items ++ joined_movement matter change.now.movement)) }
+    // The act is appended. If the matter is purged, its acts are removed.
+    ensures acted { OnOk result
+        (acts.new.items ≡ acts_left matter change.now.edit (acts.old.items ++ joined_act matter change.now.act)) }
+    ensures err { OnErr result
+        ((kept.new.items ≡ kept.old.items) × (movements.new.items ≡ movements.old.items)
+        × (acts.new.items ≡ acts.old.items)) }
+{
+    let before = acts.len();
+    push_act(acts, matter, change)?;
+    match write_kept(alloc, kept, movements, matter, change) {
+        Ok(()) => {
+            drop_acts(acts, matter, change.edit());
+            Ok(())
+        }
+        Err(error) => {
+            acts.truncate(before);
+            Err(error)
+        }
+    }
+}
+
 // Makes the change with what it moves, or nothing on an error.
 fn write_kept(
     alloc: Global,
@@ -467,6 +513,41 @@ fn push_movement(
         })?;
     }
     Ok(())
+}
+
+// Appends what a change is remembered by.
+fn push_act(acts: &mut Vec<MatterAct>, matter: MatterNo, change: &Change) -> Result<(), AllocError>
+    ensures ok { OnOk result (acts.new.items ≡ acts.old.items ++ joined_act matter change.now.act) }
+    ensures err { OnErr result (acts.new.items ≡ acts.old.items) }
+{
+    if let Some(act) = change.act() {
+        let act = act.copied()?;
+        acts.push(MatterAct { matter, act })?;
+    }
+    Ok(())
+}
+
+// Removes a matter's acts, if the edit purges it.
+fn drop_acts(acts: &mut Vec<MatterAct>, matter: MatterNo, edit: &Edit)
+    ensures { acts.new.items ≡ acts_left matter edit.now acts.old.items }
+{
+    match edit {
+        Edit::Purge(_) => take_out_acts(acts, matter),
+        Edit::Nothing
+        | Edit::Open(_)
+        | Edit::Seat(_)
+        | Edit::Unseat(_)
+        | Edit::Close(_)
+        | Edit::Append(_)
+        | Edit::Exchange(_) => {}
+    }
+}
+
+// Removes a matter's acts.
+fn take_out_acts(acts: &mut Vec<MatterAct>, matter: MatterNo)
+    ensures { acts.new.items ≡ acts_without matter acts.old.items }
+{
+    acts.retain(|act| act.matter.get() != matter.get());
 }
 
 // Changes the stored matter, or stores a new one.

@@ -4,8 +4,8 @@ ghost use Rattle.std.specs.Prelude.{◌≡◌, ◌==◌, ◌-◌};
 ghost use Rattle.trust_store.specs.Books.{counted_fault};
 
 use firm_rows::{
-    BalanceKind, BalanceSink, ExceptionSink, FirmLedger, FirmLineSink, MovementSink, RowSink,
-    Verdict,
+    ActSink, BalanceKind, BalanceSink, ExceptionSink, FirmLedger, FirmLineSink, MovementSink,
+    RowSink, Verdict,
 };
 use std::alloc::Global;
 use trust_base::{Day, EntryNo, Line, MatterNo, StoreFault};
@@ -126,6 +126,13 @@ impl<B: Book> Book for RefusingBook<B> {
 
     fn each_balance<S: BalanceSink>(&mut self, sink: &mut S) -> Result<(), StoreFault> {
         match self.inner.each_balance(sink) {
+            Ok(()) => Ok(()),
+            Err(fault) => Err(told(&mut self.refusals, fault)),
+        }
+    }
+
+    fn each_act<S: ActSink>(&mut self, sink: &mut S) -> Result<(), StoreFault> {
+        match self.inner.each_act(sink) {
             Ok(()) => Ok(()),
             Err(fault) => Err(told(&mut self.refusals, fault)),
         }

@@ -1,6 +1,6 @@
-use Rattle.firm_audit.proofs.Names.{inl, inr, rules, ◌≡◌, true, List, is_some, subst, arith, IfSome, IfSome_then, Movement, FirmLine, BalanceRow, Line, KeptMatter, firm_of, IsFlawIn, IsFlawOf, IsMatterFlaw}
+use Rattle.firm_audit.proofs.Names.{inl, rules, ◌≡◌, true, List, is_some, subst, arith, IfSome, IfSome_then, Movement, FirmLine, BalanceRow, Line, KeptMatter, firm_of, IsFlawIn, IsFlawOf, IsMatterFlaw}
 use Rattle.firm_audit.proofs.Sound.{rows_are_sound}
-use Rattle.firm_audit.proofs.Refuted.{none-found, some-found}
+use Rattle.firm_audit.proofs.Refuted.{among-all, none-found, some-found}
 use Rattle.firm_audit.proofs.firm.audit.Goals as goal
 
 pub returns-then-is_some-clause-sound : goal.returns-then-is_some-clause-sound
@@ -17,7 +17,7 @@ returns-then-is_some-2-clause-flaw c =
     let found = c.in_ok-found-2.found in
     IfSome_then found (subst (λ (ks : List KeptMatter). IfSome found (IsFlawOf (firm_of ks rows.movements.items rows.firm_lines.items rows.exceptions.items rows.balances.items))) c.deref-2.ensures.value
     (subst (λ (vs : List Movement). IfSome found (IsFlawOf (firm_of c.deref-2.result.now vs rows.firm_lines.items rows.exceptions.items rows.balances.items))) c.deref-3.ensures.value
-    (c.in_ok-found-2.ensures.flaw rows.firm_lines.items rows.exceptions.items rows.balances.items))) (λ f is. inr is)
+    (c.in_ok-found-2.ensures.flaw rows.firm_lines.items rows.exceptions.items rows.balances.items))) (among-all rows)
 
 pub returns-then-is_some-3-clause-flaw : goal.returns-then-is_some-3-clause-flaw
 returns-then-is_some-3-clause-flaw c =
@@ -25,7 +25,7 @@ returns-then-is_some-3-clause-flaw c =
     let found = c.own_flaw-found.result in
     IfSome_then found (subst (λ (vs : List Movement). IfSome found (IsFlawOf (firm_of rows.matters.items vs rows.firm_lines.items rows.exceptions.items rows.balances.items))) c.deref-4.ensures.value
     (subst (λ (own : List FirmLine). IfSome found (IsFlawOf (firm_of rows.matters.items c.deref-4.result.now own rows.exceptions.items rows.balances.items))) c.deref-5.ensures.value
-    (c.own_flaw-found.ensures.flaw rows.matters.items rows.exceptions.items rows.balances.items))) (λ f is. inr is)
+    (c.own_flaw-found.ensures.flaw rows.matters.items rows.exceptions.items rows.balances.items))) (among-all rows)
 
 pub returns-clause-flaw : goal.returns-clause-flaw
 returns-clause-flaw c =
@@ -33,7 +33,7 @@ returns-clause-flaw c =
     let found = c.order_flaw.result in
     IfSome_then found (subst (λ (lines : List Line). IfSome found (IsFlawOf (firm_of rows.matters.items rows.movements.items rows.firm_lines.items lines rows.balances.items))) c.deref-6.ensures.value
     (subst (λ (balances : List BalanceRow). IfSome found (IsFlawOf (firm_of rows.matters.items rows.movements.items rows.firm_lines.items c.deref-6.result.now balances))) c.deref-7.ensures.value
-    (c.order_flaw.ensures.flaw rows.matters.items rows.movements.items rows.firm_lines.items))) (λ f is. inr is)
+    (c.order_flaw.ensures.flaw rows.matters.items rows.movements.items rows.firm_lines.items))) (among-all rows)
 
 pub returns-then-is_some-2-clause-sound : goal.returns-then-is_some-2-clause-sound
 returns-then-is_some-2-clause-sound c =

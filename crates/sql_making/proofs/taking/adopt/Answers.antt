@@ -1,5 +1,11 @@
-use Rattle.sql_making.proofs.Names.{◌≡◌, inl, Some, sym, subst, ◌∙◌, rules, state, book_schema, version_now, IsBook, arith, ints, nat_tests}
-use Rattle.sql_schema.proofs.Apart.{never_both}
+use Rattle.sql_making.proofs.Names.{◌≡◌, inl, inr, Some, sym, subst, ◌∙◌, rules, state, book_schema, version_now, IsBook, arith, ints, nat_tests}
+use Rattle.sqlite.specs.State.{HasCleanDisk}
+use Rattle.sqlite.specs.Effect.{Database}
+use Rattle.sqlite.proofs.StateLemmas.{survives_then}
+use Rattle.sql_making.specs.Bare.{IsBareBook, AreExtended}
+use Rattle.sql_making.specs.Then.{IsLook}
+use Rattle.sql_schema.specs.Bare.{bare_schema}
+use Rattle.sql_schema.proofs.Apart.{never_both, bare_or_now}
 use Rattle.sql_making.proofs.taking.adopt.Goals as goal
 
 pub returns-in-Ok-clause-taken : goal.returns-in-Ok-clause-taken
@@ -18,9 +24,71 @@ returns-in-Ok-2-clause-refused g c clean is =
       λ k book.
           let told : c.in-Ok.version ≡ Some version_now = (c.in-Ok.ensures.is k clean book.schema version_now).1 book.version in
           let none : ⊥ = search rules in absurd none,
+      λ k bare. bare_or_now k c.in-Some-Now.layout (sym bare.schema ∙ has),
     )
 
 pub returns-in-Err-clause-store : goal.returns-in-Err-clause-store
 returns-in-Err-clause-store g c clean none told =
     let has : c.args.conn.now.schema ≡ book_schema c.in-Some-Now.layout = search rules in
     grind (arith, ints, nat_tests)
+
+pub returns-in-Ok-run-2-clause-taken : goal.returns-in-Ok-run-2-clause-taken
+returns-in-Ok-run-2-clause-taken g c clean =
+    let l = c.in-Some-Bare.layout in
+    let has : c.args.conn.now.schema ≡ bare_schema l = search rules in
+    let is = c.is_bare_book.ensures.is l in
+    let looked : HasCleanDisk (state g.S.Store c.is_bare_book.new.conn) → IsLook c.is_bare_book.result (state g.S.Store c.args.conn.now) (state g.S.Store c.is_bare_book.new.conn) = λ was. c.is_bare_book.ensures.look was (inr (inr (l, has))) in
+    search rules
+
+pub returns-in-Ok-run-2-clause-listed : goal.returns-in-Ok-run-2-clause-listed
+returns-in-Ok-run-2-clause-listed g c clean =
+    let l = c.in-Some-Bare.layout in
+    let has : c.args.conn.now.schema ≡ bare_schema l = search rules in
+    let is = c.is_bare_book.ensures.is l in
+    let looked : HasCleanDisk (state g.S.Store c.is_bare_book.new.conn) → IsLook c.is_bare_book.result (state g.S.Store c.args.conn.now) (state g.S.Store c.is_bare_book.new.conn) = λ was. c.is_bare_book.ensures.look was (inr (inr (l, has))) in
+    search rules
+
+pub returns-in-Ok-run-2-clause-crash : goal.returns-in-Ok-run-2-clause-crash
+returns-in-Ok-run-2-clause-crash g c =
+    let l = c.in-Some-Bare.layout in
+    let has : c.args.conn.now.schema ≡ bare_schema l = search rules in
+    let was = state g.S.Store c.args.conn.now in
+    let mid = state g.S.Store c.is_bare_book.new.conn in
+    let new = state g.S.Store c.run-in-Ok-true-is_bare_book.new.conn in
+    let is = c.is_bare_book.ensures.is l in
+    let looked : HasCleanDisk mid → IsLook c.is_bare_book.result was mid = λ clean. c.is_bare_book.ensures.look clean (inr (inr (l, has))) in
+    let bare : HasCleanDisk new → IsBareBook l was.now = λ clean. search rules in
+    let same : HasCleanDisk new → mid.now ≡ was.now = λ clean. search rules in
+    survives_then was mid new _ _ _ (λ _ db none. absurd none)
+    (λ clean db may. inr (l, bare clean, subst (λ (d : Database). AreExtended l d db) (same clean) (may l (subst (IsBareBook l) (sym (same clean)) (bare clean)))))
+    c.is_bare_book.ensures.crash c.run-in-Ok-true-is_bare_book.ensures.crash
+
+pub returns-in-Err-run-2-clause-store : goal.returns-in-Err-run-2-clause-store
+returns-in-Err-run-2-clause-store g c clean none bare told =
+    let l = c.in-Some-Bare.layout in
+    let has : c.args.conn.now.schema ≡ bare_schema l = search rules in
+    let not = bare l in
+    let is = c.is_bare_book.ensures.is l in
+    search rules
+
+pub returns-in-Err-run-2-clause-crash : goal.returns-in-Err-run-2-clause-crash
+returns-in-Err-run-2-clause-crash g c =
+    let l = c.in-Some-Bare.layout in
+    let has : c.args.conn.now.schema ≡ bare_schema l = search rules in
+    let was = state g.S.Store c.args.conn.now in
+    let mid = state g.S.Store c.is_bare_book.new.conn in
+    let new = state g.S.Store c.run-in-Ok-true-is_bare_book.new.conn in
+    let is = c.is_bare_book.ensures.is l in
+    let looked : HasCleanDisk mid → IsLook c.is_bare_book.result was mid = λ clean. c.is_bare_book.ensures.look clean (inr (inr (l, has))) in
+    let bare : HasCleanDisk new → IsBareBook l was.now = λ clean. search rules in
+    let same : HasCleanDisk new → mid.now ≡ was.now = λ clean. search rules in
+    survives_then was mid new _ _ _ (λ _ db none. absurd none)
+    (λ clean db may. inr (l, bare clean, subst (λ (d : Database). AreExtended l d db) (same clean) (may l (subst (IsBareBook l) (sym (same clean)) (bare clean)))))
+    c.is_bare_book.ensures.crash c.run-in-Ok-true-is_bare_book.ensures.crash
+
+pub returns-in-Err-is_bare_book-clause-store : goal.returns-in-Err-is_bare_book-clause-store
+returns-in-Err-is_bare_book-clause-store g c clean none bare told =
+    let l = c.in-Some-Bare.layout in
+    let has : c.args.conn.now.schema ≡ bare_schema l = search rules in
+    let looked = c.is_bare_book.ensures.look clean (inr (inr (l, has))) in
+    search rules

@@ -50,3 +50,9 @@ returns-in-EntriesGone-clause-ran g c = performed (statement.EntriesGone c.in-En
 
 pub returns-in-MovementsGone-clause-ran : goal.returns-in-MovementsGone-clause-ran
 returns-in-MovementsGone-clause-ran g c = performed (statement.MovementsGone c.in-MovementsGone.matter) _ _ _ _ _ c.in-MovementsGone.is (search rules) c.execute-in-MovementsGone.ensures.runs c.execute-in-MovementsGone.ensures.survives
+
+pub returns-in-Act-clause-ran : goal.returns-in-Act-clause-ran
+returns-in-Act-clause-ran g c = performed (statement.Act c.in-Act.a) _ _ _ _ _ c.in-Act.is (search rules) c.execute-in-Act.ensures.runs c.execute-in-Act.ensures.survives
+
+pub returns-in-ActsGone-clause-ran : goal.returns-in-ActsGone-clause-ran
+returns-in-ActsGone-clause-ran g c = performed (statement.ActsGone c.in-ActsGone.matter) _ _ _ _ _ c.in-ActsGone.is (search rules) c.execute-in-ActsGone.ensures.runs c.execute-in-ActsGone.ensures.survives

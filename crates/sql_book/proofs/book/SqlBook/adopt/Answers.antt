@@ -1,5 +1,5 @@
 use Rattle.sql_book.proofs.Names.{inl, inr, sym, ap, subst, rules, Database, state, IsBook, StandsSound, firm_in}
-use Rattle.sql_book.proofs.Moves.{moved_in, firm_moved_in}
+use Rattle.sql_book.proofs.Moves.{extended_firm, extended_stands, moved_in, firm_moved_in}
 use Rattle.sql_book.proofs.Openings.{settled_lasts}
 use Rattle.sql_book.proofs.book.SqlBook.adopt.Goals as goal
 
@@ -22,14 +22,23 @@ returns-in-Ok-clause-taken g c sure =
           stands = λ s. subst (StandsSound l) (sym kept.now) s;
           lasts = λ s. lasting (subst (StandsSound l) (sym kept.now) s);
         })
-        | inr moved ↦ inr (record {
-          layout = moved.0;
-          book = moved.1;
-          moved = moved.2;
-          firm = λ s. firm_moved_in l old new moved.0 moved.2 s;
-          stands = λ s. moved_in l old new moved.0 moved.2 s;
-          lasts = λ s. lasting (moved_in l old new moved.0 moved.2 s);
-        })
+        | inr changed ↦ inr (elim changed [
+          | inl moved ↦ inl (record {
+            layout = moved.0;
+            book = moved.1;
+            moved = moved.2;
+            firm = λ s. firm_moved_in l old new moved.0 moved.2 s;
+            stands = λ s. moved_in l old new moved.0 moved.2 s;
+            lasts = λ s. lasting (moved_in l old new moved.0 moved.2 s);
+          })
+          | inr given ↦ inr (record {
+            book = given.0;
+            extended = given.1;
+            firm = extended_firm l old new given.1;
+            stands = λ s. extended_stands l old new given.1 s;
+            lasts = λ s. lasting (extended_stands l old new given.1 s);
+          })
+        ])
       ];
       settled = search rules;
     }

@@ -1,0 +1,3 @@
+pub mod TellNothing
+pub mod Dossiers
+pub mod SignedRuns

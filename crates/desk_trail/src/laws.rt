@@ -1,0 +1,31 @@
+//! Laws of a firm's acts. Each is the contract of a function that does nothing.
+
+ghost use Rattle.desk_trail.specs.Dossiers.{EachDossierOwn, SameDossiers, OthersActsStay};
+ghost use Rattle.desk_trail.specs.SignedRuns.{OlderFirmsAreSigned, RunsStaySigned, PaymentsAreApproved, LaterPaymentsAreApproved};
+ghost use Rattle.desk_trail.specs.TellNothing.{ActsTellNothing, RunsTellNothing};
+
+/// Acts tell nothing. Two firms that differ in their acts alone answer alike whatever they hear, and differ in their
+/// acts alone afterwards.
+pub fn acts_tell_nothing()
+    ensures steps { ActsTellNothing }
+    ensures runs { RunsTellNothing }
+{}
+
+/// In every run each matter's acts, with its rows, are those of its own machine. Two firms with the same rows and acts
+/// of a matter, which hear the same for it, leave it with the same rows and acts, whatever else they have and hear.
+/// What does not concern a matter leaves its acts.
+pub fn acts_are_own()
+    ensures own { EachDossierOwn }
+    ensures two_firms { SameDossiers }
+    ensures others { OthersActsStay }
+{}
+
+/// Each payment that is or was issued has exactly one act of approval among its matter's acts, on the day of its issue,
+/// by a person who had a lawyer's seat then: in a book that was empty, after all runs on whatever days, whatever
+/// stopped their steps. In a book that is older than its acts this is so of each payment that was not issued before.
+pub fn payments_are_signed()
+    ensures begins { OlderFirmsAreSigned }
+    ensures runs { RunsStaySigned }
+    ensures approved { PaymentsAreApproved }
+    ensures later { LaterPaymentsAreApproved }
+{}

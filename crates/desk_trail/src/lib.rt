@@ -1,0 +1,21 @@
+//! Laws of the acts that the desk's runs leave in a firm, which say who did what in each matter.
+//!
+//! # What is promised
+//!
+//! Each law is the contract of a function that does nothing. They speak of the steps of `trust_desk`, and of the runs
+//! that it promises. A matter's dossier is its rows with its acts, as in `trail_laws`.
+//!
+//! - `laws` `acts_tell_nothing`: two firms that differ in their acts alone answer alike whatever they hear, and differ
+//!   in their acts alone afterwards (`steps`); so each run of the one could be one of the other (`runs`).
+//! - `laws` `acts_are_own`: **in every run each matter's dossier afterwards is that of its own machine** if nothing
+//!   that concerns it was stopped (`own`); two firms with the same dossier of a matter, which hear the same for it,
+//!   leave it the same (`two_firms`); a step that does not concern a matter leaves its acts (`others`).
+//! - `laws` `payments_are_signed`: **each payment that is or was issued has exactly one act of approval among its
+//!   matter's acts, on the day of its issue, by a person who had a lawyer's seat then**, after all runs of a book that
+//!   was empty (`approved`). In a book that is older than its acts this is so of each payment that was not issued
+//!   before (`later`). A matter without acts is signed from what its rows say (`begins`), and each run of a sound firm
+//!   keeps each matter's dossier signed, which also says that its seats are those that its acts left, and that the
+//!   policy allowed each act to its caller, with the seats of that moment (`runs`).
+#![tactic(auto)]
+
+pub mod laws;

@@ -1,0 +1,5 @@
+use Rattle.firm_rows.proofs.Acts.{acts-decide-nothing}
+use Rattle.firm_rows.proofs.laws.acts_decide_nothing.Goals as goal
+
+pub returns : goal.returns
+returns c = acts-decide-nothing

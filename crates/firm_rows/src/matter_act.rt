@@ -1,0 +1,26 @@
+// Acts of the matters of a firm.
+
+ghost use Rattle.std.specs.Prelude.{◌≡◌, IfOk};
+
+use std::alloc::AllocError;
+use trust_base::MatterNo;
+use trust_matter::Act;
+
+/// What was accepted of a matter, by number: who did what, of which entry, on which business day.
+#[derive(Drop)]
+pub struct MatterAct {
+    pub matter: MatterNo,
+    pub act: Act,
+}
+
+impl MatterAct {
+    /// A deep copy. The only error is out of memory.
+    pub fn copied(&self) -> Result<MatterAct, AllocError>
+        ensures { IfOk result (λ a. a ≡ self.now) }
+    {
+        Ok(MatterAct {
+            matter: self.matter,
+            act: self.act.copied()?,
+        })
+    }
+}

@@ -1,0 +1,174 @@
+-- The firm's acts, after one was added and after those of a matter are gone.
+use Rattle.sql_rows.proofs.Names.{◌≡◌, ℕ, ℤ, pos, nat_abs, ◌==◌, ◌≤◌, Bool, true, false, not, ◌&&◌, cond, List, [], ◌∷◌, ◌++◌, map, length, Option, Some, None, IfSome, refl, sym, ap, ◌∙◌, arith, append-nil, int_eq, AllByRecursion, map-append, nat_tests, delete_where, all-append, all-filter, all_weaker, Edit, Act, Caller, Deed, MatterAct, acts_without, joined_act, joined_acts, is_act_of, Lists, act_columns, act_entry_column, caller_column, deed_column, text_column, number_column, IsCaller, act_from, caller_from, entry_or_none, IsWrittenAct, IsTypedAct, AreMade, act_steps, trail_steps, ints}
+use Rattle.std.specs.Prelude.{nat_le}
+use Rattle.std.specs.List.{list_all}
+use Rattle.std.specs.Str.{bytes_eq}
+use Rattle.trust_base.specs.Names.{cashier_text, is_person_byte, is_person_text, IsPerson}
+use Rattle.trust_base.specs.declared.limits.TheConstants.{MAX_PERSON}
+use Rattle.trust_values.specs.Limits.{IsEntryNo}
+use Rattle.matter_rows.specs.declared.act.Caller.TheVariants.{Cashier, Person}
+use Rattle.matter_rows.specs.declared.act.Deed.TheVariants as deed
+use Rattle.matter_parts.specs.declared.edit.Edit.TheVariants as edit
+use Rattle.sql_tables.specs.Rows as table
+use Rattle.sql_rows.specs.Acts.{IsAct}
+use Rattle.sql_rows.specs.Meaning.{deed_from}
+use Rattle.sql_rows.proofs.KeyedRows.{int_eq-nat, not_zero}
+use Rattle.sql_rows.proofs.RowOrder.{read-filter_agrees}
+use Rattle.sql_rows.proofs.Seats.{role_back}
+
+-- The columns of an act give it back.
+
+number_back : (o : Option ℕ) → IfSome o (λ n. 1 ≤ n) → entry_or_none (nat_abs (act_entry_column o)) ≡ o
+number_back o one = grind (arith, ints, nat_tests, not_zero)
+
+last_fails : (a b c d : Bool) → (a && b && c && not d) ≡ true → d ≡ false
+last_fails a b c d h = grind arith
+
+-- no person is called `cashier`
+other_name : (name : List ℕ) → IsPerson name → bytes_eq name cashier_text ≡ false
+unfolding is_person_text
+other_name name is =
+    last_fails (nat_le 1 (length name)) (nat_le (length name) MAX_PERSON) (list_all is_person_byte name)
+    (bytes_eq name cashier_text) is
+
+caller_back : (c : Caller) → IsCaller c → caller_from (caller_column c) ≡ c
+caller_back Cashier is = refl
+caller_back (Person name) is = ap (λ b. cond b Cashier (Person name)) (other_name name is)
+
+-- who is named as the cashier is the cashier
+pub is_cashier : (c : Caller) → IsCaller c → bytes_eq (caller_column c) cashier_text ≡ true → c ≡ Cashier
+is_cashier c is named =
+    sym (caller_back c is) ∙ ap (λ b. cond b Cashier (Person (caller_column c))) named
+
+-- a person's name names somebody
+pub is_named : (text : List ℕ) → IsPerson text → (c : Caller) × (IsCaller c × (caller_column c ≡ text))
+is_named text is = (Person text, (is, refl))
+
+pub deed_back : (d : Deed) → deed_from (deed_column d) (text_column d) (number_column d) ≡ d
+unfolding deed_from
+deed_back (deed.Opened lawyer) = refl
+deed_back (deed.Seated seat) = λ i. deed.Seated (record { person = seat.person; role = role_back seat.role i })
+deed_back (deed.Unseated person) = refl
+deed_back deed.Closed = refl
+deed_back deed.Deposited = refl
+deed_back deed.Cancelled = refl
+deed_back deed.Cleared = refl
+deed_back deed.Returned = refl
+deed_back deed.Proposed = refl
+deed_back deed.Approved = refl
+deed_back deed.Declined = refl
+deed_back deed.Withdrawn = refl
+deed_back deed.Voided = refl
+deed_back deed.Earned = refl
+deed_back deed.Disputed = refl
+deed_back deed.Claimed = refl
+deed_back (deed.Offered part) = refl
+deed_back deed.Accepted = refl
+deed_back deed.Awarded = refl
+
+-- whatever its number
+pub act_back : (x : MatterAct) (seq : ℤ) → IsTypedAct (Some x.act)
+    → act_from (record (act_columns x) { seq = seq }) ≡ x
+act_back x seq typed = λ i. record {
+  matter = x.matter;
+  act = record {
+    entry = number_back x.act.entry typed.0 i;
+    day = x.act.day;
+    caller = caller_back x.act.caller typed.1 i;
+    deed = deed_back x.act.deed i;
+  };
+}
+
+typed : (o : Option ℕ) → IfSome o IsEntryNo → IfSome o (λ n. 1 ≤ n)
+typed None is = tt
+typed (Some n) is = is.0
+
+-- an act is the one that its columns stand for
+pub act_read : (x : MatterAct) (row : table.Act) → IsAct x → act_columns x ≡ row → x ≡ act_from row
+act_read x row is same = sym (act_back x (pos 0) (typed x.act.entry is.entry, is.caller)) ∙ ap act_from same
+
+-- and so is a deed
+pub deed_of_columns : (d : Deed) (code : ℤ) (text : List ℕ) (number : ℤ) → deed_column d ≡ code → text_column d ≡ text
+    → number_column d ≡ number → d ≡ deed_from code text number
+deed_of_columns d code text number c t n = sym (deed_back d) ∙ (λ i. deed_from (c i) (t i) (n i))
+
+-- One that is added.
+
+acts_added : (x : MatterAct) (seq : ℤ) (xs : List table.Act) → IsTypedAct (Some x.act)
+    → map act_from (xs ++ record (act_columns x) { seq = seq } ∷ []) ≡ map act_from xs ++ x ∷ []
+acts_added x seq xs typed = map-append act_from xs (record (act_columns x) { seq = seq } ∷ [])
+    ∙ ap (λ y. map act_from xs ++ y ∷ []) (act_back x seq typed)
+
+written_act_added : (x : MatterAct) (seq : ℤ) (xs : List table.Act) → IsTypedAct (Some x.act)
+    → AllByRecursion IsWrittenAct xs → AllByRecursion IsWrittenAct (xs ++ record (act_columns x) { seq = seq } ∷ [])
+written_act_added x seq xs typed all =
+    all-append IsWrittenAct xs _ all (sym (ap act_columns (act_back x seq typed)), tt)
+
+-- Those of a matter that are gone.
+
+-- a row is of the matter where its act is
+same_matter : (m : ℕ) (x : table.Act) → IsWrittenAct x → is_act_of (pos m) x ≡ (nat_abs x.matter == m)
+same_matter m x is =
+    ap (λ z. int_eq z (pos m)) (ap (λ (y : table.Act). y.matter) is) ∙ int_eq-nat (nat_abs x.matter) m
+
+-- those that are left stand for the acts without those of the matter
+acts_gone : (m : ℕ) (xs : List table.Act) → AllByRecursion IsWrittenAct xs
+    → map act_from (delete_where (is_act_of (pos m)) xs) ≡ acts_without m (map act_from xs)
+acts_gone m xs all =
+    read-filter_agrees act_from (λ x. not (is_act_of (pos m) x)) (λ a. not (a.matter == m)) xs
+    (all_weaker IsWrittenAct _ (λ x is. ap not (same_matter m x is)) xs all)
+
+-- What a change makes of them.
+
+-- no other table changes, and the rows stand for the acts after the change, and are what would be written for them
+pub record AreActsMade (m : ℕ) (o : Option Act) (e : Edit) (a b : Lists) : Type 0 where
+  pub acts : List table.Act
+  pub same : b ≡ record a { acts = acts }
+  pub shown : map act_from acts ≡ joined_acts m e o (map act_from a.acts)
+  pub written : AllByRecursion IsWrittenAct acts
+
+module _ (m : ℕ) (a b : Lists) (all : AllByRecursion IsWrittenAct a.acts) where
+  -- the act that the change is remembered by is added
+  pub record IsActMade (o : Option Act) : Type 0 where
+    pub acts : List table.Act
+    pub same : b ≡ record a { acts = acts }
+    pub shown : map act_from acts ≡ map act_from a.acts ++ joined_act m o
+    pub written : AllByRecursion IsWrittenAct acts
+
+  act_made : (o : Option Act) → IsTypedAct o → AreMade (act_steps m o) a b → IsActMade o
+  act_made None typed made = record {
+    acts = a.acts;
+    same = made;
+    shown = sym (append-nil (map act_from a.acts));
+    written = all;
+  }
+  act_made (Some act) typed made =
+      let x : MatterAct = record { matter = m; act = act } in
+      let seq : ℤ = made.1.0 in record {
+        acts = a.acts ++ record (act_columns x) { seq = seq } ∷ [];
+        same = made.2 ∙ made.1.1;
+        shown = acts_added x seq a.acts typed;
+        written = written_act_added x seq a.acts typed all;
+      }
+
+  added : (o : Option Act) (e : Edit) → IsTypedAct o → AreMade (act_steps m o) a b
+      → joined_acts m e o (map act_from a.acts) ≡ map act_from a.acts ++ joined_act m o → AreActsMade m o e a b
+  added o e typed made is =
+      let it = act_made o typed made in
+      record { acts = it.acts; same = it.same; shown = it.shown ∙ sym is; written = it.written }
+
+  -- each change does so, but one of nothing, and a purge, which removes those of the matter
+  pub acts_made : (o : Option Act) (e : Edit) → IsTypedAct o → AreMade (trail_steps m o e) a b → AreActsMade m o e a b
+  acts_made o edit.Nothing typed made = record { acts = a.acts; same = made; shown = refl; written = all }
+  acts_made o (edit.Open x) typed made = added o (edit.Open x) typed made refl
+  acts_made o (edit.Seat x) typed made = added o (edit.Seat x) typed made refl
+  acts_made o (edit.Unseat x) typed made = added o (edit.Unseat x) typed made refl
+  acts_made o (edit.Close x) typed made = added o (edit.Close x) typed made refl
+  acts_made o (edit.Purge x) typed made = record {
+    acts = delete_where (is_act_of (pos m)) a.acts;
+    same = made.2 ∙ made.1;
+    shown = acts_gone m a.acts all;
+    written = all-filter IsWrittenAct _ a.acts all;
+  }
+  acts_made o (edit.Append x) typed made = added o (edit.Append x) typed made refl
+  acts_made o (edit.Exchange x) typed made = added o (edit.Exchange x) typed made refl
