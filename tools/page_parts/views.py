@@ -18,7 +18,8 @@ WIDTHS = WIDTHS_OF_MANY = (WIDE, PHONE, NARROW)
 
 REPORTS = [*ADDRESSES, "#/reconciliation", "#/reconciliation/2026-03-31", "#/clients", "#/clients/2026-03-31",
            "#/month", "#/month/2026-03-31", "#/report/receipts", "#/report/receipts/2026-03-01/2026-03-31",
-           "#/report/disbursements/2026-03-01/2026-03-31", "#/report/outstanding", "#/report/outstanding/2026-03-31",
+           "#/report/disbursements/2026-03-01/2026-03-31", "#/report/approvals",
+           "#/report/approvals/2026-03-01/2026-03-31", "#/report/outstanding", "#/report/outstanding/2026-03-31",
            "#/accounts", "#/accounts/2026-03-01/2026-03-31"]
 FORMS = {"cashier": ["deposit", "propose", "claim", "seats"], "lee": ["propose", "fee", "claim"], "ada": ["dispute"]}
 

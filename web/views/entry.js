@@ -3,7 +3,7 @@
 import { grouped, isMore, isNothing } from '../amounts.js';
 import { change } from '../asks.js';
 import { askAbout, askFirst } from '../boxes.js';
-import { entriesPath, entryPath, matterPath } from '../desk.js';
+import { actsPath, entriesPath, entryPath, matterPath } from '../desk.js';
 import { button, el, label, link, money, p, quiet } from '../elements.js';
 import { entryFacts } from '../entry-facts.js';
 import { form, partField } from '../forms.js';
@@ -11,6 +11,7 @@ import { waitingOf } from '../lists.js';
 import { shown } from '../names.js';
 import { KINDS, fundOf } from '../words.js';
 import { backTo, roleIn } from './matter.js';
+import { doneTable, ofEntry } from './trail.js';
 
 const decision = (title, ...inside) =>
     el('section', { class: 'decide', 'aria-labelledby': 'decide' }, el('h2', { id: 'decide' }, title), ...inside);
@@ -137,8 +138,9 @@ function claimDecision(asked) {
 const DECISIONS = { deposit: depositDecision, payment: paymentDecision, fee: feeDecision, claim: claimDecision };
 
 export async function showEntry(page, no, number) {
-    const [{ body: matter }, { body: entry }] =
-        await Promise.all([page.desk.get(matterPath(no)), page.desk.get(entryPath(no, number))]);
+    const paths = [matterPath(no), entryPath(no, number), actsPath(no)];
+    const [{ body: matter }, { body: entry }, { body: { acts, earlier } }] =
+        await Promise.all(paths.map((path) => page.desk.get(path)));
     const place = el('div', {});
     const decisions = new Decisions(page, no, number, place);
     const asked = { page, no, matter, entry, role: roleIn(page, matter), decisions };
@@ -147,6 +149,7 @@ export async function showEntry(page, no, number) {
     const isUndoing = entry.state === 'issued' || entry.state === 'held';
     const parts = [
         entryFacts(entry),
+        doneTable(ofEntry(acts, number), earlier),
         place,
         isUndoing ? null : decided,
         backTo(no),

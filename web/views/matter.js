@@ -5,7 +5,7 @@ import { change } from '../asks.js';
 import { askFirst } from '../boxes.js';
 import { balanceOfMatter, movedBy } from '../balance.js';
 import { chart } from '../chart.js';
-import { cardPath, entriesPath, matterPath } from '../desk.js';
+import { actsPath, cardPath, entriesPath, matterPath } from '../desk.js';
 import { el, explained, facts, label, link, money, p, printed, quiet, readAgain, sums } from '../elements.js';
 import { form } from '../forms.js';
 import { readKept, waitingOf } from '../lists.js';
@@ -13,6 +13,7 @@ import { shown } from '../names.js';
 import { column, longTable } from '../tables.js';
 import { BALANCES, KINDS, meansOf, textsOf } from '../words.js';
 import { entryLink, stateOf, waitingTables } from './lists.js';
+import { doersOf, ofEntry } from './trail.js';
 
 const NEWEST = 100;
 
@@ -40,6 +41,7 @@ const ACTIONS = {
     seats: 'Access',
     account: 'Statement of account',
     card: 'Accounting, to print',
+    trail: 'Who did what',
 };
 
 const MAY = {
@@ -51,30 +53,30 @@ const MAY = {
 function actionsOf(no, role, matter, entries) {
     const may = matter.closed ? [] : MAY[role].filter((name) => name !== 'dispute' || entries.some(hasLeft));
     return el('ul', { class: 'actions', 'aria-label': 'What you can do' },
-        [...may, 'account', 'card'].map((name) => el('li', {}, link(`#/m/${no}/${name}`, ACTIONS[name]))));
+        [...may, 'account', 'card', 'trail'].map((name) => el('li', {}, link(`#/m/${no}/${name}`, ACTIONS[name]))));
 }
 
 const sumsOf = (matter) =>
     sums(BALANCES.map(([name, words, means]) => [name, words, money(matter[name]), means]));
 
 const ENTRY_COLUMNS = [column('Entry', 'tight'), column('Day', 'tight'), column('What', 'tight'), column('Details'),
-    column('State'), column('Amount', 'right'), column('Ledger', 'right')];
+    column('State'), column('Who'), column('Amount', 'right'), column('Ledger', 'right')];
 
-// What is paid out has a minus; the ledger is told behind each entry that moved it.
-function entryCells(no, moved) {
+// What is paid out has a minus; who made the entry what it is stands beside it, and the ledger behind each that moved it.
+function entryCells(no, moved, acts) {
     return (each) => {
         const { moved: amount, sum } = moved.get(each.entry) ?? {};
         return [entryLink({ matter: no, entry: each.entry }), each.day, KINDS[each.kind], label(textsOf(each)),
-            stateOf(each), amount ? money(amount) : el('span', { class: 'money nothing' }, grouped(each.amount)),
+            stateOf(each), label(doersOf(ofEntry(acts, each.entry)) || '-'), amount ? money(amount) : el('span', { class: 'money nothing' }, grouped(each.amount)),
             sum && money(sum)];
     };
 }
 
-const entriesTable = (matter, entries) => longTable({
+const entriesTable = (matter, entries, acts) => longTable({
     caption: 'Entries, newest first',
     columns: ENTRY_COLUMNS,
     items: [...entries].reverse(),
-    cells: entryCells(matter.matter, movedBy(matter, entries)),
+    cells: entryCells(matter.matter, movedBy(matter, entries), acts),
     first: NEWEST,
 });
 
@@ -111,7 +113,8 @@ async function purgingOf(page, no) {
 }
 
 export async function showMatter(page, no) {
-    const { matter, entries } = await readMatterWhole(page, no);
+    const [{ matter, entries }, { body: { acts } }] =
+        await Promise.all([readMatterWhole(page, no), page.desk.get(actsPath(no))]);
     const place = el('div', {});
     const isCashier = page.person === 'cashier';
     const seats = matter.seats.map(({ person, role }) => `${person} (${role})`).join(', ');
@@ -121,7 +124,7 @@ export async function showMatter(page, no) {
         place,
         waitingTables(waitingOf(matter, entries), true),
         chart('The ledger by day, held deposits included', balanceOfMatter(matter, entries), page.desk.day),
-        entriesTable(matter, entries),
+        entriesTable(matter, entries, acts),
         facts([['Opened', matter.opened], ['Closed', matter.closed], ['Who has access', seats]]),
         readAgain(page),
         isCashier && !matter.closed && closing(page, no, matter.client, place),

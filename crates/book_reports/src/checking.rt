@@ -2,12 +2,13 @@
 
 ghost use Rattle.std.specs.Prelude.{◌≡◌, ◌↔◌, ◌-◌, ◌^◌, IfOk, IfSome, None, min};
 ghost use Rattle.firm_audit.specs.Flaws.{IsFlawOf};
+ghost use Rattle.firm_audit.specs.Trails.{IsTrailFound};
 ghost use Rattle.firm_rows.specs.FirmSound.{FirmSound};
 ghost use Rattle.book_reports.specs.Checking.{AreCountsOf, entry_count, matter_count};
 ghost use Rattle.trust_store.specs.Calls.{IsRead};
 ghost use Rattle.trust_store.specs.Kept.{firm_of_all, joined};
 
-use firm_audit::{Flaw, audit};
+use firm_audit::{Flaw, TrailFound, audit, audit_trail};
 use std::alloc::Global;
 use trust_base::StoreFault;
 use trust_store::{AllRows, Book, KeptMatter};
@@ -36,6 +37,8 @@ pub struct Checked {
     pub flaw: Option<Flaw>,
     /// How many rows the book has.
     pub counts: RowCounts,
+    /// Whether its trail fits the rows.
+    pub trail: TrailFound,
 }
 
 // How many of these matters were opened.
@@ -78,8 +81,8 @@ fn counts_of(rows: &AllRows) -> RowCounts
 
 /// Reads all rows of the book, and returns how many there are and what is not sound in them. The store may hold
 /// anything that can be read as rows. No flaw is returned exactly if the rows are those of a sound firm, and one
-/// that is returned is there. It is never `Flaw::Matter`, since a book returns whole matters only. The book is
-/// unchanged.
+/// that is returned is there. It is never `Flaw::Matter`, since a book returns whole matters only. Whether the trail
+/// fits the rows is told too, sound or not. The book is unchanged.
 ///
 /// Returns `Store` if the book's store failed, if a row is invalid, or if a matter is not the whole of sound rows;
 /// `find_unread` then returns which. Returns `Memory` if memory ran out.
@@ -90,14 +93,20 @@ pub fn check<B: Book>(alloc: Global, book: &mut B) -> Result<Checked, StoreFault
         → IfOk result (λ c. IfSome c.flaw (IsFlawOf (B.seen book.old).firm)) }
     ensures counts { (B.seen book.new).clean → (B.seen book.old).readable
         → IfOk result (λ c. AreCountsOf (B.seen book.old).firm c.counts) }
+    ensures trail { (B.seen book.new).clean → (B.seen book.old).readable
+        → IfOk result (λ c. IsTrailFound (B.seen book.old).firm c.trail) }
     ensures read { IsRead result (B.seen book.old) (B.seen book.new) }
 {
     let rows = book.all_rows(alloc)?;
     let Ok(flaw) = audit(alloc, &rows) else {
         return Err(StoreFault::Memory);
     };
+    let Ok(trail) = audit_trail(alloc, &rows) else {
+        return Err(StoreFault::Memory);
+    };
     Ok(Checked {
         flaw,
         counts: counts_of(&rows),
+        trail,
     })
 }

@@ -1,6 +1,4 @@
 pub mod Alike
 pub mod Texts
 pub mod Replies
-pub mod OwnActs
-pub mod OwnDossiers
 pub mod SignedRuns

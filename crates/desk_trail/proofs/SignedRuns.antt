@@ -19,15 +19,16 @@ use Rattle.trail_laws.proofs.Approved.{issues-are_approved}
 use Rattle.trail_laws.proofs.Growing.{signed-bare}
 use Rattle.trail_laws.proofs.Signed.{no-acts_are_signed, steps-keep_signed}
 use Rattle.trust_desk.proofs.AlwaysCovered.{sound-after_item}
+use Rattle.trust_desk.proofs.OwnDossiers.{kind-dossier, own-item}
+use Rattle.trust_desk.specs.Acts.{dossier_of}
+use Rattle.trust_desk.specs.Solo.{own_dossier, solo_dossier}
 use Rattle.trust_desk.specs.declared.requests.Reply.{Reply}
 use Rattle.trust_desk.specs.FirmStep.{IsStopped, KindStopped, RunsSoundly, Steps, firm_step, kind_step}
-use Rattle.trust_desk.specs.Heard.{Heard, Kind, OfMatter, OfItems, Dismisses, Own, OwnAsk, OwnLine, OwnRefusal, asked_on, kind_of, own_if, own_of_item}
+use Rattle.trust_desk.specs.Heard.{Heard, Kind, OfMatter, OfItems, Dismisses, Own, OwnAsk, OwnActs, OwnLine, OwnRefusal, asked_on, kind_of, own_if, own_of_item}
 use Rattle.trust_desk.specs.ItemStep.{after_item, after_items}
 use Rattle.trust_desk.specs.Replies.{is_fault_reply}
 use Rattle.desk_laws.specs.OnceOnly.{DayRun}
-use Rattle.desk_trail.specs.Dossiers.{dossier_of, own_dossier, solo_dossier}
 use Rattle.desk_trail.specs.SignedRuns.{IsSignedSince, LaterPaymentsAreApproved, OlderFirmsAreSigned, PaymentsAreApproved, RunsSoundlyOn, RunsStaySigned}
-use Rattle.desk_trail.proofs.OwnDossiers.{kind-dossier, own-item}
 
 -- What concerns a matter keeps its dossier signed.
 
@@ -44,6 +45,7 @@ either p (inr s) = s
 one-signed : (b : Beginning) (p : Dossier) (own : Own) → Sound p.rows → IsSigned b p → IsSignedSince b (own_dossier p own)
 one-signed b p (OwnAsk a) sound s =
     begun (refusal p.rows a) (edit_on p.rows a) b (own_dossier p (OwnAsk a)) (steps-keep_signed b p (AnAsk a) sound s)
+one-signed b p (OwnActs caller day) sound s = inl s
 one-signed b p (OwnRefusal r) sound s = inl s
 one-signed b p (OwnLine l day) sound s = inl (steps-keep_signed b p (ALine l day) sound s)
 

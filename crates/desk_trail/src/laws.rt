@@ -1,22 +1,19 @@
 //! Laws of a firm's acts. Each is the contract of a function that does nothing.
 
-ghost use Rattle.desk_trail.specs.Dossiers.{EachDossierOwn, SameDossiers, OthersActsStay};
+ghost use Rattle.desk_trail.specs.Dossiers.{EachActsOwn, OthersActsStay};
 ghost use Rattle.desk_trail.specs.SignedRuns.{OlderFirmsAreSigned, RunsStaySigned, PaymentsAreApproved, LaterPaymentsAreApproved};
 ghost use Rattle.desk_trail.specs.TellNothing.{ActsTellNothing, RunsTellNothing};
 
-/// Acts tell nothing. Two firms that differ in their acts alone answer alike whatever they hear, and differ in their
-/// acts alone afterwards.
+/// Acts tell nothing but what they say. Two firms that differ in their acts alone answer alike whatever they hear, but
+/// for the trail and the approvals, and differ in their acts alone afterwards.
 pub fn acts_tell_nothing()
     ensures steps { ActsTellNothing }
     ensures runs { RunsTellNothing }
 {}
 
-/// In every run each matter's acts, with its rows, are those of its own machine. Two firms with the same rows and acts
-/// of a matter, which hear the same for it, leave it with the same rows and acts, whatever else they have and hear.
-/// What does not concern a matter leaves its acts.
+/// In every run each matter's acts are those of its own machine. What does not concern a matter leaves its acts.
 pub fn acts_are_own()
-    ensures own { EachDossierOwn }
-    ensures two_firms { SameDossiers }
+    ensures own { EachActsOwn }
     ensures others { OthersActsStay }
 {}
 

@@ -7,9 +7,9 @@
 //!
 //! - `laws` `acts_tell_nothing`: two firms that differ in their acts alone answer alike whatever they hear, and differ
 //!   in their acts alone afterwards (`steps`); so each run of the one could be one of the other (`runs`).
-//! - `laws` `acts_are_own`: **in every run each matter's dossier afterwards is that of its own machine** if nothing
-//!   that concerns it was stopped (`own`); two firms with the same dossier of a matter, which hear the same for it,
-//!   leave it the same (`two_firms`); a step that does not concern a matter leaves its acts (`others`).
+//! - `laws` `acts_are_own`: **in every run each matter's acts afterwards are those of its own machine** if nothing that
+//!   concerns it was stopped (`own`); a step that does not concern a matter leaves its acts (`others`). That two firms
+//!   with the same rows and acts of a matter are told, and leave, the same is `two_firms` of `desk_laws`.
 //! - `laws` `payments_are_signed`: **each payment that is or was issued has exactly one act of approval among its
 //!   matter's acts, on the day of its issue, by a person who had a lawyer's seat then**, after all runs of a book that
 //!   was empty (`approved`). In a book that is older than its acts this is so of each payment that was not issued

@@ -1,3 +1,5 @@
+pub mod Approvals
+pub mod FoundTrails
 pub mod Ascending
 pub mod Entries
 pub mod Fronts

@@ -2,6 +2,7 @@
 
 ghost use Rattle.std.specs.Prelude.{◌≡◌, ◌↔◌, IfOk, IfSome, None, OnOk};
 ghost use Rattle.firm_audit.specs.Flaws.{IsFlawOf};
+ghost use Rattle.firm_audit.specs.Trails.{IsTrailFound};
 ghost use Rattle.firm_rows.specs.FirmSound.{FirmSound};
 ghost use Rattle.book_reports.specs.Checking.{AreCountsOf, AreReads};
 ghost use Rattle.trust_store.specs.Calls.{IsRead};
@@ -25,6 +26,8 @@ impl<B: Book> Desk<B> {
             → IfOk result (λ c. IfSome c.flaw (IsFlawOf (B.seen self.old).firm)) }
         ensures counts { (B.seen self.new).clean → (B.seen self.old).readable
             → IfOk result (λ c. AreCountsOf (B.seen self.old).firm c.counts) }
+        ensures trail { (B.seen self.new).clean → (B.seen self.old).readable
+            → IfOk result (λ c. IsTrailFound (B.seen self.old).firm c.trail) }
         ensures read { IsRead result (B.seen self.old) (B.seen self.new) }
     {
         check(alloc, &mut self.book)

@@ -31,16 +31,20 @@ fn push_named(page: &mut Page, word: &str, entry: EntryNo) -> Result<(), AllocEr
     push_fields(page, &[Piece::Word(word), Piece::Entry(entry)])
 }
 
-// Appends a word and a day.
-fn push_dated(page: &mut Page, word: &str, day: Day) -> Result<(), AllocError>
+/// Appends a word and a day.
+pub(crate) fn push_dated(page: &mut Page, word: &str, day: Day) -> Result<(), AllocError>
     ensures before { page.new.before ≡ page.old.before }
     ensures text { OnOk result (page.new.text ≡ page.old.text ++ flat_map further (word.now ∷ day_text day ∷ [])) }
 {
     push_fields(page, &[Piece::Word(word), Piece::Day(day)])
 }
 
-// Appends a word, and the day and reference of a bank line.
-fn push_told<'a>(page: &mut Page, word: &'a str, clearing: &'a Clearing) -> Result<(), AllocError>
+/// Appends a word, and the day and reference of a bank line.
+pub(crate) fn push_told<'a>(
+    page: &mut Page,
+    word: &'a str,
+    clearing: &'a Clearing,
+) -> Result<(), AllocError>
     ensures before { page.new.before ≡ page.old.before }
     ensures text { OnOk result (page.new.text ≡ page.old.text ++ flat_map further (told word.now clearing.now)) }
 {
