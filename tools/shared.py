@@ -17,6 +17,7 @@ CASHIER = os.path.join(ROOT, "cashier")  # runs the program of program/
 REPORTS = {"trial": "/firm/trial-balance", "journal": "/firm/journal", "retention": "/firm/retention",
            "exceptions": "/firm/exceptions", "reconcile": "/firm/reconciliation/{0}", "clients": "/firm/clients/{0}",
            "receipts": "/firm/receipts/{0}/{1}", "disbursements": "/firm/disbursements/{0}/{1}",
+           "approvals": "/firm/approvals/{0}/{1}", "trail": "/firm/trail",
            "outstanding": "/firm/outstanding/{0}", "month": "/firm/month/{0}", "ledger": "/matters/{0}/accounting",
            "account": "/matters/{0}/accounting/{1}/{2}"}
 # Those of the firm, whose operands are days.

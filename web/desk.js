@@ -129,5 +129,6 @@ export class Desk {
 export const matterPath = (matter) => `/matters/${matter}`;
 export const cardPath = (matter) => `/matters/${matter}/accounting`;
 export const accountPath = (matter, from, to) => `/matters/${matter}/accounting/${from}/${to}`;
+export const actsPath = (matter) => `/matters/${matter}/trail`;
 export const entriesPath = (matter) => `/matters/${matter}/entries`;
 export const entryPath = (matter, entry) => `/matters/${matter}/entries/${entry}`;

@@ -7,6 +7,7 @@ import { button, el, label, link, p } from './elements.js';
 import { Shelf } from './shelf.js';
 import { account } from './views/account.js';
 import { accounts } from './views/accounts.js';
+import { approvals } from './views/approvals.js';
 import { clients } from './views/clients.js';
 import { showEntry } from './views/entry.js';
 import { showCard, showMatter } from './views/matter.js';
@@ -21,6 +22,7 @@ import { records } from './views/records.js';
 import { REPORT_NAMES, report } from './views/report.js';
 import { seats } from './views/seats.js';
 import { statement } from './views/statement.js';
+import { matterTrail } from './views/trail.js';
 
 // A matter whose number was typed without its zeros.
 function showShort(page, short) {
@@ -45,6 +47,8 @@ const VIEWS = [
     [/^#\/records$/, records],
     [new RegExp(`^#/report/(${REPORT_NAMES.join('|')})$`, 'u'), report],
     [/^#\/report\/(receipts|disbursements)(?:\/(\d{4}-\d\d-\d\d)\/(\d{4}-\d\d-\d\d))?$/, journalOf],
+    [/^#\/report\/approvals(?:\/(\d{4}-\d\d-\d\d)\/(\d{4}-\d\d-\d\d))?$/, approvals],
+    [/^#\/m\/(\d{6})\/trail$/, matterTrail],
     [/^#\/report\/outstanding(?:\/(\d{4}-\d\d-\d\d))?$/, outstanding],
     [/^#\/month(?:\/(\d{4}-\d\d-\d\d))?$/, month],
     [/^#\/reconciliation(?:\/(\d{4}-\d\d-\d\d))?$/, reconciliation],

@@ -74,6 +74,26 @@ export function readMovements(text) {
     return lists;
 }
 
+const APPROVAL = new RegExp('^(\\d{4}-\\d\\d-\\d\\d) (M\\d{6}-\\d{4}) (\\d+\\.\\d\\d) (\\S+)'
+    + '(?: (CLEARED|VOIDED) (\\d{4}-\\d\\d-\\d\\d)(?: (.*?))?)? \\| (.*)$', 'su');
+
+// The approvals of a period: each issued payment, who approved it, if an act says so, and what became of it.
+export const readApprovals = (text) => linesOf(text).slice(1).map((line) => {
+    const [, day, reference, amount, approver, end, endDay, bankRef, words] = APPROVAL.exec(line);
+    return { day, reference, amount, approver: approver === '-' ? null : approver, end, endDay, bankRef, words };
+});
+
+// The acts of a trail, and whether it says that earlier ones are not recorded.
+export function readTrail(text) {
+    const [, ...lines] = linesOf(text);
+    const isCut = lines[0] === 'EARLIER ACTS ARE NOT RECORDED';
+    const acts = lines.slice(isCut ? 1 : 0).map((line) => {
+        const [day, reference, caller, deed, ...more] = line.split(' ');
+        return { day, reference, caller, deed, more };
+    });
+    return { isCut, acts };
+}
+
 const BALANCED = /^(\d{4}-\d\d-\d\d) (M\d{6}-\d{4}) (-?\d+\.\d\d) (-?\d+\.\d\d) ([A-Z]+)$/;
 
 // A statement of account: its first sum, each movement with the ledger behind it, and its last sum.

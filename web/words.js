@@ -27,6 +27,37 @@ export const MOVED = {
     OWN: 'the firm\u2019s own',
 };
 
+// What was done, in the words of the trail.
+const DEEDS = {
+    OPENED: 'opened the matter, with this lawyer:',
+    SEATED: 'gave a seat to',
+    UNSEATED: 'removed the seat of',
+    CLOSED: 'closed the matter',
+    DEPOSITED: 'booked a deposit',
+    CANCELLED: 'cancelled the deposit',
+    CLEARED: 'cleared it by a line of the bank',
+    RETURNED: 'took the deposit back by a line of the bank',
+    PROPOSED: 'proposed the payment',
+    APPROVED: 'approved the payment',
+    DECLINED: 'declined the payment',
+    WITHDRAWN: 'withdrew the payment',
+    VOIDED: 'voided the payment',
+    EARNED: 'booked a fee',
+    DISPUTED: 'raised a claim on a fee',
+    CLAIMED: 'raised a claim on the general fund',
+    OFFERED: 'offered the client this part:',
+    ACCEPTED: 'accepted the offer',
+    AWARDED: 'settled the claim by an award',
+};
+
+// With whose seat it is, and as what, or the part that was offered.
+export const deedWords = (deed, [whose, role]) =>
+    [DEEDS[deed], whose, role && `as ${role.toLowerCase()}`].filter(Boolean).join(' ');
+
+// The same of an act as a matter's own list has it. Who opens a matter gives the first seat to a lawyer.
+export const actWords = ({ deed, person, role, to_client: part }) =>
+    deedWords(deed.toUpperCase(), [person, deed === 'opened' ? null : role, part].filter(Boolean));
+
 export const BALANCES = [
     ['available', 'Available', 'can be paid out'],
     ['held', 'Held', 'paid in, not yet shown by the bank'],

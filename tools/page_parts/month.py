@@ -19,6 +19,10 @@ SHEET = {"preferCSSPageSize": True, "printBackground": False, "paperWidth": 8.5,
 # A matter whose texts look like the bars between texts.
 SPITEFUL = ("open,000004,,Dee | 9.99 Lane,lee\ndeposit,000004,0001,40.00,Eve | 000001,\"TOTAL 1.00 | x\"\n")
 
+APPROVED = (
+    "M000001-0002 lee Clerk of the Superior Court | filing fee | 1001 paid by the bank, 2026-03-19, 0319-0718 435.00",
+    "M000003-0005 sato Sunrise Reporting, LLC | transcript of 11 March | 1007 not shown by the bank yet 650.00",
+)
 SHOWN = (
     "The bank\u2019s closing balance 5,563.00", "Adjusted bank balance 6,953.00", "Gap 0.00",
     "exception 2026-03-27 COUNTER-12 0327-0561 | Counter deposit, branch 12, no name given 75.00",
@@ -30,9 +34,10 @@ SHOWN = (
     "2026-03-13 FIRM the firm\u2019s own 0313-0009 | Service charge, March 12.00",
     "M000002-0006 payment Bob Ruiz | what is left of the settlement | 1005 | Bob Ruiz 10,000.00",
     "Together 20,765.18",
+    *APPROVED,
 )
 HEADINGS = (f"Reconciliation of {DAY}", f"Clients as of {DAY}", f"Outstanding items of {DAY}",
-            f"Receipts, 2026-03-01 to {DAY}", f"Disbursements, 2026-03-01 to {DAY}")
+            f"Receipts, 2026-03-01 to {DAY}", f"Disbursements, 2026-03-01 to {DAY}", f"Approvals, 2026-03-01 to {DAY}")
 
 
 def has(checks: Checks, browser: Browser, at: str, words: typing.Iterable[str]) -> None:
@@ -66,7 +71,8 @@ def see_month(firm: Firm, browser: Browser, folder: pathlib.Path, checks: Checks
     browser.to("#/month")
     browser.press("Look for the last statement")
     checks.same("the last statement", browser.run("return location.hash"), f"#/month/{DAY}")
-    checks.same("the parts", [each.text for each in browser.find("main h2")][:5], list(HEADINGS))
+    parts = [each.text for each in browser.find("main h2")][:len(HEADINGS)]
+    checks.same("the parts", parts, list(HEADINGS))
     has(checks, browser, "month's end", SHOWN)
     text = firm.desk.ask("cashier", "GET", f"/firm/month/{DAY}")[1].encode()
     digits = hashlib.sha256(text).hexdigest()
@@ -77,7 +83,7 @@ def see_month(firm: Firm, browser: Browser, folder: pathlib.Path, checks: Checks
     for at, (sheet, heading) in enumerate(zip(sheets, HEADINGS)):
         checks.so(f"sheet {at + 1} has the firm, its account and {heading!r}",
                   all(word in sheet for word in (NAME, ACCOUNT, heading)), sheet)
-        word = f"Month\u2019s end of {DAY}, part {at + 1} of 5, SHA-256 {digits[:16]}"
+        word = f"Month\u2019s end of {DAY}, part {at + 1} of {len(HEADINGS)}, SHA-256 {digits[:16]}"
         checks.so(f"sheet {at + 1} names its packet", at == 0 or word in sheet, sheet)
     checks.so("the first sheet has the sum, and is signed",
               all(word in sheets[0] for word in (digits, "Signed", "Name", "Date")), sheets[0])
@@ -91,8 +97,9 @@ def be_refused(firm: Firm, browser: Browser, checks: Checks) -> None:
     has(checks, browser, "a day without a closing balance", (
         "No closing balance of that day was imported.", "404 NoStatement", "Import the bank\u2019s statement",
         f"Statements ended on {DAY}"))
-    for view in (f"#/month/{DAY}", f"#/report/receipts/2026-03-01/{DAY}", f"#/report/outstanding/{DAY}"):
-        firm.relay.fail("GET /firm/(month|receipts|outstanding)/", PURGED)
+    for view in (f"#/month/{DAY}", f"#/report/receipts/2026-03-01/{DAY}", f"#/report/approvals/2026-03-01/{DAY}",
+                 f"#/report/outstanding/{DAY}"):
+        firm.relay.fail("GET /firm/(month|receipts|approvals|outstanding)/", PURGED)
         browser.to(view)
         has(checks, browser, f"{view} of a purged time", ("was purged", "printed or kept then", "409 PeriodPurged"))
     browser.to("#/report/receipts/2026-03-01/2026-02-31")

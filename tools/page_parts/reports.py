@@ -15,5 +15,6 @@ REPORTS = {
     "exceptions": Told("EXCEPTIONS 2024-01-10", "Each line of the bank\u2019s has its entry."),
     "journal": Told("M000001-0001", "Nothing came into the account yet."),
     "retention": Told("RETENTION 2024-01-10", "No matter is closed."),
+    "trail": Told("TRAIL 2024-01-10", is_first=False),
 }
 ADDRESSES = [f"#/report/{name}" for name in REPORTS]

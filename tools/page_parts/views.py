@@ -9,7 +9,7 @@ from selenium.webdriver.common.keys import Keys
 from . import firms
 from .browser import PHONE, WIDE, Browser
 from .checks import Checks
-from .firm import ACCOUNT, NAME, Desk, Firm
+from .firm import ACCOUNT, NAME, Desk, Fault, Firm
 from .reports import ADDRESSES
 
 DAY = "2026-03-31"
@@ -18,7 +18,8 @@ WIDTHS = WIDTHS_OF_MANY = (WIDE, PHONE, NARROW)
 
 REPORTS = [*ADDRESSES, "#/reconciliation", "#/reconciliation/2026-03-31", "#/clients", "#/clients/2026-03-31",
            "#/month", "#/month/2026-03-31", "#/report/receipts", "#/report/receipts/2026-03-01/2026-03-31",
-           "#/report/disbursements/2026-03-01/2026-03-31", "#/report/outstanding", "#/report/outstanding/2026-03-31",
+           "#/report/disbursements/2026-03-01/2026-03-31", "#/report/approvals",
+           "#/report/approvals/2026-03-01/2026-03-31", "#/report/outstanding", "#/report/outstanding/2026-03-31",
            "#/accounts", "#/accounts/2026-03-01/2026-03-31"]
 FORMS = {"cashier": ["deposit", "propose", "claim", "seats"], "lee": ["propose", "fee", "claim"], "ada": ["dispute"]}
 
@@ -26,7 +27,7 @@ FORMS = {"cashier": ["deposit", "propose", "claim", "seats"], "lee": ["propose",
 def views_of(person: str, matter: str, entries: range) -> list[str]:
     """All views that the person has, of one matter."""
     at = f"#/m/{matter}"
-    own = [at, f"{at}/card", f"{at}/account", f"{at}/account/2026-03-01/2026-03-31",
+    own = [at, f"{at}/card", f"{at}/trail", f"{at}/account", f"{at}/account/2026-03-01/2026-03-31",
            *(f"{at}/{form}" for form in FORMS[person]), *(f"{at}/e/{each:04}" for each in entries)]
     firm = ["#/open", "#/statement", "#/records", *REPORTS] if person == "cashier" else []
     return ["#/", *firm, *own, "#/m/000777", "#/nowhere"]
@@ -106,7 +107,14 @@ def read_with_names(firm: Firm, checks: Checks) -> None:
             ("#/m/000003/account/2026-03-17/2026-03-31", (
                 "Account of Cleo Marsh, 2026-03-17 to 2026-03-31", "Opening 3,700.00", "Closing 3,850.00",
                 f"{DAY} M000003-0002 returned Dana Marsh | advance on costs -1,200.00 3,850.00")),
-            ("#/m/000001", ("5,000.00 5,000.00", "-435.00 4,565.00", "-1,650.00 2,915.00")),
+            ("#/m/000001", ("5,000.00 5,000.00", "-435.00 4,565.00", "-1,650.00 2,915.00",
+                            "cashier, lee\n-435.00")),
+            ("#/report/trail", ("2026-03-16 M000001-0002 Ada Chen lee approved the payment",
+                                "2026-03-02 000002 Bob Ruiz cashier opened the matter, with this lawyer: sato",
+                                "2026-03-16 M000001-0002 lee APPROVED")),
+            (f"#/report/approvals/2026-03-01/{DAY}", (
+                "lee Clerk of the Superior Court | filing fee | 1001 paid by the bank, 2026-03-19, 0319-0718 435.00",
+                "2026-03-30 M000003-0005 sato Sunrise Reporting, LLC | transcript of 11 March | 1007 not shown")),
             ("#/m/1", ("Matter 000001, Ada Chen",)),
             ("#/m/000001/propose/fee/0009", ("Nothing is left to be paid of fee 0009.",))):
         browser.to(view)
@@ -114,6 +122,43 @@ def read_with_names(firm: Firm, checks: Checks) -> None:
         text = browser.text()
         for each in words:
             checks.so(f"{view} has {each!r}", each in text, text)
+    browser.quit()
+
+
+def read_acts(firm: Firm, checks: Checks) -> None:
+    """All who may read a matter see who did what in it; the text to file is the cashier's."""
+    for person, has_text in (("cashier", True), ("lee", False), ("ada", False)):
+        browser = Browser(person, firm.origin)
+        for view, words in (
+                ("#/m/000001/trail", ("2026-03-02 cashier opened the matter, with this lawyer: lee",
+                                      "2026-03-16 0002 lee approved the payment")),
+                ("#/m/000001/e/0002", ("Who did what", "cashier proposed the payment",
+                                       "2026-03-16 lee approved the payment",
+                                       "cashier cleared it by a line of the bank"))):
+            browser.to(view)
+            browser.settle()
+            text = browser.text()
+            for each in words:
+                checks.so(f"{view} of {person} has {each!r}", each in text, text)
+            if view.endswith("trail"):
+                checks.same(f"whether {view} of {person} has the text", "TRAIL 000001" in text, has_text)
+        browser.to("#/m/000002/trail")
+        browser.settle()
+        is_refused = "404 NoMatter" in browser.text()
+        checks.same(f"whether {person} is refused another matter's trail", is_refused, person != "cashier")
+        browser.quit()
+
+
+def read_without_acts(firm: Firm, checks: Checks) -> None:
+    """Where the acts can't be read, an entry is shown and decided all the same."""
+    browser = Browser("lee", firm.origin)
+    for view, words in (("#/m/000001", "Clerk of the Superior Court"), ("#/m/000001/e/0002", "filing fee")):
+        firm.relay.fail("GET /matters/000001/trail", Fault("told", 503, '{"name":"Store","refusal":29}'))
+        browser.to(view)
+        browser.settle()
+        text = browser.text()
+        for each in (words, "Who did what could not be read."):
+            checks.so(f"{view} without acts has {each!r}", each in text, text)
     browser.quit()
 
 
@@ -232,6 +277,8 @@ def play(program: str, folder: pathlib.Path, checks: Checks) -> None:
     try:
         look_at_all(month, range(1, 6), "three matters", WIDTHS, checks)
         read_with_names(month, checks)
+        read_acts(month, checks)
+        read_without_acts(month, checks)
         read_tables_on_a_phone(month, checks)
         propose_by_keys(month, checks)
         print_views(month, folder, checks)

@@ -11,6 +11,7 @@ import { waitingOf } from '../lists.js';
 import { shown } from '../names.js';
 import { KINDS, fundOf } from '../words.js';
 import { backTo, roleIn } from './matter.js';
+import { doneTable, readActs } from './trail.js';
 
 const decision = (title, ...inside) =>
     el('section', { class: 'decide', 'aria-labelledby': 'decide' }, el('h2', { id: 'decide' }, title), ...inside);
@@ -137,8 +138,8 @@ function claimDecision(asked) {
 const DECISIONS = { deposit: depositDecision, payment: paymentDecision, fee: feeDecision, claim: claimDecision };
 
 export async function showEntry(page, no, number) {
-    const [{ body: matter }, { body: entry }] =
-        await Promise.all([page.desk.get(matterPath(no)), page.desk.get(entryPath(no, number))]);
+    const [{ body: matter }, { body: entry }, acts] = await Promise.all([
+        page.desk.get(matterPath(no)), page.desk.get(entryPath(no, number)), readActs(page, no)]);
     const place = el('div', {});
     const decisions = new Decisions(page, no, number, place);
     const asked = { page, no, matter, entry, role: roleIn(page, matter), decisions };
@@ -147,6 +148,7 @@ export async function showEntry(page, no, number) {
     const isUndoing = entry.state === 'issued' || entry.state === 'held';
     const parts = [
         entryFacts(entry),
+        doneTable(acts, number),
         place,
         isUndoing ? null : decided,
         backTo(no),

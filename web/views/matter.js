@@ -13,6 +13,7 @@ import { shown } from '../names.js';
 import { column, longTable } from '../tables.js';
 import { BALANCES, KINDS, meansOf, textsOf } from '../words.js';
 import { entryLink, stateOf, waitingTables } from './lists.js';
+import { doersOf, readActs, unreadNote } from './trail.js';
 
 const NEWEST = 100;
 
@@ -40,6 +41,7 @@ const ACTIONS = {
     seats: 'Access',
     account: 'Statement of account',
     card: 'Accounting, to print',
+    trail: 'Who did what',
 };
 
 const MAY = {
@@ -51,7 +53,7 @@ const MAY = {
 function actionsOf(no, role, matter, entries) {
     const may = matter.closed ? [] : MAY[role].filter((name) => name !== 'dispute' || entries.some(hasLeft));
     return el('ul', { class: 'actions', 'aria-label': 'What you can do' },
-        [...may, 'account', 'card'].map((name) => el('li', {}, link(`#/m/${no}/${name}`, ACTIONS[name]))));
+        [...may, 'account', 'card', 'trail'].map((name) => el('li', {}, link(`#/m/${no}/${name}`, ACTIONS[name]))));
 }
 
 const sumsOf = (matter) =>
@@ -60,21 +62,22 @@ const sumsOf = (matter) =>
 const ENTRY_COLUMNS = [column('Entry', 'tight'), column('Day', 'tight'), column('What', 'tight'), column('Details'),
     column('State'), column('Amount', 'right'), column('Ledger', 'right')];
 
-// What is paid out has a minus; the ledger is told behind each entry that moved it.
-function entryCells(no, moved) {
+// Who made the entry what it is stands beside its state. What is paid out has a minus; the ledger is told behind each
+// entry that moved it.
+function entryCells(no, moved, acts) {
     return (each) => {
         const { moved: amount, sum } = moved.get(each.entry) ?? {};
         return [entryLink({ matter: no, entry: each.entry }), each.day, KINDS[each.kind], label(textsOf(each)),
-            stateOf(each), amount ? money(amount) : el('span', { class: 'money nothing' }, grouped(each.amount)),
-            sum && money(sum)];
+            [stateOf(each), el('div', { class: 'hint' }, doersOf(acts, each.entry))],
+            amount ? money(amount) : el('span', { class: 'money nothing' }, grouped(each.amount)), sum && money(sum)];
     };
 }
 
-const entriesTable = (matter, entries) => longTable({
+const entriesTable = (matter, entries, acts) => longTable({
     caption: 'Entries, newest first',
     columns: ENTRY_COLUMNS,
     items: [...entries].reverse(),
-    cells: entryCells(matter.matter, movedBy(matter, entries)),
+    cells: entryCells(matter.matter, movedBy(matter, entries), acts),
     first: NEWEST,
 });
 
@@ -111,7 +114,7 @@ async function purgingOf(page, no) {
 }
 
 export async function showMatter(page, no) {
-    const { matter, entries } = await readMatterWhole(page, no);
+    const [{ matter, entries }, acts] = await Promise.all([readMatterWhole(page, no), readActs(page, no)]);
     const place = el('div', {});
     const isCashier = page.person === 'cashier';
     const seats = matter.seats.map(({ person, role }) => `${person} (${role})`).join(', ');
@@ -121,7 +124,8 @@ export async function showMatter(page, no) {
         place,
         waitingTables(waitingOf(matter, entries), true),
         chart('The ledger by day, held deposits included', balanceOfMatter(matter, entries), page.desk.day),
-        entriesTable(matter, entries),
+        entriesTable(matter, entries, acts),
+        unreadNote(acts),
         facts([['Opened', matter.opened], ['Closed', matter.closed], ['Who has access', seats]]),
         readAgain(page),
         isCashier && !matter.closed && closing(page, no, matter.client, place),

@@ -8,6 +8,7 @@ import { shown } from '../names.js';
 import { readBreaks, readClients, readFigures, readMovements, readPacket, readRemarks } from '../reports.js';
 import { column, table } from '../tables.js';
 import { meansOf } from '../words.js';
+import { approvalsTable } from './approvals.js';
 import { COLUMNS as CLIENT_COLUMNS, cellsOf as clientCells } from './clients.js';
 import { closingForm, lookForLast, rememberClosing } from './closings.js';
 import { JOURNALS, movementsTable, outstandingTables } from './movements.js';
@@ -61,6 +62,7 @@ const PARTS = [
     ['OUTSTANDING ITEMS', 'Outstanding items of', (text) => outstandingTables(text, Infinity)],
     ['RECEIPTS', 'Receipts,', (text) => journal('receipts', text)],
     ['DISBURSEMENTS', 'Disbursements,', (text) => journal('disbursements', text)],
+    ['APPROVALS', 'Approvals,', (text) => approvalsTable(text, Infinity)],
 ];
 
 // What stands above each sheet but the first, which has it above its title: a sheet that is torn off says whose it is,
@@ -111,8 +113,8 @@ export async function month(page, day = null) {
     const asked = () => [closingForm(page, { day, address: HERE, action: 'Show the month\u2019s end' }),
         lookForLast(page, HERE)];
     if (!day) {
-        const what = quiet('The reconciliation, the clients, what is outstanding, and the month\u2019s receipts and '
-            + 'disbursements, to sign and file.');
+        const what = quiet('The reconciliation, the clients, what is outstanding, and the month\u2019s receipts, '
+            + 'disbursements and approvals, to sign and file.');
         return { title: 'Month\u2019s end', parts: [what, asked()] };
     }
     const answer = await page.desk.read(`/firm/month/${day}`);

@@ -2,8 +2,9 @@
 
 import { button, el, label, link, money, number, p, printed, referenceLink } from '../elements.js';
 import { readMatters } from '../lists.js';
-import { countLines, dayOf, readJournal, readRetention, readTrial } from '../reports.js';
+import { countLines, dayOf, readJournal, readRetention, readTrail, readTrial } from '../reports.js';
 import { column, longTable } from '../tables.js';
+import { deedWords } from '../words.js';
 import { dismissal } from './exceptions.js';
 
 // Of a long report the end is shown first.
@@ -12,6 +13,10 @@ const LAST = 1000;
 const FIRST = 100;
 
 const matterLink = (matter) => link(`#/m/${matter}`, number(matter));
+
+// An entry, or a matter.
+export const actLink = (reference) =>
+    (reference.length === 7 ? matterLink(reference.slice(1)) : referenceLink(reference));
 
 function trialRows({ matters, firm, total }) {
     return [...matters, { words: 'The firm\u2019s own', ledger: firm },
@@ -44,6 +49,19 @@ const REPORTS = {
                 matter ? nameOf(matter) : 'the firm', money(amount), money(sum)],
         },
     },
+    trail: {
+        title: 'Trail',
+        empty: 'Nothing was done yet.',
+        table: {
+            caption: 'Who did what, newest first',
+            columns: [column('Day', 'tight'), column('Reference', 'tight'), column('Client'), column('Who'),
+                column('What')],
+            read: (text) => readTrail(text).acts
+                .map((each) => ({ ...each, matter: each.reference.slice(1, 7) })).reverse(),
+            cells: ({ day, reference, matter, caller, deed, more }, nameOf) => [number(day), actLink(reference),
+                nameOf(matter), label(caller), deedWords(deed, more)],
+        },
+    },
     exceptions: { title: 'Exceptions', empty: 'Each line of the bank\u2019s has its entry.' },
     retention: {
         title: 'Retention',
@@ -66,6 +84,7 @@ const PLACES = {
     clients: ['#/clients', 'Clients as of a day'],
     receipts: ['#/report/receipts', 'Receipts'],
     disbursements: ['#/report/disbursements', 'Disbursements'],
+    approvals: ['#/report/approvals', 'Approvals'],
     outstanding: ['#/report/outstanding', 'Outstanding items'],
     accounts: ['#/accounts', 'Statements of account'],
     ...Object.fromEntries(Object.entries(REPORTS).map(([name, { title }]) => [name, [`#/report/${name}`, title]])),

@@ -2,15 +2,19 @@
 use Rattle.book_reports.proofs.Names.{Seen, ◌≡◌, ℕ, false, List, [], ◌∷◌, ◌++◌, Ok, IsRead, ap, subst, append_assoc, ◌∙◌, Firm, has_no_statement, reconciliation_report, AreCountable, IsFirmLineInRange, IsRowInRange}
 use Rattle.trust_base.specs.Periods.{Span, first_of_month, month_to}
 use Rattle.firm_periods.specs.Doubles.{in_order}
-use Rattle.firm_periods.specs.Named.{NamedKept, is_cut, is_earlier, is_purged_since, listed, named_kept, named_sum, sum_moved}
+use Rattle.firm_periods.specs.Named.{NamedKept, is_earlier, is_purged_since, listed, named_kept, named_sum}
 use Rattle.firm_periods.specs.declared.named_sink.Pick.{Pick}
 use Rattle.firm_periods.specs.declared.named_sink.Pick.TheVariants as pick
 use Rattle.trust_reports.specs.TextsOfPeriods.{disbursements_text, outstanding_text, receipts_text}
+use Rattle.firm_periods.proofs.Approvals.{approvals-kept}
 use Rattle.firm_periods.proofs.NamedLists.{named-kept}
+use Rattle.firm_periods.specs.Approvals.{ApprovalsKept, approvals_kept, approvals_of}
+use Rattle.firm_periods.specs.declared.approvals_sink.IssuedPayment.{IssuedPayment}
+use Rattle.trust_reports.specs.TextsOfActs.{approvals_text}
 use Rattle.book_reports.specs.declared.day_reports.Limits.{Limits}
 use Rattle.book_reports.specs.declared.day_reports.ReadList.{ReadList}
 use Rattle.book_reports.specs.DayReports.{IsAppended, IsListed}
-use Rattle.book_reports.specs.Reports.{clients_report, disbursements_report, is_period_purged, month_report, outstanding_report, parts, receipts_report}
+use Rattle.book_reports.specs.Reports.{approvals_report, clients_report, disbursements_report, is_period_purged, month_report, outstanding_report, parts, receipts_report}
 
 -- What was read of a list.
 pub named-listed : (pick : Pick) (firm : Firm) (kept : NamedKept) (named : ReadList)
@@ -62,12 +66,27 @@ outstanding-told {a} {b} {c} {k} {j} day limits old new first here second there 
       text = text ∙ (λ i. old ++ outstanding_text day (transit.moves i) (transit.total i) (out.moves i) (out.total i));
     }
 
+-- or the approvals
+pub approvals-told : (a b : Seen) {kept : ApprovalsKept} (s : Span) (lines : List IssuedPayment) (limits : Limits) (old new : List ℕ)
+    → (b.clean → a.stands → kept ≡ approvals_kept s a.firm)
+    → lines ≡ approvals_of kept → limits.lacks_statement ≡ false → limits.is_purged ≡ kept.purged → new ≡ old ++ approvals_text s lines
+    → b.clean → a.stands → IsAppended limits false (is_purged_since s.from a.firm) old (approvals_report s a.firm) new
+unfolding approvals_report
+approvals-told a b {kept} s lines limits old new told listed none cut text clean stands =
+    let is = told clean stands in
+    let made = approvals-kept s a.firm in
+    record {
+      stated = none;
+      cut = cut ∙ (ap (λ (k : ApprovalsKept). k.purged) is ∙ made.purged);
+      text = text ∙ ap (λ (vs : List IssuedPayment). old ++ approvals_text s vs) (listed ∙ (ap approvals_of is ∙ made.lines));
+    }
+
 -- The parts of a packet, one behind the other.
 
-packet : (t a b c d e : List ℕ) → (((((((((t ++ a) ++ 10 ∷ []) ++ b) ++ 10 ∷ []) ++ c) ++ 10 ∷ []) ++ d) ++ 10 ∷ []) ++ e) ≡ t ++ (a ++ 10 ∷ (b ++ 10 ∷ (c ++ 10 ∷ (d ++ 10 ∷ e))))
-packet t a b c d e = simp append_assoc
+packet : (t a b c d e f : List ℕ) → (((((((((((t ++ a) ++ 10 ∷ []) ++ b) ++ 10 ∷ []) ++ c) ++ 10 ∷ []) ++ d) ++ 10 ∷ []) ++ e) ++ 10 ∷ []) ++ f) ≡ t ++ (a ++ 10 ∷ (b ++ 10 ∷ (c ++ 10 ∷ (d ++ 10 ∷ (e ++ 10 ∷ f)))))
+packet t a b c d e f = simp append_assoc
 
-pub month-told : {a b c d e f : Seen} {k1 k2 k3 k4 k5 : Limits} {t0 t1 t2 t3 t4 t5 u1 u2 u3 u4 : List ℕ} (day : ℕ) (s : Span) → s ≡ month_to day
+pub month-told : {a b c d e f g : Seen} {k1 k2 k3 k4 k5 k6 : Limits} {t0 t1 t2 t3 t4 t5 t6 u1 u2 u3 u4 u5 : List ℕ} (day : ℕ) (s : Span) → s ≡ month_to day
     → IsRead (Ok k1) a b → (b.clean → a.stands → IsAppended k1 (has_no_statement day a.firm) (is_period_purged day a.firm) t0 (reconciliation_report day a.firm) t1)
     → u1 ≡ t1 ++ 10 ∷ []
     → IsRead (Ok k2) b c → (c.clean → b.stands → IsAppended k2 false (is_period_purged day b.firm) u1 (clients_report day b.firm) t2)
@@ -77,10 +96,13 @@ pub month-told : {a b c d e f : Seen} {k1 k2 k3 k4 k5 : Limits} {t0 t1 t2 t3 t4 
     → IsRead (Ok k4) d e → (e.clean → d.stands → IsAppended k4 false (is_purged_since s.from d.firm) u3 (receipts_report s d.firm) t4)
     → u4 ≡ t4 ++ 10 ∷ []
     → IsRead (Ok k5) e f → (f.clean → e.stands → IsAppended k5 false (is_purged_since s.from e.firm) u4 (disbursements_report s e.firm) t5)
-    → f.clean → a.stands
-    → IsAppended (record { lacks_statement = k1.lacks_statement; is_purged = k5.is_purged }) (has_no_statement day a.firm) (is_purged_since (first_of_month day) a.firm) t0 (month_report day a.firm) t5
+    → u5 ≡ t5 ++ 10 ∷ []
+    → IsRead (Ok k6) f g → (g.clean → f.stands → IsAppended k6 false (is_purged_since s.from f.firm) u5 (approvals_report s f.firm) t6)
+    → g.clean → a.stands
+    → IsAppended (record { lacks_statement = k1.lacks_statement; is_purged = k6.is_purged }) (has_no_statement day a.firm) (is_purged_since (first_of_month day) a.firm) t0 (month_report day a.firm) t6
 unfolding month_report
-month-told {a} {b} {c} {d} {e} {f} {k1} {k2} {k3} {k4} {k5} {t0} {t1} {t2} {t3} {t4} {t5} {u1} {u2} {u3} {u4} day s month r1 h1 e1 r2 h2 e2 r3 h3 e3 r4 h4 e4 r5 h5 c5 s0 =
+month-told {a} {b} {c} {d} {e} {f} {g} {k1} {k2} {k3} {k4} {k5} {k6} {t0} {t1} {t2} {t3} {t4} {t5} {t6} {u1} {u2} {u3} {u4} {u5} day s month r1 h1 e1 r2 h2 e2 r3 h3 e3 r4 h4 e4 r5 h5 e5 r6 h6 c6 s0 =
+    let c5 = r6.was_clean c6 in
     let c4 = r5.was_clean c5 in
     let c3 = r4.was_clean c4 in
     let c2 = r3.was_clean c3 in
@@ -89,25 +111,29 @@ month-told {a} {b} {c} {d} {e} {f} {k1} {k2} {k3} {k4} {k5} {t0} {t1} {t2} {t3} 
     let s2 = r2.still_stands c2 s1 in
     let s3 = r3.still_stands c3 s2 in
     let s4 = r4.still_stands c4 s3 in
+    let s5 = r5.still_stands c5 s4 in
     let f1 : b.firm ≡ a.firm = r1.same c1 s0 in
     let f2 : c.firm ≡ a.firm = r2.same c2 s1 ∙ f1 in
     let f3 : d.firm ≡ a.firm = r3.same c3 s2 ∙ f2 in
     let f4 : e.firm ≡ a.firm = r4.same c4 s3 ∙ f3 in
+    let f5 : f.firm ≡ a.firm = r5.same c5 s4 ∙ f4 in
     let p1 = h1 c1 s0 in
     let p2 = subst (λ (x : Firm). IsAppended k2 false (is_period_purged day x) u1 (clients_report day x) t2) f1 (h2 c2 s1) in
     let p3 = subst (λ (x : Firm). IsAppended k3 false (is_period_purged day x) u2 (outstanding_report day x) t3) f2 (h3 c3 s2) in
     let p4 = subst (λ (x : Firm). IsAppended k4 false (is_purged_since s.from x) u3 (receipts_report s x) t4) f3 (h4 c4 s3) in
     let p5 = subst (λ (x : Firm). IsAppended k5 false (is_purged_since s.from x) u4 (disbursements_report s x) t5) f4 (h5 c5 s4) in
-    subst (λ (x : Span). IsAppended (record { lacks_statement = k1.lacks_statement; is_purged = k5.is_purged }) (has_no_statement day a.firm) (is_purged_since x.from a.firm) t0
-    (parts (reconciliation_report day a.firm) (clients_report day a.firm ∷ outstanding_report day a.firm ∷ receipts_report x a.firm ∷ disbursements_report x a.firm ∷ [])) t5) month
+    let p6 = subst (λ (x : Firm). IsAppended k6 false (is_purged_since s.from x) u5 (approvals_report s x) t6) f5 (h6 c6 s5) in
+    subst (λ (x : Span). IsAppended (record { lacks_statement = k1.lacks_statement; is_purged = k6.is_purged }) (has_no_statement day a.firm) (is_purged_since x.from a.firm) t0
+    (parts (reconciliation_report day a.firm) (clients_report day a.firm ∷ outstanding_report day a.firm ∷ receipts_report x a.firm ∷ disbursements_report x a.firm ∷ approvals_report x a.firm ∷ [])) t6) month
     (record {
       stated = p1.stated;
-      cut = p5.cut;
+      cut = p6.cut;
       text =
-          p5.text
-          ∙ (ap (λ t. t ++ disbursements_report s a.firm) (e4 ∙ ap (λ t. t ++ 10 ∷ []) (p4.text
+          p6.text
+          ∙ (ap (λ t. t ++ approvals_report s a.firm) (e5 ∙ ap (λ t. t ++ 10 ∷ []) (p5.text
+          ∙ ap (λ t. t ++ disbursements_report s a.firm) (e4 ∙ ap (λ t. t ++ 10 ∷ []) (p4.text
           ∙ ap (λ t. t ++ receipts_report s a.firm) (e3 ∙ ap (λ t. t ++ 10 ∷ []) (p3.text
           ∙ ap (λ t. t ++ outstanding_report day a.firm) (e2 ∙ ap (λ t. t ++ 10 ∷ []) (p2.text
-          ∙ ap (λ t. t ++ clients_report day a.firm) (e1 ∙ ap (λ t. t ++ 10 ∷ []) p1.text)))))))
-          ∙ packet t0 (reconciliation_report day a.firm) (clients_report day a.firm) (outstanding_report day a.firm) (receipts_report s a.firm) (disbursements_report s a.firm));
+          ∙ ap (λ t. t ++ clients_report day a.firm) (e1 ∙ ap (λ t. t ++ 10 ∷ []) p1.text)))))))))
+          ∙ packet t0 (reconciliation_report day a.firm) (clients_report day a.firm) (outstanding_report day a.firm) (receipts_report s a.firm) (disbursements_report s a.firm) (approvals_report s a.firm));
     })

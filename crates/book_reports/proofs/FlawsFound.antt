@@ -1,5 +1,5 @@
 -- What was found of rows that a book returned, said of its firm.
-use Rattle.std.proofs.Common.{inl, inr, ◌≡◌, List, [], Option, None, sym, subst}
+use Rattle.std.proofs.Common.{inl, inr, ◌≡◌, [], Option, None, sym, subst}
 use Rattle.std.specs.Prelude.{◌↔◌, IfSome}
 use Rattle.std.proofs.lemmas.Option.{IfSome_then}
 use Rattle.firm_rows.proofs.Acts.{sound-acts}

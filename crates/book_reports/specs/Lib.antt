@@ -3,3 +3,4 @@ pub mod ReportTexts
 pub mod DayReports
 pub mod Kept
 pub mod Checking
+pub mod Trails

@@ -2,13 +2,13 @@
 use Rattle.std.specs.Prelude.{ℕ, Bool, false, List}
 use Rattle.firm_rows.specs.Firm.{Firm}
 use Rattle.trust_base.specs.Periods.{Span, first_of_month}
-use Rattle.book_reports.specs.Reports.{clients_report, disbursements_report, exceptions_report, has_no_statement, is_period_purged, is_purged_since, journal_report, month_report, outstanding_report, own_card_report, receipts_report, retention_report, trial_report}
+use Rattle.book_reports.specs.Reports.{approvals_report, clients_report, disbursements_report, exceptions_report, has_no_statement, is_period_purged, is_purged_since, journal_report, month_report, outstanding_report, own_card_report, receipts_report, retention_report, trail_report, trial_report}
 use Rattle.book_reports.specs.declared.report.DayReport.{DayReport}
 use Rattle.book_reports.specs.declared.report.DayReport.TheVariants.{Clients, Month, Outstanding}
 use Rattle.book_reports.specs.declared.report.PeriodReport.{PeriodReport}
-use Rattle.book_reports.specs.declared.report.PeriodReport.TheVariants.{Disbursements, Receipts}
+use Rattle.book_reports.specs.declared.report.PeriodReport.TheVariants.{Approvals, Disbursements, Receipts}
 use Rattle.book_reports.specs.declared.report.Report.{Report}
-use Rattle.book_reports.specs.declared.report.Report.TheVariants.{Exceptions, Trial, Journal, Retention, OwnLedger}
+use Rattle.book_reports.specs.declared.report.Report.TheVariants.{Exceptions, Trial, Journal, Retention, OwnLedger, Trail}
 
 -- the text of a report on a business day
 abbrev pub report_text : Report → ℕ → Firm → List ℕ
@@ -17,6 +17,7 @@ report_text Trial today firm = trial_report today firm
 report_text Journal today firm = journal_report today firm
 report_text Retention today firm = retention_report today firm
 report_text OwnLedger today firm = own_card_report today firm
+report_text Trail today firm = trail_report today firm
 
 -- the text of a report as of a day
 abbrev pub day_report_text : DayReport → ℕ → Firm → List ℕ
@@ -40,3 +41,4 @@ is_day_report_purged Month day firm = is_purged_since (first_of_month day) firm
 abbrev pub period_report_text : PeriodReport → Span → Firm → List ℕ
 period_report_text Receipts period firm = receipts_report period firm
 period_report_text Disbursements period firm = disbursements_report period firm
+period_report_text Approvals period firm = approvals_report period firm

@@ -1,16 +1,20 @@
 -- The reports of a firm. Each is the text of a list made from its rows.
-use Rattle.std.specs.Prelude.{ℕ, Bool, List, [], ◌∷◌, ◌++◌, Option, Some, None, is_none}
+use Rattle.std.specs.Prelude.{ℕ, Bool, ◌==◌, List, [], ◌∷◌, ◌++◌, Option, Some, None, is_none}
+use Rattle.std.specs.List.{filter}
 use Rattle.trust_base.specs.Periods.{Span, month_to}
+use Rattle.firm_rows.specs.declared.matter_act.MatterAct.{MatterAct}
 use Rattle.firm_rows.specs.Firm.{Firm}
 use Rattle.firm_rows.specs.FirmLines.{balance_of}
 use Rattle.trust_reports.specs.Clients.{client_lines, clients_total}
 use Rattle.trust_reports.specs.Figures.{closing_on, own_by}
 pub use Rattle.trust_reports.specs.Purged.{is_period_purged}
 pub use Rattle.firm_periods.specs.Named.{is_purged_since}
+use Rattle.firm_periods.specs.Approvals.{approvals}
 use Rattle.firm_periods.specs.Named.{disbursements, out_named, receipts, sum_moved, transit_named}
 use Rattle.trust_reports.specs.Reconciliations.{ReconciliationTold, reconciliation_on}
 use Rattle.trust_reports.specs.Lists.{journal_list, trial_lines, trial_total}
 use Rattle.trust_reports.specs.Lists.{retention_list}
+use Rattle.trust_reports.specs.TextsOfActs.{approvals_text, matter_trail_text, trail_text}
 use Rattle.trust_reports.specs.TextsOfClients.{clients_text}
 use Rattle.trust_reports.specs.TextsOfLedgers.{own_card_text}
 use Rattle.trust_reports.specs.TextsOfLists.{exceptions_text, journal_text, retention_text, trial_text}
@@ -38,6 +42,18 @@ exceptions_report today firm = exceptions_text today firm.exceptions
 -- the lines of the firm's own in the order of acceptance, and their sum
 unfoldable pub own_card_report : ℕ → Firm → List ℕ
 own_card_report today firm = own_card_text today firm.firm_lines
+
+-- who did what, in the order of acceptance
+unfoldable pub trail_report : ℕ → Firm → List ℕ
+trail_report today firm = trail_text today firm.acts
+
+-- the acts of one matter among these
+abbrev pub acts_in : ℕ → List MatterAct → List MatterAct
+acts_in m acts = filter (λ a. a.matter == m) acts
+
+-- the same of one matter
+unfoldable pub matter_trail_report : ℕ → ℕ → Firm → List ℕ
+matter_trail_report m today firm = matter_trail_text today m (acts_in m firm.acts)
 
 -- As of a day.
 
@@ -75,6 +91,10 @@ unfoldable pub disbursements_report : Span → Firm → List ℕ
 disbursements_report s firm =
     disbursements_text s (disbursements s.from s.to firm) (sum_moved (disbursements s.from s.to firm))
 
+-- the payments issued in it, each with who approved it
+unfoldable pub approvals_report : Span → Firm → List ℕ
+approvals_report s firm = approvals_text s (approvals s firm)
+
 -- Of a month's end.
 
 -- parts with an empty line between two of them
@@ -83,7 +103,7 @@ parts text [] = text
 parts text (more ∷ rest) = text ++ (10 ∷ parts more rest)
 
 -- the packet: the reconciliation, the clients and what waits as of the day, and what was received and disbursed from
--- the first of its month on
+-- the first of its month on, with who approved it
 unfoldable pub month_report : ℕ → Firm → List ℕ
 month_report day firm =
     parts (reconciliation_report day firm)
@@ -91,4 +111,5 @@ month_report day firm =
     ∷ outstanding_report day firm
     ∷ receipts_report (month_to day) firm
     ∷ disbursements_report (month_to day) firm
+    ∷ approvals_report (month_to day) firm
     ∷ [])

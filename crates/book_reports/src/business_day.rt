@@ -7,6 +7,7 @@ ghost use Rattle.trust_store.specs.Calls.{IsRead};
 use crate::cleared_lines::{Beside, ClearedLines};
 use crate::exceptions_sink::ExceptionsSink;
 use crate::report::Report;
+use crate::trail_sinks::TrailSink;
 use std::alloc::Global;
 use trust_base::{Day, StoreFault};
 use trust_reports::{
@@ -59,6 +60,11 @@ pub fn find_report<B: Book>(
             let ledger = book.firm(alloc)?;
             own_card_text(today, &ledger, &mut text)?;
             Ok(text)
+        }
+        Report::Trail => {
+            let mut trail = TrailSink::new(alloc, today)?;
+            book.each_act(&mut trail)?;
+            Ok(trail.finish())
         }
     }
 }

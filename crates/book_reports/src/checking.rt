@@ -1,13 +1,15 @@
 //! Whether a book's rows are those of a sound firm.
 
 ghost use Rattle.std.specs.Prelude.{◌≡◌, ◌↔◌, ◌-◌, ◌^◌, IfOk, IfSome, None, min};
+ghost use Rattle.std.specs.Result.{result_err};
 ghost use Rattle.firm_audit.specs.Flaws.{IsFlawOf};
+ghost use Rattle.firm_audit.specs.Trails.{IsTrailFound};
 ghost use Rattle.firm_rows.specs.FirmSound.{FirmSound};
 ghost use Rattle.book_reports.specs.Checking.{AreCountsOf, entry_count, matter_count};
 ghost use Rattle.trust_store.specs.Calls.{IsRead};
 ghost use Rattle.trust_store.specs.Kept.{firm_of_all, joined};
 
-use firm_audit::{Flaw, audit};
+use firm_audit::{Flaw, TrailFound, audit, audit_trail};
 use std::alloc::Global;
 use trust_base::StoreFault;
 use trust_store::{AllRows, Book, KeptMatter};
@@ -32,10 +34,10 @@ pub struct RowCounts {
 /// The result of checking a book.
 #[derive(Clone, Copy)]
 pub struct Checked {
-    /// What is not sound in its rows. `None` if they are those of a sound firm.
-    pub flaw: Option<Flaw>,
     /// How many rows the book has.
     pub counts: RowCounts,
+    /// Whether its trail fits the rows; or, if these are not those of a sound firm, what is not sound in them.
+    pub found: Result<TrailFound, Flaw>,
 }
 
 // How many of these matters were opened.
@@ -78,26 +80,38 @@ fn counts_of(rows: &AllRows) -> RowCounts
 
 /// Reads all rows of the book, and returns how many there are and what is not sound in them. The store may hold
 /// anything that can be read as rows. No flaw is returned exactly if the rows are those of a sound firm, and one
-/// that is returned is there. It is never `Flaw::Matter`, since a book returns whole matters only. The book is
-/// unchanged.
+/// that is returned is there. It is never `Flaw::Matter`, since a book returns whole matters only. Of sound rows it
+/// also returns whether the trail fits them. The book is unchanged.
 ///
 /// Returns `Store` if the book's store failed, if a row is invalid, or if a matter is not the whole of sound rows;
 /// `find_unread` then returns which. Returns `Memory` if memory ran out.
 pub fn check<B: Book>(alloc: Global, book: &mut B) -> Result<Checked, StoreFault>
     ensures sound { (B.seen book.new).clean → (B.seen book.old).readable
-        → IfOk result (λ c. c.flaw ≡ None ↔ FirmSound (B.seen book.old).firm) }
+        → IfOk result (λ c. result_err c.found ≡ None ↔ FirmSound (B.seen book.old).firm) }
     ensures flaw { (B.seen book.new).clean → (B.seen book.old).readable
-        → IfOk result (λ c. IfSome c.flaw (IsFlawOf (B.seen book.old).firm)) }
+        → IfOk result (λ c. IfSome (result_err c.found) (IsFlawOf (B.seen book.old).firm)) }
     ensures counts { (B.seen book.new).clean → (B.seen book.old).readable
         → IfOk result (λ c. AreCountsOf (B.seen book.old).firm c.counts) }
+    ensures trail { (B.seen book.new).clean → (B.seen book.old).readable
+        → IfOk result (λ c. IfOk c.found (IsTrailFound (B.seen book.old).firm)) }
     ensures read { IsRead result (B.seen book.old) (B.seen book.new) }
 {
     let rows = book.all_rows(alloc)?;
+    let counts = counts_of(&rows);
     let Ok(flaw) = audit(alloc, &rows) else {
         return Err(StoreFault::Memory);
     };
+    if let Some(flaw) = flaw {
+        return Ok(Checked {
+            counts,
+            found: Err(flaw),
+        });
+    }
+    let Ok(trail) = audit_trail(alloc, &rows) else {
+        return Err(StoreFault::Memory);
+    };
     Ok(Checked {
-        flaw,
-        counts: counts_of(&rows),
+        counts,
+        found: Ok(trail),
     })
 }

@@ -1,21 +1,22 @@
 //! The reports of a firm as of a day and of a period, each made of one state of a book.
 
-ghost use Rattle.std.specs.Prelude.{IfOk, false};
+ghost use Rattle.std.specs.Prelude.{◌≡◌, IfOk, false};
+ghost use Rattle.firm_periods.specs.Approvals.{approvals_kept};
 ghost use Rattle.trust_base.specs.Periods.{first_of_month};
 ghost use Rattle.book_reports.specs.DayReports.{IsAppended, IsListed};
 ghost use Rattle.book_reports.specs.Kept.{IsKeptOf};
 ghost use Rattle.book_reports.specs.ReportTexts.{day_report_text, is_day_report_purged, lacks_statement, period_report_text};
-ghost use Rattle.book_reports.specs.Reports.{clients_report, disbursements_report, has_no_statement, is_period_purged, is_purged_since, month_report, outstanding_report, receipts_report, reconciliation_report};
+ghost use Rattle.book_reports.specs.Reports.{approvals_report, clients_report, disbursements_report, has_no_statement, is_period_purged, is_purged_since, month_report, outstanding_report, receipts_report, reconciliation_report};
 ghost use Rattle.trust_store.specs.Calls.{IsRead};
 
 use crate::cleared_lines::{Beside, ClearedLines};
 use crate::report::{DayReport, PeriodReport};
-use firm_periods::{NamedList, NamedSink, Pick};
+use firm_periods::{ApprovalsSink, NamedList, NamedSink, Pick};
 use std::alloc::Global;
 use trust_base::{Day, Period, StoreFault};
 use trust_reports::{
-    ClientsSink, ReconciliationSink, clients_text, disbursements_text, outstanding_text,
-    receipts_text, reconciliation_text,
+    ClientsSink, ReconciliationSink, approvals_text, clients_text, disbursements_text,
+    outstanding_text, receipts_text, reconciliation_text,
 };
 use trust_store::Book;
 
@@ -188,6 +189,44 @@ fn append_disbursements<B: Book>(
     })
 }
 
+// Hands all acts and then all rows of a book to the sink of the approvals of a period.
+fn read_approvals<B: Book>(
+    alloc: Global,
+    book: &mut B,
+    period: Period,
+) -> Result<ApprovalsSink, StoreFault>
+    ensures told { (B.seen book.new).clean → (B.seen book.old).stands
+        → IfOk result (λ sink. sink ≡ approvals_kept period (B.seen book.old).firm) }
+    ensures read { IsRead result (B.seen book.old) (B.seen book.new) }
+{
+    let mut approvals = ApprovalsSink::new(alloc, period);
+    book.each_act(&mut approvals)?;
+    book.each_row(&mut approvals)?;
+    Ok(approvals)
+}
+
+// Appends the approvals of a period.
+fn append_approvals<B: Book>(
+    alloc: Global,
+    book: &mut B,
+    period: Period,
+    text: &mut Vec<u8>,
+) -> Result<Limits, StoreFault>
+    ensures told { (B.seen book.new).clean → (B.seen book.old).stands → IfOk result (λ limits. IsAppended limits
+        false (is_purged_since period.from (B.seen book.old).firm)
+        text.old.items (approvals_report period (B.seen book.old).firm) text.new.items) }
+    ensures read { IsRead result (B.seen book.old) (B.seen book.new) }
+{
+    let approvals = read_approvals(alloc, book, period)?;
+    let is_purged = approvals.is_period_purged();
+    let lines = approvals.finish(alloc)?;
+    approvals_text(period, &lines, text)?;
+    Ok(Limits {
+        lacks_statement: false,
+        is_purged,
+    })
+}
+
 /// Appends a report of a period.
 ///
 /// Returns `Store` if the book's store failed, and `Memory` if memory ran out.
@@ -206,11 +245,12 @@ pub fn append_period_report<B: Book>(
     match report {
         PeriodReport::Receipts => append_receipts(alloc, book, period, text),
         PeriodReport::Disbursements => append_disbursements(alloc, book, period, text),
+        PeriodReport::Approvals => append_approvals(alloc, book, period, text),
     }
 }
 
 // Appends the packet of month's end: the reconciliation of a day, the list of clients, what waits for the bank, and the
-// receipts and the disbursements from the first of the month to the day.
+// receipts, the disbursements and the approvals from the first of the month to the day.
 fn append_month<B: Book>(
     alloc: Global,
     book: &mut B,
@@ -232,7 +272,9 @@ fn append_month<B: Book>(
     text.push(b'\n')?;
     append_receipts(alloc, book, month, text)?;
     text.push(b'\n')?;
-    let cut = append_disbursements(alloc, book, month, text)?;
+    append_disbursements(alloc, book, month, text)?;
+    text.push(b'\n')?;
+    let cut = append_approvals(alloc, book, month, text)?;
     Ok(Limits {
         lacks_statement: stated.lacks_statement,
         is_purged: cut.is_purged,

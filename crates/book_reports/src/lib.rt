@@ -14,6 +14,9 @@
 //! - `append_day_report`, `append_period_report`: over every book: the bytes of each report as of a day and of a
 //!   period, the packet of month's end among them, are those of the definition, of one state of the book's rows, and
 //!   whether they may be told is found of the same rows (`told`); nothing changes, after a crash neither (`read`).
+//! - `find_trail`: over every book: the bytes of the trail of a matter on a business day are those of the definition,
+//!   of the acts of one state of the book; whether the matter was opened, and purged, is found of the same state
+//!   (`told`); nothing changes, after a crash neither (`read`).
 //! - `check`: over every book whose store can be read as rows, **sound or not: it finds no flaw exactly if the rows are
 //!   those of a sound firm** (`sound`), and a flaw that it finds is there (`flaw`); there are as many matters, entries,
 //!   movements, lines of the firm's own, exceptions and balances as it says (`counts`); the book stays as it is, after
@@ -32,8 +35,10 @@ mod checking;
 mod cleared_lines;
 mod day_reports;
 mod exceptions_sink;
+mod matter_trail;
 mod outstanding;
 mod report;
+mod trail_sinks;
 mod unread;
 mod watching;
 
@@ -41,7 +46,8 @@ pub use business_day::find_report;
 pub use checking::{Checked, RowCounts, check};
 pub use cleared_lines::{ClearedLines, tell_earlier, tell_rows};
 pub use day_reports::{Limits, append_day_report, append_period_report, append_reconciliation};
-pub use firm_audit::Flaw;
+pub use firm_audit::{Flaw, TrailCounts, TrailFlaw, TrailFound};
+pub use matter_trail::{MatterTrail, find_trail};
 pub use outstanding::tell_outstanding;
 pub use report::{DayReport, PeriodReport, Report};
 pub use unread::{Unread, find_unread};

@@ -13,6 +13,8 @@ pub enum Report {
     Retention,
     /// The ledger card of the firm's own money.
     OwnLedger,
+    /// The trail: who did what, in the order of acceptance.
+    Trail,
 }
 
 /// A report on the whole firm as of a day, which only the cashier may ask for.
@@ -22,7 +24,8 @@ pub enum DayReport {
     Clients,
     /// What waits for the bank: the deposits in transit and the outstanding payments, with their names.
     Outstanding,
-    /// The packet of month's end: the reconciliation, the two above, and the receipts and disbursements of the month.
+    /// The packet of month's end: the reconciliation, the two above, and the receipts, disbursements and approvals of
+    /// the month.
     Month,
 }
 
@@ -33,4 +36,6 @@ pub enum PeriodReport {
     Receipts,
     /// The journal of disbursements, with names.
     Disbursements,
+    /// The payments issued, each with who approved it.
+    Approvals,
 }

@@ -20,7 +20,8 @@ said-sound firm told output x4 said = grind (arith, ints, nat_tests)
 
 -- a flaw that was printed is there
 unsound-by : (firm : Firm) (told : CheckFound) → IsTrueOf firm told → found_outcome told ≡ outcome.Refused → IsUnsoundBy firm told
-unsound-by firm (found.Sound counts) is refused = absurd (cc)
+unsound-by firm (found.Sound counts trail) is refused = absurd (cc)
+unsound-by firm (found.Amiss counts flaw) is refused = is
 unsound-by firm (found.Flawed flaw) is refused = is
 unsound-by firm (found.Unreadable row) is refused = tt
 

@@ -8,7 +8,9 @@ use Rattle.trust_base.specs.declared.line.Line.{Line}
 use Rattle.trust_base.specs.declared.refusal.Field.{Field}
 use Rattle.trust_base.specs.declared.refusal.Field.TheVariants as field
 use Rattle.trust_matter.specs.declared.ask.Ask.{Ask}
-use Rattle.trust_desk.proofs.Own.{other-rows, same-reply, same-rows}
+use Rattle.day_sheet.proofs.RecordFacts.{record-silent}
+use Rattle.trust_desk.proofs.Own.{same-reply_by_rows}
+use Rattle.trust_desk.proofs.OwnRows.{other-rows, same-rows}
 use Rattle.day_sheet.specs.declared.record.Verb.{Verb}
 
 -- ---- the matter of a record is that of what the desk hears
@@ -77,7 +79,7 @@ same_concern m fields = cases (is_dismissal fields)
 
 own_line : (m day : ℕ) (f g : Firm) (r : List (List ℕ)) → names_matter m r ≡ true → of m f ≡ of m g
     → reply_line (record_step day f r).reply ≡ reply_line (record_step day g r).reply
-own_line m day f g r e same = ap reply_line (same-reply m day f g (heard_of r) (same_matter m r ∙ e) same)
+own_line m day f g r e same = ap reply_line (same-reply_by_rows m day f g (heard_of r) (same_matter m r ∙ e) (record-silent m day r) same)
 
 own_firm : (m day : ℕ) (f g : Firm) (r : List (List ℕ)) → of m f ≡ of m g → of m (record_step day f r).firm ≡ of m (record_step day g r).firm
 own_firm m day f g r same = same-rows m day f g (heard_of r) same

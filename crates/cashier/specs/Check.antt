@@ -6,8 +6,12 @@ use Rattle.trust_base.specs.Refusals.{refused_by}
 use Rattle.trust_base.specs.Texts.{entry_text, matter_text}
 use Rattle.trust_base.specs.declared.refusal.StoreFault.{StoreFault}
 use Rattle.firm_audit.specs.Flaws.{IsFlawOf}
+use Rattle.firm_audit.specs.Trails.{AreApprovalsOf, HasItsTrail, IsTrailFlawOf}
 use Rattle.firm_audit.specs.declared.flaw.Flaw.{Flaw}
 use Rattle.firm_audit.specs.declared.flaw.Flaw.TheVariants as flaws
+use Rattle.firm_audit.specs.declared.trail.TrailCounts.{TrailCounts}
+use Rattle.firm_audit.specs.declared.trail.TrailFlaw.{TrailFlaw}
+use Rattle.firm_audit.specs.declared.trail.TrailFlaw.TheVariants as trail_flaws
 use Rattle.firm_rows.specs.Firm.{Firm}
 use Rattle.firm_rows.specs.FirmSound.{FirmSound}
 use Rattle.book_reports.specs.Checking.{AreCountsOf}
@@ -36,6 +40,17 @@ counts_text c =
     ++ (codes "\nFIRM LINES " ++ (decimal c.firm_lines
     ++ (codes "\nEXCEPTIONS " ++ (decimal c.exceptions
     ++ (codes "\nBALANCES " ++ (decimal c.balances ++ codes "\n")))))))))))
+
+-- how many payments that are or were issued have their approval in the trail, and how many are older than it
+abbrev pub approvals_text : TrailCounts → List ℕ
+approvals_text c =
+    codes "APPROVALS " ++ (decimal c.approved
+    ++ (codes "\nEARLIER APPROVALS " ++ (decimal c.earlier ++ codes "\n")))
+
+-- where the trail does not fit the rows
+abbrev pub trail_flaw_text : TrailFlaw → List ℕ
+trail_flaw_text (trail_flaws.Matter m) = codes "TRAIL " ++ matter_text m
+trail_flaw_text (trail_flaws.Entry m n) = codes "TRAIL " ++ (matter_text m ++ (codes "-" ++ entry_text n))
 
 -- what is not sound
 abbrev pub flaw_text : Flaw → List ℕ
@@ -66,7 +81,9 @@ unread_text unread.Elsewhere = codes "ROW ELSEWHERE"
 
 -- the result of a check
 abbrev pub check_text : CheckFound → List ℕ
-check_text (found.Sound counts) = codes "SOUND\n" ++ counts_text counts
+check_text (found.Sound counts trail) = codes "SOUND\n" ++ (counts_text counts ++ approvals_text trail)
+check_text (found.Amiss counts flaw) =
+    codes "SOUND\n" ++ (counts_text counts ++ (trail_flaw_text flaw ++ codes "\n"))
 check_text (found.Flawed flaw) = codes "UNSOUND\n" ++ (flaw_text flaw ++ codes "\n")
 check_text (found.Unreadable row) = codes "UNSOUND\n" ++ (unread_text row ++ codes "\n")
 
@@ -79,7 +96,8 @@ check_line (Err fault) = refusal_line (refused_by fault)
 
 -- the outcome for a result
 abbrev pub found_outcome : CheckFound → Outcome
-found_outcome (found.Sound counts) = outcome.Done
+found_outcome (found.Sound counts trail) = outcome.Done
+found_outcome (found.Amiss counts flaw) = outcome.Refused
 found_outcome (found.Flawed flaw) = outcome.Refused
 found_outcome (found.Unreadable row) = outcome.Refused
 
@@ -99,38 +117,46 @@ pub record CheckEnds (output : Output) (told : Outcome) (before after : Firm) : 
   pub found : Result CheckFound StoreFault
   pub prints : PrintsCheck found output told
 
--- what is said to be sound is sound, and has this many rows; a flaw is one that the firm has. Of a row that the book
--- refused to read the firm's rows say nothing
+-- what is said to be sound is sound, has this many rows, and its trail fits them, with so many approvals; a flaw, of
+-- the rows or of the trail, is one that the firm has. Of a row that the book refused to read the firm's rows say
+-- nothing
 abbrev pub IsTrueOf : Firm → CheckFound → Type 0
-IsTrueOf firm (found.Sound counts) = FirmSound firm × AreCountsOf firm counts
+IsTrueOf firm (found.Sound counts trail) =
+    FirmSound firm × AreCountsOf firm counts × HasItsTrail firm × AreApprovalsOf firm trail
+IsTrueOf firm (found.Amiss counts flaw) = FirmSound firm × AreCountsOf firm counts × IsTrailFlawOf firm flaw
 IsTrueOf firm (found.Flawed flaw) = IsFlawOf firm flaw
 IsTrueOf firm (found.Unreadable row) = ⊤
 
--- the same, and it is not that the firm is sound
+-- the same, and it is not that the firm is sound and its trail fits
 abbrev pub IsUnsoundBy : Firm → CheckFound → Type 0
-IsUnsoundBy firm (found.Sound counts) = ⊥
+IsUnsoundBy firm (found.Sound counts trail) = ⊥
+IsUnsoundBy firm (found.Amiss counts flaw) = FirmSound firm × AreCountsOf firm counts × IsTrailFlawOf firm flaw
 IsUnsoundBy firm (found.Flawed flaw) = IsFlawOf firm flaw
 IsUnsoundBy firm (found.Unreadable row) = ⊤
 
 -- it was found sound, and this was printed
 pub record IsSaid (told : Result CheckFound StoreFault) (output : Output) : Type 0 where
   pub counts : RowCounts
-  pub is : told ≡ Ok (found.Sound counts)
-  pub printed : Appends output.before output.after (check_text (found.Sound counts))
+  pub trail : TrailCounts
+  pub is : told ≡ Ok (found.Sound counts trail)
+  pub printed : Appends output.before output.after (check_text (found.Sound counts trail))
 
--- it was found not to be sound, or not to be readable, and this was printed
+-- it was found not to be sound, not to have its trail, or not to be readable, and this was printed
 pub record IsSaidRefused (told : Result CheckFound StoreFault) (output : Output) : Type 0 where
   pub found : CheckFound
   pub is : told ≡ Ok found
   pub refused : found_outcome found ≡ outcome.Refused
   pub printed : Appends output.before output.after (check_text found)
 
--- the firm was said to be sound, and is
+-- the firm was said to be sound, and is; and its trail fits
 pub record IsSaidSound (firm : Firm) (output : Output) : Type 0 where
   pub counts : RowCounts
-  pub printed : Appends output.before output.after (check_text (found.Sound counts))
+  pub trail : TrailCounts
+  pub printed : Appends output.before output.after (check_text (found.Sound counts trail))
   pub sound : FirmSound firm
   pub are : AreCountsOf firm counts
+  pub fits : HasItsTrail firm
+  pub approvals : AreApprovalsOf firm trail
 
 -- a flaw was printed, which the firm has, or a row that the book refused to read
 pub record IsSaidUnsound (firm : Firm) (output : Output) : Type 0 where

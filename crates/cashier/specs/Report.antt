@@ -20,13 +20,14 @@ use Rattle.cashier.specs.Sheet.{reply_line}
 use Rattle.cashier.specs.declared.outcome.Outcome.{Outcome}
 use Rattle.cashier.specs.declared.outcome.Outcome.TheVariants as outcome
 
--- the cashier's request for a report: of the firm, or the accounting of a matter, or its account of a period
+-- the cashier's request for a report: of the firm, or the accounting of a matter, its account of a period, or its trail
 abbrev pub asked_for : ReportCommand → Request
 asked_for (commands.Reconcile day) = requests.Reconcile Cashier day
 asked_for (commands.AsOf report day) = requests.AsOf Cashier report day
 asked_for (commands.Within report period) = requests.Within Cashier report period
 asked_for (commands.Ledger matter) = requests.Matter matter Cashier Accounting
 asked_for (commands.Account matter period) = requests.Matter matter Cashier (Account period)
+asked_for (commands.Trail matter) = requests.Trail Cashier matter
 asked_for (commands.Firm report) = requests.Report Cashier report
 
 -- the outcome of a run after the line of a refusal was written

@@ -7,8 +7,11 @@ ghost use Rattle.trust_desk.specs.Calls.{IsAny, KeepsBook};
 ghost use Rattle.portal_http.specs.Output.{output_of};
 ghost use Rattle.cashier.specs.Calls.{LeavesSame};
 ghost use Rattle.cashier.specs.Check.{CheckEnds, IsCheckTrue, IsSaid, IsSaidRefused, IsTrueOf, PrintsCheck, check_text};
-ghost use Rattle.cashier.specs.Check.{counts_text, flaw_text, found_outcome, unread_text};
+ghost use Rattle.cashier.specs.Check.{approvals_text, counts_text, flaw_text, found_outcome};
+ghost use Rattle.cashier.specs.Check.{trail_flaw_text, unread_text};
+ghost use Rattle.std.specs.Result.{result_err};
 ghost use Rattle.firm_audit.specs.Flaws.{IsFlawOf};
+ghost use Rattle.firm_audit.specs.Trails.{IsTrailFound};
 ghost use Rattle.firm_rows.specs.Firm.{Firm};
 ghost use Rattle.firm_rows.specs.FirmSound.{FirmSound};
 ghost use Rattle.book_reports.specs.Checking.{AreCountsOf, AreReads};
@@ -24,14 +27,16 @@ use std::alloc::Global;
 use std::fmt;
 use std::io::Write;
 use trust_base::{Day, Refusal, StoreFault, send};
-use trust_desk::{Checked, Desk, Flaw, RowCounts, Unread};
+use trust_desk::{Checked, Desk, Flaw, RowCounts, TrailCounts, TrailFlaw, TrailFound, Unread};
 use trust_store::Book;
 
 /// The result of checking a book.
 #[derive(Clone, Copy)]
 pub enum CheckFound {
-    /// The rows are those of a sound firm; these are their counts.
-    Sound(RowCounts),
+    /// The rows are those of a sound firm, and its trail fits them; these are the counts of both.
+    Sound(RowCounts, TrailCounts),
+    /// The rows are those of a sound firm, and these are their counts; its trail does not fit them, for this reason.
+    Amiss(RowCounts, TrailFlaw),
     /// The rows are not sound, for this reason.
     Flawed(Flaw),
     /// A row is invalid, or a matter is not the whole of sound rows.
@@ -56,6 +61,38 @@ impl fmt::Display for CountLines {
             "MATTERS {matters}\nENTRIES {entries}\nMOVEMENTS {movements}\n\
             FIRM LINES {own}\nEXCEPTIONS {exceptions}\nBALANCES {balances}\n"
         )
+    }
+}
+
+// The lines for how many payments have their approval in the trail.
+#[derive(Clone, Copy)]
+struct ApprovalLines {
+    counts: TrailCounts,
+}
+
+impl fmt::Display for ApprovalLines {
+    ghost output = { λ lines. Some (approvals_text lines.counts) };
+
+    fn fmt<W: fmt::Write>(&self, f: &mut fmt::Formatter<W>) -> fmt::Result {
+        let (approved, earlier) = (self.counts.approved, self.counts.earlier);
+        write!(f, "APPROVALS {approved}\nEARLIER APPROVALS {earlier}\n")
+    }
+}
+
+// The name of a flaw of the trail.
+#[derive(Clone, Copy)]
+struct TrailFlawName {
+    flaw: TrailFlaw,
+}
+
+impl fmt::Display for TrailFlawName {
+    ghost output = { λ name. Some (trail_flaw_text name.flaw) };
+
+    fn fmt<W: fmt::Write>(&self, f: &mut fmt::Formatter<W>) -> fmt::Result {
+        match self.flaw {
+            TrailFlaw::Matter(matter) => write!(f, "TRAIL {matter}"),
+            TrailFlaw::Entry { matter, entry } => write!(f, "TRAIL {matter}-{entry}"),
+        }
     }
 }
 
@@ -120,9 +157,15 @@ impl fmt::Display for CheckFound {
 
     fn fmt<W: fmt::Write>(&self, f: &mut fmt::Formatter<W>) -> fmt::Result {
         match *self {
-            CheckFound::Sound(counts) => {
+            CheckFound::Sound(counts, trail) => {
                 let lines = CountLines { counts };
-                write!(f, "SOUND\n{lines}")
+                let approvals = ApprovalLines { counts: trail };
+                write!(f, "SOUND\n{lines}{approvals}")
+            }
+            CheckFound::Amiss(counts, flaw) => {
+                let lines = CountLines { counts };
+                let name = TrailFlawName { flaw };
+                write!(f, "SOUND\n{lines}{name}\n")
             }
             CheckFound::Flawed(flaw) => {
                 let name = FlawName { flaw };
@@ -138,12 +181,15 @@ impl fmt::Display for CheckFound {
 
 // The result of a check in which all rows could be read.
 fn found_of(checked: Checked) -> CheckFound
-    ensures { (firm : Firm) → (checked.flaw ≡ None ↔ FirmSound firm) → IfSome checked.flaw (IsFlawOf firm)
-        → AreCountsOf firm checked.counts → IsTrueOf firm result }
+    ensures { (firm : Firm) → (result_err checked.found ≡ None ↔ FirmSound firm)
+        → IfSome (result_err checked.found) (IsFlawOf firm) → AreCountsOf firm checked.counts
+        → IfOk checked.found (IsTrailFound firm) → IsTrueOf firm result }
 {
-    match checked.flaw {
-        Some(flaw) => CheckFound::Flawed(flaw),
-        None => CheckFound::Sound(checked.counts),
+    let Checked { counts, found } = checked;
+    match found {
+        Ok(TrailFound::Fits(trail)) => CheckFound::Sound(counts, trail),
+        Ok(TrailFound::Flawed(flaw)) => CheckFound::Amiss(counts, flaw),
+        Err(flaw) => CheckFound::Flawed(flaw),
     }
 }
 
@@ -174,8 +220,9 @@ fn outcome_of_found(found: &CheckFound) -> Outcome
     ensures { result ≡ found_outcome found.now }
 {
     match found {
-        CheckFound::Sound(_) => Outcome::Done,
-        CheckFound::Flawed(_) | CheckFound::Unreadable(_) => Outcome::Refused,
+        CheckFound::Sound(_, _) => Outcome::Done,
+        CheckFound::Amiss(_, _) | CheckFound::Flawed(_) | CheckFound::Unreadable(_) =>
+            Outcome::Refused,
     }
 }
 
@@ -234,17 +281,18 @@ fn tell_found<M: Remarks>(remarks: &M, found: &Result<CheckFound, StoreFault>) {
     match found {
         Ok(CheckFound::Flawed(flaw)) => remarks.tell(&Remark::Flaw(*flaw)),
         Ok(CheckFound::Unreadable(row)) => remarks.tell(&Remark::Unread(*row)),
-        Ok(CheckFound::Sound(_)) | Err(_) => (),
+        Ok(CheckFound::Amiss(_, flaw)) => remarks.tell(&Remark::TrailFlaw(*flaw)),
+        Ok(CheckFound::Sound(_, _)) | Err(_) => (),
     }
 }
 
 /// Checks all rows of a desk's book, and prints that they are those of a sound firm and how many there are, or what is
-/// not sound in them. Remarks tell a person more. The store may hold anything that can be read as rows. If the outcome
-/// is `Done`, the rows are those of a sound firm; if it is `Refused`, the flaw that is printed is there, or the book
-/// refused to read the row that is. The book is unchanged.
+/// not sound in them; and whether the trail fits them. Remarks tell a person more. The store may hold anything that can
+/// be read as rows. If the outcome is `Done`, the rows are those of a sound firm, whose trail fits them; if it is
+/// `Refused`, the flaw that is printed is there, or the book refused to read the row that is. The book is unchanged.
 ///
-/// The outcome is `Done` if the rows are sound, and `Refused` if they are not, or a row is invalid. If the book could
-/// not be read or memory ran out, the line of that refusal was printed, and the outcome is `StoreFault` or
+/// The outcome is `Done` if the rows are sound and the trail fits, and `Refused` if not, or a row is invalid. If the
+/// book could not be read or memory ran out, the line of that refusal was printed, and the outcome is `StoreFault` or
 /// `MemoryFault`. If a write failed, it is `OutputFault`, and only a prefix of the text or line was written.
 pub fn run_check<M: Remarks, W: Write, B: Book>(
     alloc: Global,

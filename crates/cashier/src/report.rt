@@ -41,6 +41,7 @@ fn request_for(command: ReportCommand) -> Request
             caller: Caller::Cashier,
             ask: Ask::Account(period),
         },
+        ReportCommand::Trail(no) => Request::Trail(Caller::Cashier, no),
         ReportCommand::Firm(report) => Request::Report(Caller::Cashier, report),
     }
 }
@@ -127,7 +128,7 @@ fn tell_of_day_to_come<M: Remarks>(remarks: &M, command: ReportCommand, today: D
     let last = match command {
         ReportCommand::Reconcile(day) | ReportCommand::AsOf(_, day) => day,
         ReportCommand::Within(_, period) | ReportCommand::Account(_, period) => period.to(),
-        ReportCommand::Ledger(_) | ReportCommand::Firm(_) => return,
+        ReportCommand::Ledger(_) | ReportCommand::Trail(_) | ReportCommand::Firm(_) => return,
     };
     if today.get() < last.get() {
         remarks.tell(&Remark::Report(ReportRemark::ToCome { today, last }));
@@ -169,6 +170,7 @@ pub fn run_report<M: Remarks, W: Write, B: Book>(
         | ReportCommand::Within(_, _)
         | ReportCommand::Ledger(_)
         | ReportCommand::Account(_, _)
+        | ReportCommand::Trail(_)
         | ReportCommand::Firm(_) => ClearedLines::none(alloc),
     };
     let outcome = print_report(alloc, command, today, desk, &mut lines, writer);
@@ -212,6 +214,7 @@ pub fn run_report<M: Remarks, W: Write, B: Book>(
         ReportCommand::Firm(_)
         | ReportCommand::AsOf(_, _)
         | ReportCommand::Within(_, _)
+        | ReportCommand::Trail(_)
         | ReportCommand::Ledger(_) => {}
     }
     outcome

@@ -6,7 +6,7 @@ use sql_schema::{
 };
 use std::fmt;
 use trust_base::MatterNo;
-use trust_desk::{Flaw, Unread};
+use trust_desk::{Flaw, TrailFlaw, Unread};
 
 // Writes that a matter is not the whole of sound rows, though each of them can be read.
 fn write_unsound<W: fmt::Write>(f: &mut fmt::Formatter<W>, matter: MatterNo) -> fmt::Result {
@@ -43,6 +43,23 @@ pub fn write_flaw<W: fmt::Write>(f: &mut fmt::Formatter<W>, flaw: &Flaw) -> fmt:
         ),
         Flaw::Exception(number) => write_unsorted(f, *number, EXCEPTION_TABLE),
         Flaw::Balance(number) => write_unsorted(f, *number, BALANCE_TABLE),
+    }
+}
+
+/// Writes where the trail does not fit the rows, with the names of their tables.
+pub fn write_trail_flaw<W: fmt::Write>(f: &mut fmt::Formatter<W>, flaw: &TrailFlaw) -> fmt::Result {
+    match flaw {
+        TrailFlaw::Matter(matter) => write!(
+            f,
+            "matter {matter} ({ACT_TABLE}, {SEAT_TABLE}): \
+            an act in it was not its caller's to do, its seats are not those that its acts left, \
+            or it has acts and no records"
+        ),
+        TrailFlaw::Entry { matter, entry } => write!(
+            f,
+            "entry {entry} of matter {matter} ({ACT_TABLE}, {ENTRY_TABLE}): \
+            its approvals are not the one of its issue, or there is no such entry"
+        ),
     }
 }
 

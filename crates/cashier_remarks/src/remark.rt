@@ -3,7 +3,7 @@
 
 use crate::book_remark::BookRemark;
 use crate::caution::Caution;
-use crate::check::{write_flaw, write_unread};
+use crate::check::{write_flaw, write_trail_flaw, write_unread};
 use crate::exception::ExceptionRemark;
 use crate::file_remark::FileRemark;
 use crate::header::HeaderRemark;
@@ -15,7 +15,7 @@ use crate::report_remark::ReportRemark;
 use match_remarks::UnmatchedLine;
 use std::fmt;
 use trust_base::{Day, StoreFault};
-use trust_desk::{Flaw, Unread};
+use trust_desk::{Flaw, TrailFlaw, Unread};
 
 /// What a person is told during a run.
 #[derive(Clone, Copy)]
@@ -76,6 +76,8 @@ pub enum Remark<'a> {
     },
     /// This is not sound in the book's rows.
     Flaw(Flaw),
+    /// In this the book's trail does not fit its rows.
+    TrailFlaw(TrailFlaw),
     /// This can't be read in the book's rows.
     Unread(Unread),
     /// What was accepted is lost when the run ends.
@@ -143,6 +145,7 @@ impl fmt::Display for Remark<'_> {
                 write!(f, "{path} {words}")
             }
             Remark::Flaw(flaw) => write_flaw(f, flaw),
+            Remark::TrailFlaw(flaw) => write_trail_flaw(f, flaw),
             Remark::Unread(unread) => write_unread(f, unread),
             Remark::NothingKept => f.write_str("nothing was kept: no --db was given"),
             Remark::FarDay(day) => write!(

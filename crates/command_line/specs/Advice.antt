@@ -202,6 +202,7 @@ IsWrongOperand commands.Reconcile values w = IsWrongDay values w
 IsWrongOperand (commands.AsOf report) values w = IsWrongDay values w
 IsWrongOperand (commands.Within report) values w = IsWrongSpan values w
 IsWrongOperand (commands.Firm reports.OwnLedger) values w = IsWrongCard values w
+IsWrongOperand (commands.Firm reports.Trail) values w = IsWrongMatter values w
 IsWrongOperand commands.Account values w = IsWrongMatter values w ⊎ IsWrongSpan values w
 IsWrongOperand commands.Serve values w = IsWrongServing values w
 IsWrongOperand _ values w = ⊥

@@ -12,13 +12,13 @@ use Rattle.clap.specs.declared.parser.matches.ArgMatches.{ArgMatches}
 use Rattle.trust_base.specs.Periods.{Span}
 use Rattle.trust_base.specs.Texts.{day_of, matter_of}
 use Rattle.command_line.specs.Numerals.{IsCount, IsPort}
-use Rattle.command_line.specs.Table.{all_commands, command_operands, command_text}
+use Rattle.command_line.specs.Table.{all_commands, are_operands_required, command_operands, command_text}
 use Rattle.command_line.specs.declared.command.CliFault.{CliFault}
 use Rattle.command_line.specs.declared.command.CliFault.TheVariants as faults
 use Rattle.command_line.specs.declared.command.Task.{Task}
 use Rattle.command_line.specs.declared.command.Task.TheVariants as tasks
 use Rattle.command_line.specs.declared.command.ReportCommand.{ReportCommand}
-use Rattle.command_line.specs.declared.command.ReportCommand.TheVariants.{Reconcile, AsOf, Within, Ledger, Account, Firm}
+use Rattle.command_line.specs.declared.command.ReportCommand.TheVariants.{Reconcile, AsOf, Within, Ledger, Account, Trail, Firm}
 use Rattle.command_line.specs.declared.table.CommandName.{CommandName}
 use Rattle.command_line.specs.declared.table.CommandName.TheVariants as commands
 use Rattle.book_reports.specs.declared.report.Report.TheVariants as reports
@@ -42,22 +42,23 @@ unfoldable pub options_app : App
 options_app =
     with_rule (with_rule (with_rule (new_app (codes "cashier_cli")) today_rule) db_rule) quiet_rule
 
--- a required operand
-unfoldable pub operand_rule : Text → Rule
-operand_rule operand = record (new_rule operand) { required = true; action = Some action.Set }
+-- an operand, which may have to be given
+unfoldable pub operand_rule : Bool → Text → Rule
+operand_rule is_required operand = record (new_rule operand) { required = is_required; action = Some action.Set }
 
--- a command with these required operands added after its own
-abbrev pub with_operands : App → List Text → App
-with_operands app [] = app
-with_operands app (operand ∷ rest) = with_operands (with_rule app (operand_rule operand)) rest
+-- a command with these operands added after its own
+abbrev pub with_operands : Bool → App → List Text → App
+with_operands are_required app [] = app
+with_operands are_required app (operand ∷ rest) =
+    with_operands are_required (with_rule app (operand_rule are_required operand)) rest
 
 -- a command of this name with these operands
-abbrev pub command_app : Text → List Text → App
-command_app name operands = with_operands (new_app name) operands
+abbrev pub command_app : Text → Bool → List Text → App
+command_app name are_required operands = with_operands are_required (new_app name) operands
 
 -- the command as the command line has it
 abbrev pub app_called : CommandName → App
-app_called command = command_app (command_text command) (command_operands command)
+app_called command = command_app (command_text command) (are_operands_required command) (command_operands command)
 
 -- a command line with these commands added after its own
 abbrev pub with_commands : App → List App → App
@@ -96,6 +97,7 @@ report_command (AsOf report day) = commands.AsOf report
 report_command (Within report period) = commands.Within report
 report_command (Ledger matter) = commands.Firm reports.OwnLedger
 report_command (Account matter period) = commands.Account
+report_command (Trail matter) = commands.Firm reports.Trail
 report_command (Firm report) = commands.Firm report
 
 -- the command of a task
@@ -120,14 +122,16 @@ pub record IsAccountGiven (values : List Row) (matter : ℕ) (period : Span) : T
   pub period_given : IsPeriodGiven values period
 
 -- the values of the command are the operands: the text of a day, those of a period's days, a matter's six digits, these
--- and a period's days, or, for the card of the firm's own money alone, the word for the firm
+-- and a period's days, for the card of the firm's own money alone the word for the firm, or, for the whole trail, none
 abbrev pub HasReportOperands : List Row → ReportCommand → Type 0
 HasReportOperands values (Reconcile day) = option_and_then day_of (first_of (codes "DAY") values) ≡ Some day
 HasReportOperands values (AsOf report day) = option_and_then day_of (first_of (codes "DAY") values) ≡ Some day
 HasReportOperands values (Within report period) = IsPeriodGiven values period
 HasReportOperands values (Ledger matter) = option_and_then matter_of (first_of (codes "MATTER") values) ≡ Some matter
 HasReportOperands values (Account matter period) = IsAccountGiven values matter period
+HasReportOperands values (Trail matter) = option_and_then matter_of (first_of (codes "MATTER") values) ≡ Some matter
 HasReportOperands values (Firm reports.OwnLedger) = first_of (codes "MATTER") values ≡ Some (codes "FIRM")
+HasReportOperands values (Firm reports.Trail) = first_of (codes "MATTER") values ≡ None
 HasReportOperands values (Firm report) = ⊤
 
 -- the name of a task's command

@@ -1,5 +1,5 @@
 -- The commands, and how each is typed.
-use Rattle.std.specs.Prelude.{◌++◌, List, [], ◌∷◌, Option, Some, None, codes}
+use Rattle.std.specs.Prelude.{◌++◌, Bool, true, false, List, [], ◌∷◌, Option, Some, None, codes}
 use Rattle.clap.specs.Words.{Text}
 use Rattle.command_line.specs.declared.table.CommandName.{CommandName}
 use Rattle.command_line.specs.declared.table.CommandName.TheVariants as commands
@@ -13,15 +13,24 @@ pub record Form : Type 0 where
   pub name : Text
   -- the names of its operands
   pub operands : List Text
+  -- they have to be given
+  pub are_required : Bool
   -- how a usage has it
   pub usage : Text
   -- the command as it may be typed
   pub example : Text
 
 abbrev form : Text → List Text → Text → Text → Form
-form name operands usage example = record { name = name; operands = operands; usage = usage; example = example }
+form name operands usage example = record {
+  name = name;
+  operands = operands;
+  are_required = true;
+  usage = usage;
+  example = example;
+}
 
--- how each command is typed; after `ledger` there may be the word FIRM instead of a matter's number
+-- how each command is typed; after `ledger` there may be the word FIRM instead of a matter's number, and after `trail`
+-- nothing
 abbrev pub form_of : CommandName → Form
 form_of commands.Sheet = form (codes "sheet") [] (codes "sheet") (codes "sheet < day.csv")
 form_of commands.Import = form (codes "import") (codes "FILE" ∷ [])
@@ -42,6 +51,8 @@ form_of (commands.Within period_reports.Receipts) = form (codes "receipts") (cod
     (codes "receipts FROM TO") (codes "receipts 2026-03-01 2026-03-31")
 form_of (commands.Within period_reports.Disbursements) = form (codes "disbursements") (codes "FROM" ∷ codes "TO" ∷ [])
     (codes "disbursements FROM TO") (codes "disbursements 2026-03-01 2026-03-31")
+form_of (commands.Within period_reports.Approvals) = form (codes "approvals") (codes "FROM" ∷ codes "TO" ∷ [])
+    (codes "approvals FROM TO") (codes "approvals 2026-03-01 2026-03-31")
 form_of (commands.AsOf day_reports.Month) = form (codes "month") (codes "DAY" ∷ [])
     (codes "month DAY") (codes "month 2026-03-31")
 form_of (commands.Firm reports.Trial) = form (codes "trial") [] (codes "trial") (codes "trial")
@@ -52,15 +63,19 @@ form_of (commands.Firm reports.OwnLedger) = form (codes "ledger") (codes "MATTER
     (codes "ledger MATTER|FIRM") (codes "ledger 000001")
 form_of commands.Account = form (codes "account") (codes "MATTER" ∷ codes "FROM" ∷ codes "TO" ∷ [])
     (codes "account MATTER FROM TO") (codes "account 000001 2026-03-01 2026-03-31")
+form_of (commands.Firm reports.Trail) = record
+    (form (codes "trail") (codes "MATTER" ∷ []) (codes "trail [MATTER]") (codes "trail 000001"))
+    { are_required = false }
 
 -- the commands in the order of the command line
 unfoldable pub all_commands : List CommandName
 all_commands = commands.Sheet ∷ commands.Import ∷ commands.Match ∷ commands.Stream ∷ commands.Serve
     ∷ commands.Check ∷ commands.Reconcile ∷ commands.AsOf day_reports.Clients
     ∷ commands.AsOf day_reports.Outstanding ∷ commands.Within period_reports.Receipts
-    ∷ commands.Within period_reports.Disbursements ∷ commands.AsOf day_reports.Month
-    ∷ commands.Firm reports.Trial ∷ commands.Firm reports.Journal ∷ commands.Firm reports.Retention
-    ∷ commands.Firm reports.Exceptions ∷ commands.Firm reports.OwnLedger ∷ commands.Account ∷ []
+    ∷ commands.Within period_reports.Disbursements ∷ commands.Within period_reports.Approvals
+    ∷ commands.AsOf day_reports.Month ∷ commands.Firm reports.Trial ∷ commands.Firm reports.Journal
+    ∷ commands.Firm reports.Retention ∷ commands.Firm reports.Exceptions ∷ commands.Firm reports.OwnLedger
+    ∷ commands.Account ∷ commands.Firm reports.Trail ∷ []
 
 -- the name of a command
 abbrev pub command_text : CommandName → Text
@@ -70,11 +85,16 @@ command_text command = (form_of command).name
 abbrev pub command_operands : CommandName → List Text
 command_operands command = (form_of command).operands
 
+-- they have to be given
+abbrev pub are_operands_required : CommandName → Bool
+are_operands_required command = (form_of command).are_required
+
 -- how a command is written after the options; without a command, all of them
 abbrev pub command_usage : Option CommandName → Text
 command_usage None = codes "(sheet | import FILE | match FILE | stream | serve PORT COUNT | reconcile DAY | "
-    ++ codes "clients DAY | outstanding DAY | receipts FROM TO | disbursements FROM TO | month DAY | "
-    ++ codes "trial | journal | retention | exceptions | ledger MATTER|FIRM | account MATTER FROM TO | check)"
+    ++ codes "clients DAY | outstanding DAY | receipts FROM TO | disbursements FROM TO | approvals FROM TO | "
+    ++ codes "month DAY | trial | journal | retention | exceptions | ledger MATTER|FIRM | account MATTER FROM TO | "
+    ++ codes "trail [MATTER] | check)"
 command_usage (Some command) = (form_of command).usage
 
 -- a command as it may be typed

@@ -35,6 +35,8 @@ pub enum ReportCommand {
     Ledger(MatterNo),
     /// The statement of account of this matter for this period.
     Account(MatterNo, Period),
+    /// The trail of this matter.
+    Trail(MatterNo),
     /// This report on the firm.
     Firm(Report),
 }
@@ -226,6 +228,22 @@ fn account<'a>(values: &ArgMatches<'a>) -> Option<Task<'a>>
     Some(Task::Report(ReportCommand::Account(no, period)))
 }
 
+// Returns the task of printing the trail, of the operand MATTER if it is given.
+#[tactic(auto, using(crate::proofs::Values::values_read))]
+fn trail<'a>(values: &ArgMatches<'a>) -> Option<Task<'a>>
+    ensures some { IfSome result (IsTaskOf (CommandName.Firm Report.Trail) (rows_of (found_of values.now))) }
+    ensures none { IfNone result
+        ((task : Task) → ¬ IsTaskOf (CommandName.Firm Report.Trail) (rows_of (found_of values.now)) task) }
+{
+    match values.get_str("MATTER") {
+        Some(matter) => {
+            let no = MatterNo::read(matter.as_bytes())?;
+            Some(Task::Report(ReportCommand::Trail(no)))
+        }
+        None => Some(Task::Report(ReportCommand::Firm(Report::Trail))),
+    }
+}
+
 // Returns the task of a command with these values.
 #[tactic(auto, using(crate::proofs::Values::values_read))]
 fn task_of<'a>(command: CommandName, values: &ArgMatches<'a>) -> Option<Task<'a>>
@@ -246,6 +264,7 @@ fn task_of<'a>(command: CommandName, values: &ArgMatches<'a>) -> Option<Task<'a>
         CommandName::AsOf(report) => day_report(report, values),
         CommandName::Within(report) => period_report(report, values),
         CommandName::Firm(Report::OwnLedger) => ledger_card(values),
+        CommandName::Firm(Report::Trail) => trail(values),
         CommandName::Firm(report) => Some(Task::Report(ReportCommand::Firm(report))),
         CommandName::Account => account(values),
     }
@@ -260,19 +279,20 @@ fn task_called<'a>(name: &str, values: &ArgMatches<'a>) -> Option<Task<'a>>
     task_of(command, values)
 }
 
-// Makes a command with required operands.
+// Makes a command with operands, which may have to be given.
 fn make_command<'a>(
     alloc: Global,
     name: &'a str,
+    are_required: bool,
     operands: &[&'a str],
 ) -> Result<Command<'a>, AllocError>
-    ensures app { IfOk result (λ c. app_of c ≡ command_app name.now (words_of operands.now)) }
+    ensures app { IfOk result (λ c. app_of c ≡ command_app name.now are_required (words_of operands.now)) }
     ensures local { IfOk result (λ c. (out-Command c).has_globals ≡ false) }
 {
     let mut command = Command::new(alloc, name);
     for operand in operands {
         let value = Arg::new(alloc, *operand)
-            .required(true)
+            .required(are_required)
             .action(ArgAction::Set);
         command = command.arg(value)?;
     }
@@ -289,7 +309,7 @@ fn with_commands<'a>(
 {
     for command in commands {
         let form = form_of(*command);
-        let made = make_command(alloc, form.name, form.operands)?;
+        let made = make_command(alloc, form.name, form.are_required, form.operands)?;
         program = program.subcommand(made)?;
     }
     Ok(program)

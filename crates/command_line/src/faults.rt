@@ -270,6 +270,7 @@ fn wrong_operand<'a>(command: CommandName, values: &ArgMatches<'a>) -> Option<Wr
         CommandName::Reconcile | CommandName::AsOf(_) => no_day(values.get_str("DAY")?),
         CommandName::Within(_) => wrong_period(values),
         CommandName::Firm(Report::OwnLedger) => no_card(values.get_str("MATTER")?),
+        CommandName::Firm(Report::Trail) => no_matter(values.get_str("MATTER")?),
         CommandName::Account => match no_matter(values.get_str("MATTER")?) {
             Some(wrong) => Some(wrong),
             None => wrong_period(values),

@@ -1,8 +1,8 @@
 // The commands, and how each is typed.
 
-ghost use Rattle.std.specs.Prelude.{◌≡◌, ◌≢◌, ◌⊎◌, IfNone, IfSome};
+ghost use Rattle.std.specs.Prelude.{◌≡◌, ◌≢◌, ◌⊎◌, IfNone, IfSome, true};
 ghost use Rattle.command_line.specs.Program.{words_of};
-ghost use Rattle.command_line.specs.Table.{command_example, command_operands, command_text, command_usage};
+ghost use Rattle.command_line.specs.Table.{are_operands_required, command_example, command_operands, command_text, command_usage};
 ghost use Rattle.command_line.specs.declared.table.CommandName.{CommandName};
 
 use trust_desk::{DayReport, PeriodReport, Report};
@@ -28,7 +28,8 @@ pub enum CommandName {
     AsOf(DayReport),
     /// Print this report of a period.
     Within(PeriodReport),
-    /// Print this report of the firm. That of its own ledger is `ledger`, which also prints a matter's card.
+    /// Print this report of the firm. That of its own ledger is `ledger`, which also prints a matter's card, and
+    /// `trail` prints that of a matter too.
     Firm(Report),
     /// Print a client's statement of account for a period.
     Account,
@@ -47,6 +48,7 @@ pub(crate) const COMMANDS: &[CommandName] = &[
     CommandName::AsOf(DayReport::Outstanding),
     CommandName::Within(PeriodReport::Receipts),
     CommandName::Within(PeriodReport::Disbursements),
+    CommandName::Within(PeriodReport::Approvals),
     CommandName::AsOf(DayReport::Month),
     CommandName::Firm(Report::Trial),
     CommandName::Firm(Report::Journal),
@@ -54,6 +56,7 @@ pub(crate) const COMMANDS: &[CommandName] = &[
     CommandName::Firm(Report::Exceptions),
     CommandName::Firm(Report::OwnLedger),
     CommandName::Account,
+    CommandName::Firm(Report::Trail),
 ];
 
 const NO_OPERAND: &[&str] = &[];
@@ -77,6 +80,8 @@ pub(crate) struct CommandForm<'a> {
     pub(crate) name: &'a str,
     /// The names of its operands.
     pub(crate) operands: &'a [&'a str],
+    /// Whether they have to be given.
+    pub(crate) are_required: bool,
     /// How a usage has it.
     pub(crate) usage: &'a str,
     /// The command as it may be typed.
@@ -90,11 +95,18 @@ fn form<'a>(
     example: &'a str,
 ) -> CommandForm<'a>
     ensures { result
-        ≡ record { name = name.entry; operands = operands.entry; usage = usage.entry; example = example.entry } }
+        ≡ record {
+          name = name.entry;
+          operands = operands.entry;
+          are_required = true;
+          usage = usage.entry;
+          example = example.entry;
+        } }
 {
     CommandForm {
         name,
         operands,
+        are_required: true,
         usage,
         example,
     }
@@ -104,6 +116,7 @@ fn form<'a>(
 pub(crate) fn form_of<'a>(command: CommandName) -> CommandForm<'a>
     ensures name { result.name.now ≡ command_text command }
     ensures operands { words_of result.operands.now ≡ command_operands command }
+    ensures required { result.are_required ≡ are_operands_required command }
     ensures usage { result.usage.now ≡ command_usage (Some command) }
     ensures example { result.example.now ≡ command_example (Some command) }
 {
@@ -149,6 +162,12 @@ pub(crate) fn form_of<'a>(command: CommandName) -> CommandForm<'a>
             "disbursements FROM TO",
             "disbursements 2026-03-01 2026-03-31",
         ),
+        CommandName::Within(PeriodReport::Approvals) => form(
+            "approvals",
+            PERIOD,
+            "approvals FROM TO",
+            "approvals 2026-03-01 2026-03-31",
+        ),
         CommandName::AsOf(DayReport::Month) => form("month", DAY, "month DAY", "month 2026-03-31"),
         CommandName::Firm(Report::Trial) => form("trial", NO_OPERAND, "trial", "trial"),
         CommandName::Firm(Report::Journal) => form("journal", NO_OPERAND, "journal", "journal"),
@@ -176,6 +195,10 @@ pub(crate) fn form_of<'a>(command: CommandName) -> CommandForm<'a>
             "account MATTER FROM TO",
             "account 000001 2026-03-01 2026-03-31",
         ),
+        CommandName::Firm(Report::Trail) => CommandForm {
+            are_required: false,
+            ..form("trail", MATTER, "trail [MATTER]", "trail 000001")
+        },
     }
 }
 
@@ -199,9 +222,9 @@ pub(crate) fn usage_of(command: Option<CommandName>) -> &'static str
     match command {
         None =>
             "(sheet | import FILE | match FILE | stream | serve PORT COUNT | reconcile DAY | clients DAY | \
-            outstanding DAY | receipts FROM TO | disbursements FROM TO | month DAY | \
+            outstanding DAY | receipts FROM TO | disbursements FROM TO | approvals FROM TO | month DAY | \
             trial | journal | retention | exceptions | ledger MATTER|FIRM | \
-            account MATTER FROM TO | check)",
+            account MATTER FROM TO | trail [MATTER] | check)",
         Some(command) => form_of(command).usage,
     }
 }

@@ -1,6 +1,6 @@
 -- What a record of a sheet does to a firm.
 use Rattle.day_sheet.proofs.Names.{◌≡◌, cond, ℕ, Bool, true, false, List, Option, Some, None, Result, Ok, Err, refl, sym, ap, subst}
-use Rattle.std.specs.Prelude.{⊤}
+use Rattle.std.specs.Prelude.{⊤, ◌==◌, ◌||◌}
 use Rattle.trust_base.specs.Texts.{matter_of}
 use Rattle.statement_csv.specs.Lines.{line_of_texts}
 use Rattle.trust_base.specs.declared.line.Line.{Line}
@@ -11,7 +11,9 @@ use Rattle.trust_base.specs.declared.refusal.Refusal.TheVariants.{BadField, Memo
 use Rattle.firm_rows.specs.Firm.{Firm}
 use Rattle.trust_store.specs.Seen.{Seen}
 use Rattle.trust_desk.specs.FirmStep.{KindStopped, Steps}
-use Rattle.trust_desk.specs.Heard.{Asks, Dismisses, Heard, Kind, NotRead, OfItems, OfMatter, OnlyShown, OnlyTold, Unread, kind_of}
+use Rattle.trust_desk.specs.Heard.{Asks, Dismisses, Heard, Kind, NotRead, OfActs, OfItems, OfMatter, OnlyShown, OnlyTold, Own, OwnAsk, OwnRefusal, Unread, asked_on, is_the, kind_of, kind_own, own_if, own_of}
+use Rattle.trust_desk.specs.Isolation.{asks_for_acts}
+use Rattle.std.specs.List.{list_any}
 use Rattle.trust_desk.specs.Replies.{is_fault_reply, refused}
 use Rattle.trust_desk.specs.declared.requests.Reply.{Reply}
 use Rattle.trust_desk.specs.declared.requests.Request.{Request}
@@ -36,9 +38,10 @@ heard-bad : (fields : List (List ℕ)) (f : Field) → asked_of fields ≡ Err f
 unfolding heard_of
 heard-bad fields f e = ap (λ (o : Result Request Field). heard_as o (matter_of (text_at fields 1))) e
 
--- it brings no items of a statement
+-- it brings no items of a statement, and asks for no acts
 abbrev IsNoImport : Kind → Type 0
 IsNoImport (OfMatter m caller a) = ⊤
+IsNoImport (OfActs m caller) = ⊥
 IsNoImport (OfItems refused items) = ⊥
 IsNoImport (Dismisses caller line) = ⊤
 IsNoImport (OnlyTold text) = ⊤
@@ -74,6 +77,23 @@ record-none fields = cases (is_dismissal fields)
     cases true = dismissal-none (has_dismissal_form fields) (line_of_texts (text_at fields 3) (text_at fields 4) (text_at fields 5) (text_at fields 6) (text_at fields 7)) (matter_of (text_at fields 1))
     cases false = of_verb-none (verb_in fields) fields (matter_of (text_at fields 1))
 
+own-silent : (b : Bool) (own : Own) → asks_for_acts own ≡ false → list_any asks_for_acts (own_if b own) ≡ false
+own-silent true own silent = ap (λ (b : Bool). b || false) silent
+own-silent false own silent = refl
+
+kind-silent : (m day : ℕ) (k : Kind) → IsNoImport k → list_any asks_for_acts (kind_own m day k) ≡ false
+kind-silent m day (OfMatter n caller ask) none = own-silent (n == m) (OwnAsk (asked_on day caller ask)) refl
+kind-silent m day (OfActs n caller) none = absurd none
+kind-silent m day (OfItems refused items) none = absurd none
+kind-silent m day (Dismisses caller line) none = refl
+kind-silent m day (OnlyTold text) none = refl
+kind-silent m day (OnlyShown json) none = refl
+kind-silent m day (NotRead named r) none = own-silent (is_the m named) (OwnRefusal r) refl
+
+-- no record asks for a matter's acts
+pub record-silent : (m day : ℕ) (fields : List (List ℕ)) → list_any asks_for_acts (own_of m day (heard_of fields)) ≡ false
+record-silent m day fields = kind-silent m day (kind_of (heard_of fields)) (record-none fields)
+
 -- a record that could not be read is refused, and changes nothing
 refused-step : (day : ℕ) (firm : Firm) (fields : List (List ℕ)) (r : Refusal) → Reads (asked_of fields) (Err r) → Steps day firm (heard_of fields) (refused r) firm
 refused-step day firm fields (BadField f) h = rw (heard-bad fields f h) (refl, refl)
@@ -84,6 +104,7 @@ refused-step day firm fields _ h = absurd h
 
 stopped-is : (day : ℕ) (firm after : Firm) (k : Kind) → IsNoImport k → KindStopped day firm k after → after ≡ firm
 stopped-is day firm after (OfMatter m caller a) none s = s
+stopped-is day firm after (OfActs m caller) none s = s
 stopped-is day firm after (OfItems refused items) none s = absurd none
 stopped-is day firm after (Dismisses caller line) none s = s
 stopped-is day firm after (OnlyTold text) none s = s

@@ -1,14 +1,12 @@
 -- An entry that waits for a line of the bank: the line is applied, and lines of other entries leave it as it is.
 use Rattle.desk_laws.proofs.Names.{◌≡◌, ◌≢◌, ◌∙◌, sym, ap, ℕ, Bool, true, false, not, cond, List, [], Option, Some, None, refl, arith, eqb, nat_lt, is_none, Contains, cond-false, Decides-int_eq, nat_tests, Line, Head, Deposit, Payment, Entry, Rows, entry_at, is_gone, is_issued_state, is_of_nobody, is_purged, last_of, seen_on, cleared_amount, has_its_amount, is_line_again, is_payment_cleared_by, is_return, IsBare, IsBareIfPurged, IsHeaded, Sound, entry_at-with, Numbered, changed_by, BankLine, DatedEdit, Reason, LineFacts, after_line_effect, awaits_no_line, dated_by, first_reason, has_no_line, is_of_another_amount, last_by, line_effect, line_facts, line_on, matched, reasons, rows_after_line, told_by, Waiting, entry_waiting, by_waiting, ints}
 use Rattle.matter_rows.specs.declared.head.Holder.{Holder}
-use Rattle.matter_rows.specs.declared.head.Holder.TheVariants as holder
 use Rattle.matter_rows.specs.declared.seat.Seat.{Seat}
 use Rattle.matter_rows.specs.declared.deposit.DepositState.TheVariants as deposit
 use Rattle.matter_rows.specs.declared.payment.PaymentState.TheVariants as payment
 use Rattle.matter_rows.specs.declared.entry.Entry.TheVariants as entry
 use Rattle.matter_parts.specs.declared.edit.Edit.TheVariants as edit
 use Rattle.trust_matter.specs.declared.line_verdict.LineEffect.TheVariants as told
-use Rattle.trust_matter.specs.declared.line_verdict.Reason.TheVariants as reason
 
 -- What an entry waits for.
 

@@ -2,8 +2,6 @@
 use Rattle.desk_laws.proofs.Names.{◌≡◌, Bool, false, cond, List, [], ◌∷◌, Option, refl, Line, Refusal, first, Firm, without_line, dismiss_refusal, dismissed_unless, is_exception, arith, ints, nat_tests}
 use Rattle.std.specs.Prelude.{not}
 use Rattle.trust_base.specs.LineOrder.{is_same_line}
-use Rattle.trust_base.specs.declared.refusal.Refusal.TheVariants as refusals
-use Rattle.trust_base.specs.declared.refusal.Rule.TheVariants as rule
 use Rattle.desk_laws.specs.Dismissed.{DismissedOnce, DismissingMovesNothing, KeepsAllElse}
 
 kept-else : (o : Option Refusal) (line : Line) (firm : Firm) → KeepsAllElse firm (dismissed_unless o line firm)

@@ -1,10 +1,11 @@
 -- An ask that makes an entry, and a line that was applied, are repeats after all that comes to their matter.
-use Rattle.desk_laws.proofs.Names.{◌≡◌, ℕ, List, [], ◌∷◌, ◌++◌, None, true, false, refl, subst, sym, IsSome, BankLine, Rows, is_purged, Asked, facts_of, is_repeat, number_made, refusal, rows_after, Doing, AnAsk, ALine, all_after, IsSameLine, ask-repeat, line-repeat, line_on, rows_after_line, IsApplied, Own, OwnAsk, OwnRefusal, OwnLine, solo_rows}
+use Rattle.desk_laws.proofs.Names.{◌≡◌, ℕ, List, [], ◌∷◌, ◌++◌, None, true, false, refl, subst, sym, IsSome, BankLine, Rows, is_purged, Asked, facts_of, is_repeat, number_made, refusal, rows_after, Doing, AnAsk, ALine, all_after, IsSameLine, ask-repeat, line-repeat, line_on, rows_after_line, IsApplied, Own, OwnAsk, OwnActs, OwnRefusal, OwnLine, solo_rows}
 use Rattle.trust_matter.specs.declared.line_verdict.LineEffect.TheVariants as told
 
 -- what comes to a matter, as doings of its own machine
 abbrev doing_of : Own → List Doing
 doing_of (OwnAsk a) = AnAsk a ∷ []
+doing_of (OwnActs caller day) = []
 doing_of (OwnRefusal r) = []
 doing_of (OwnLine l day) = ALine l day ∷ []
 
@@ -15,6 +16,7 @@ doings_of (own ∷ owns) = doing_of own ++ doings_of owns
 solo-doings : (rows : Rows) (owns : List Own) → solo_rows rows owns ≡ all_after rows (doings_of owns)
 solo-doings rows [] = refl
 solo-doings rows (OwnAsk a ∷ owns) = solo-doings (rows_after rows a) owns
+solo-doings rows (OwnActs caller day ∷ owns) = solo-doings rows owns
 solo-doings rows (OwnRefusal r ∷ owns) = solo-doings rows owns
 solo-doings rows (OwnLine l day ∷ owns) = solo-doings (rows_after_line rows l day) owns
 

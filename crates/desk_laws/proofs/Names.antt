@@ -53,7 +53,7 @@ pub use Rattle.trust_base.specs.declared.line.Line.{Line}
 pub use Rattle.trust_base.specs.declared.refusal.Refusal.{Refusal}
 pub use Rattle.trust_desk.specs.Dismissing.{dismiss_refusal, dismiss_reply, dismissed_unless, is_exception}
 pub use Rattle.trust_desk.specs.FirmStep.{IsStopped, KindStopped, Runs, Steps, after_ask, after_asked, firm_step, kind_step}
-pub use Rattle.trust_desk.specs.Heard.{Asks, Dismisses, Heard, Kind, NotRead, OfItems, OfMatter, OnlyShown, OnlyTold, Own, OwnAsk, OwnLine, OwnRefusal, asked_on, kind_of, own_of, own_of_item, own_of_items}
+pub use Rattle.trust_desk.specs.Heard.{Asks, Dismisses, Heard, Kind, NotRead, OfItems, OfMatter, OnlyShown, OnlyTold, Own, OwnActs, OwnAsk, OwnLine, OwnRefusal, asked_on, kind_of, own_of, own_of_item, own_of_items}
 pub use Rattle.trust_desk.specs.ImportStep.{import_refusal, import_reply}
 pub use Rattle.trust_desk.specs.ItemStep.{after_balance, after_item, after_items, after_told, balance_item, balance_on, count_item, counted_as, counted_by, counted_of, counts_after, firm_line_on, none_counted}
 pub use Rattle.trust_desk.specs.Replies.{is_fault_reply, json_reply, refused, replied, reply_of, text_reply}

@@ -8,7 +8,7 @@ use Rattle.statement_csv.specs.declared.item.Item.TheVariants as item
 use Rattle.trust_desk.specs.declared.importing.Counted.TheVariants as counted
 use Rattle.desk_laws.proofs.Doings.{asked-later, repeat-later}
 use Rattle.trust_desk.proofs.OwnItems.{solo_rows-append, of-after_item, of-after_line}
-use Rattle.trust_desk.proofs.Own.{of-after_asked, own-rows}
+use Rattle.trust_desk.proofs.OwnRows.{of-after_asked, own-rows}
 use Rattle.desk_laws.proofs.OnceRuns.{all-keep, runs-keep}
 
 -- later rows are those after some of what comes to a matter

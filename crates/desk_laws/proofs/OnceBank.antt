@@ -1,7 +1,6 @@
 -- A line of the firm's own, and a balance, that were applied are so once after every run.
-use Rattle.desk_laws.proofs.Names.{◌≡◌, ◌≢◌, ℕ, Bool, true, false, Option, Some, None, refl, sym, ap, ◌∙◌, subst, ℤ, nat_le, if◌then◌else◌, list_any, int_eq, bytes_eq, Decides-int_eq, Line, Edit, BalanceKind, Verdict, Firm, acted, after_edit, after, by_balance, by_firm_line, is_kept_as, is_bookable, kept_balance, balance_verdict, edit-leaves, line-kept, lines-stay, balance-kept, balances-stay, after_balance, after_item, after_items, balance_item, balance_on, counted_by, counted_of, firm_line_on, IsRepeated, IsUnmatched, IsSameFirmLine, FirmLineOnce, IsBalanceOver, BalanceOnce, arith, ints, nat_tests}
+use Rattle.desk_laws.proofs.Names.{◌≡◌, ◌≢◌, ℕ, Bool, true, false, Option, Some, None, refl, sym, ap, ◌∙◌, subst, ℤ, nat_le, if◌then◌else◌, list_any, int_eq, bytes_eq, Decides-int_eq, Line, Edit, BalanceKind, Firm, acted, after_edit, after, by_balance, by_firm_line, is_kept_as, is_bookable, kept_balance, balance_verdict, edit-leaves, line-kept, lines-stay, balance-kept, balances-stay, after_balance, after_item, after_items, balance_item, balance_on, counted_by, counted_of, firm_line_on, IsRepeated, IsUnmatched, IsSameFirmLine, FirmLineOnce, IsBalanceOver, BalanceOnce, arith, ints, nat_tests}
 use Rattle.matter_rows.specs.declared.act.Act.{Act}
-use Rattle.firm_rows.specs.declared.ledger.BalanceKind.TheVariants as kind
 use Rattle.firm_rows.specs.declared.ledger.Verdict.TheVariants as own
 use Rattle.firm_rows.specs.LinesStay.{is_line_kept}
 use Rattle.statement_csv.specs.declared.item.Item.TheVariants as item

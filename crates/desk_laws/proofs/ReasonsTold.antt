@@ -1,5 +1,5 @@
 -- What an import would do with a line, by its reason.
-use Rattle.desk_laws.proofs.Names.{◌≡◌, ℕ, true, List, Option, refl, arith, ints, nat_tests}
+use Rattle.desk_laws.proofs.Names.{◌≡◌, ℕ, List, Option, refl, arith, ints, nat_tests}
 use Rattle.std.specs.Prelude.{ℤ}
 use Rattle.trust_base.specs.declared.line.Line.{Line}
 use Rattle.matter_rows.specs.declared.entry.Entry.{Entry}

@@ -1,6 +1,6 @@
 //! Laws of whole runs. Each is the contract of a function that does nothing.
 
-ghost use Rattle.trust_desk.specs.Isolation.{EachMatterOwn, SameForTheMatter};
+ghost use Rattle.trust_desk.specs.Isolation.{EachMatterOwn, SameByRowsAlone, SameForTheMatter};
 ghost use Rattle.trust_desk.specs.FirmStep.{SoundRunsAreRuns};
 ghost use Rattle.trust_desk.specs.NeverBelowZero.{NeverBelowZero, RunsNeverBelowZero};
 ghost use Rattle.desk_laws.specs.Counts.{EveryItemIsCounted};
@@ -12,21 +12,23 @@ ghost use Rattle.desk_laws.specs.ReasonsTold.{ReasonsAreVerdicts};
 ghost use Rattle.desk_laws.specs.ToldOwn.{EachIsToldOwn};
 ghost use Rattle.desk_laws.specs.Statuses.{RefusalsHaveTheirStatus};
 
-/// In every run, each matter's replies and its rows afterwards are those of its own machine.
+/// In every run, each matter's replies, and its rows and acts afterwards, are those of its own machine.
 #[tactic(auto, using(trust_desk::proofs::Own::own_laws))]
 pub fn own_machine()
     ensures { EachMatterOwn }
 {}
 
-/// Two firms with the same rows of a matter, which hear the same for it, give it the same replies and leave it with the
-/// same rows, whatever else they have and hear.
+/// Two firms with the same rows and acts of a matter, which hear the same for it, give it the same replies and leave it
+/// with the same rows and acts, whatever else they have and hear. Where nobody asks for the acts, the rows alone decide
+/// the replies and the rows.
 #[tactic(auto, using(trust_desk::proofs::Own::own_laws))]
 pub fn two_firms()
-    ensures { SameForTheMatter }
+    ensures whole { SameForTheMatter }
+    ensures rows { SameByRowsAlone }
 {}
 
-/// Whatever a person asks of the desk, two firms that agree on the matters in which the person has a seat give the same
-/// reply.
+/// Whatever a person asks of the desk, two firms that agree on the matters in which the person has a seat, and on the
+/// acts of such a matter where these are asked for, give the same reply.
 pub fn each_is_told_own()
     ensures { EachIsToldOwn }
 {}

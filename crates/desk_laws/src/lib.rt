@@ -5,12 +5,13 @@
 //! Each law is the contract of a function that does nothing. They speak of the steps of `trust_desk`, and of the runs
 //! that it promises.
 //!
-//! - `laws` `own_machine`, `two_firms`: **in every run each matter's replies, and its rows afterwards, are those of its
-//!   own machine on its own rows; two firms with the same rows of a matter, in which on the same day the same is asked
-//!   of it and the same lines name it, give it the same replies and leave it the same rows, whatever else they have and
-//!   hear**.
+//! - `laws` `own_machine`, `two_firms`: **in every run each matter's replies, and its rows and acts afterwards, are
+//!   those of its own machine on its own rows and acts; two firms with the same rows and acts of a matter, in which on
+//!   the same day the same is asked of it and the same lines name it, give it the same replies and leave it the same
+//!   rows and acts, whatever else they have and hear** (`whole`). Where nobody asks for the acts of the matter, the
+//!   same rows give the same replies, and leave the same rows (`rows`).
 //! - `laws` `each_is_told_own`: **whatever a person asks, two firms that agree on the matters in which the person has a
-//!   seat give the same reply**.
+//!   seat, and on the acts of such a matter where these are asked for, give the same reply**.
 //! - `laws` `never_below_zero`: from a sound firm, **no matter's ledger is below zero before or after any request of a
 //!   run and any item of an import** (`runs`); the same of the firm's own steps, if the amounts asked are in that range
 //!   (`steps`).

@@ -1,6 +1,6 @@
 pub mod Alike
 pub mod Texts
 pub mod Replies
-pub mod OwnActs
-pub mod OwnDossiers
+pub mod KeptRuns
 pub mod SignedRuns
+pub mod ReplayedRuns

@@ -1,3 +1,4 @@
 pub mod TellNothing
 pub mod Dossiers
 pub mod SignedRuns
+pub mod ReplayedRuns

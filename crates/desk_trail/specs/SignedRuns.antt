@@ -6,10 +6,10 @@ use Rattle.firm_rows.specs.FirmSound.{FirmSound}
 use Rattle.trail_laws.specs.Dossier.{Dossier}
 use Rattle.trail_laws.specs.Signed.{Beginning, IsApprovedOnce, IsSigned, beginning_of, days_of_issue, nothing_before}
 use Rattle.trust_desk.specs.declared.requests.Reply.{Reply}
+use Rattle.trust_desk.specs.Acts.{dossier_of}
 use Rattle.trust_desk.specs.FirmStep.{RunsSoundly}
 use Rattle.trust_desk.specs.Heard.{Heard}
 use Rattle.desk_laws.specs.OnceOnly.{DayRun}
-use Rattle.desk_trail.specs.Dossiers.{dossier_of}
 
 -- a dossier is signed from where its acts begin: where they began at first, or with nothing, as behind a purge
 abbrev pub IsSignedSince : Beginning → Dossier → Type 0

@@ -1,25 +1,70 @@
--- The acts of a firm tell nothing: no answer depends on them, and no row.
-use Rattle.std.specs.Prelude.{◌≡◌, ℕ, List, []}
+-- The acts of a firm tell nothing but what they say: no answer depends on them that does not show them, and no row.
+use Rattle.std.specs.Prelude.{◌≡◌, ℕ, Bool, true, false, List, []}
+use Rattle.std.specs.List.{list_any}
 use Rattle.firm_rows.specs.Firm.{Firm, with_acts}
+use Rattle.book_reports.specs.declared.report.DayReport.{DayReport}
+use Rattle.book_reports.specs.declared.report.DayReport.TheVariants as day_reports
+use Rattle.book_reports.specs.declared.report.PeriodReport.{PeriodReport}
+use Rattle.book_reports.specs.declared.report.PeriodReport.TheVariants as period_reports
+use Rattle.book_reports.specs.declared.report.Report.{Report}
+use Rattle.book_reports.specs.declared.report.Report.TheVariants as reports
 use Rattle.trust_desk.specs.declared.requests.Reply.{Reply}
+use Rattle.trust_desk.specs.declared.requests.Request.{Request}
+use Rattle.trust_desk.specs.declared.requests.Request.TheVariants as requests
 use Rattle.trust_desk.specs.FirmStep.{Runs, firm_step}
-use Rattle.trust_desk.specs.Heard.{Heard}
+use Rattle.trust_desk.specs.Heard.{Heard, Asks, Unread}
 
 -- the firm without its acts
 abbrev pub unsigned : Firm → Firm
 unsigned firm = with_acts [] firm
 
--- two firms that differ in their acts alone answer alike whatever they hear, and differ in their acts alone afterwards
+-- What shows acts.
+
+abbrev pub is_of_acts : Report → Bool
+is_of_acts reports.Trail = true
+is_of_acts _ = false
+
+-- the packet of month's end has the approvals of the month
+abbrev pub has_approvals : DayReport → Bool
+has_approvals day_reports.Month = true
+has_approvals _ = false
+
+abbrev pub is_of_approvals : PeriodReport → Bool
+is_of_approvals period_reports.Approvals = true
+is_of_approvals _ = false
+
+-- the request is for the trail, of the firm or of a matter, for the acts of a matter, or for approvals, of a period or
+-- at a month's end
+abbrev pub asks_for_acts : Request → Bool
+asks_for_acts (requests.Report caller report) = is_of_acts report
+asks_for_acts (requests.AsOf caller report day) = has_approvals report
+asks_for_acts (requests.Within caller report period) = is_of_approvals report
+asks_for_acts (requests.Trail caller m) = true
+asks_for_acts (requests.Acts caller m) = true
+asks_for_acts (requests.Matter m caller ask) = false
+asks_for_acts (requests.Import caller statement) = false
+asks_for_acts (requests.Dismiss caller line) = false
+asks_for_acts (requests.Match caller statement text) = false
+asks_for_acts (requests.Reconcile caller day) = false
+asks_for_acts (requests.Listed caller list) = false
+asks_for_acts (requests.Reasons caller) = false
+
+abbrev pub shows_acts : Heard → Bool
+shows_acts (Asks request) = asks_for_acts request
+shows_acts (Unread named refusal) = false
+
+-- two firms that differ in their acts alone answer alike whatever they hear, unless it is answered with acts, and
+-- differ in their acts alone afterwards
 abbrev pub ActsTellNothing : Type 0
 ActsTellNothing =
     (day : ℕ) (f g : Firm) (h : Heard) → unsigned f ≡ unsigned g
-    → ((firm_step day f h).reply ≡ (firm_step day g h).reply)
+    → (shows_acts h ≡ false → (firm_step day f h).reply ≡ (firm_step day g h).reply)
     × (unsigned (firm_step day f h).firm ≡ unsigned (firm_step day g h).firm)
 
--- so every run of the one firm could be one of the other, with the same replies, and would leave two firms that differ
--- in their acts alone
+-- so every run of the one firm in which nothing is answered with acts could be one of the other, with the same replies,
+-- and would leave two firms that differ in their acts alone
 abbrev pub RunsTellNothing : Type 0
 RunsTellNothing =
     (day : ℕ) (f g after : Firm) (hs : List Heard) (replies : List Reply) → unsigned f ≡ unsigned g
-    → Runs day f hs replies after
+    → list_any shows_acts hs ≡ false → Runs day f hs replies after
     → (other : Firm) × Runs day g hs replies other × (unsigned after ≡ unsigned other)

@@ -1,22 +1,20 @@
 //! Laws of a firm's acts. Each is the contract of a function that does nothing.
 
-ghost use Rattle.desk_trail.specs.Dossiers.{EachDossierOwn, SameDossiers, OthersActsStay};
+ghost use Rattle.desk_trail.specs.Dossiers.{EachActsOwn, OthersActsStay};
+ghost use Rattle.desk_trail.specs.ReplayedRuns.{RunsStayReplayed, RunsStayComplete, MattersAreReplayed, LaterMattersAreReplayed};
 ghost use Rattle.desk_trail.specs.SignedRuns.{OlderFirmsAreSigned, RunsStaySigned, PaymentsAreApproved, LaterPaymentsAreApproved};
 ghost use Rattle.desk_trail.specs.TellNothing.{ActsTellNothing, RunsTellNothing};
 
-/// Acts tell nothing. Two firms that differ in their acts alone answer alike whatever they hear, and differ in their
-/// acts alone afterwards.
+/// Acts tell nothing but what they say. Two firms that differ in their acts alone answer alike whatever they hear, but
+/// for the trail, a matter's acts and the approvals, and differ in their acts alone afterwards.
 pub fn acts_tell_nothing()
     ensures steps { ActsTellNothing }
     ensures runs { RunsTellNothing }
 {}
 
-/// In every run each matter's acts, with its rows, are those of its own machine. Two firms with the same rows and acts
-/// of a matter, which hear the same for it, leave it with the same rows and acts, whatever else they have and hear.
-/// What does not concern a matter leaves its acts.
+/// In every run each matter's acts are those of its own machine. What does not concern a matter leaves its acts.
 pub fn acts_are_own()
-    ensures own { EachDossierOwn }
-    ensures two_firms { SameDossiers }
+    ensures own { EachActsOwn }
     ensures others { OthersActsStay }
 {}
 
@@ -28,4 +26,15 @@ pub fn payments_are_signed()
     ensures runs { RunsStaySigned }
     ensures approved { PaymentsAreApproved }
     ensures later { LaterPaymentsAreApproved }
+{}
+
+/// A matter's rows say of each of its acts what was asked, or what the bank showed, and all of it, asked or shown again
+/// in order from nothing, makes the same rows and the same acts. In a book that was empty, after all runs on whatever
+/// days, whatever stopped their steps, this is so of each matter that was opened and not purged, and the others have no
+/// acts. In a book that is older than its acts this is so of each matter whose acts begin with its opening.
+pub fn matters_are_replayed()
+    ensures runs { RunsStayReplayed }
+    ensures complete { RunsStayComplete }
+    ensures replayed { MattersAreReplayed }
+    ensures later { LaterMattersAreReplayed }
 {}

@@ -5,17 +5,24 @@
 //! Each law is the contract of a function that does nothing. They speak of the steps of `trust_desk`, and of the runs
 //! that it promises. A matter's dossier is its rows with its acts, as in `trail_laws`.
 //!
-//! - `laws` `acts_tell_nothing`: two firms that differ in their acts alone answer alike whatever they hear, and differ
-//!   in their acts alone afterwards (`steps`); so each run of the one could be one of the other (`runs`).
-//! - `laws` `acts_are_own`: **in every run each matter's dossier afterwards is that of its own machine** if nothing
-//!   that concerns it was stopped (`own`); two firms with the same dossier of a matter, which hear the same for it,
-//!   leave it the same (`two_firms`); a step that does not concern a matter leaves its acts (`others`).
+//! - `laws` `acts_tell_nothing`: two firms that differ in their acts alone answer alike whatever they hear that is not
+//!   answered with acts, and differ in their acts alone afterwards (`steps`); so each run of the one in which nothing
+//!   is answered with acts could be one of the other (`runs`). What is answered with acts is the trail, of the firm or
+//!   of a matter, a matter's acts, and the approvals, of a period or at a month's end.
+//! - `laws` `acts_are_own`: **in every run each matter's acts afterwards are those of its own machine** if nothing that
+//!   concerns it was stopped (`own`); a step that does not concern a matter leaves its acts (`others`). That two firms
+//!   with the same rows and acts of a matter are told, and leave, the same is `two_firms` of `desk_laws`.
 //! - `laws` `payments_are_signed`: **each payment that is or was issued has exactly one act of approval among its
 //!   matter's acts, on the day of its issue, by a person who had a lawyer's seat then**, after all runs of a book that
 //!   was empty (`approved`). In a book that is older than its acts this is so of each payment that was not issued
 //!   before (`later`). A matter without acts is signed from what its rows say (`begins`), and each run of a sound firm
 //!   keeps each matter's dossier signed, which also says that its seats are those that its acts left, and that the
 //!   policy allowed each act to its caller, with the seats of that moment (`runs`).
+//! - `laws` `matters_are_replayed`: **a matter's rows say of each of its acts what was asked, or what the bank showed,
+//!   and all of it, asked or shown again in order from nothing, makes the same rows and the same acts**, after all runs
+//!   of a book that was empty, of each matter that was opened and not purged; the others have no acts (`replayed`). In
+//!   a book that is older than its acts this is so of each matter whose acts begin with its opening (`later`). Each run
+//!   of a sound firm keeps both (`runs`, `complete`).
 #![tactic(auto)]
 
 pub mod laws;

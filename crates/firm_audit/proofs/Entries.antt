@@ -3,7 +3,7 @@ use Rattle.firm_audit.proofs.Names.{◌≡◌, ◌↔◌, ℕ, ◌<◌, ◌≤�
 use Rattle.matter_rows.specs.declared.entry.Entry.{Entry}
 
 -- an entry of some number is there exactly up to the count
-some-is : (es : List Entry) (n : ℕ) → 0 < n → (is_some (entry_at es n) ≡ true) ↔ (n ≤ length es)
+pub some-is : (es : List Entry) (n : ℕ) → 0 < n → (is_some (entry_at es n) ≡ true) ↔ (n ≤ length es)
 some-is es n some = (λ there. up-to (entry_at es n) refl there, λ le. ap is_some (some-within es n some le).1)
   where
     up-to : (o : Option Entry) → entry_at es n ≡ o → is_some o ≡ true → n ≤ length es

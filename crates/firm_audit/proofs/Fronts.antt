@@ -11,6 +11,16 @@ next {A} P Q xs i x lt is both =
 pub ended : {A : Type 0} (P : List A → Type 0) (Q : Type 0) (xs : List A) (i : ℕ) → length xs ≤ i → (P (drop i xs) ↔ Q) → (P [] ↔ Q)
 ended {A} P Q xs i long both = subst (λ (ys : List A). P ys ↔ Q) (drop_of_length-le xs long) both
 
+-- What holds of each.
+
+-- the next element, and the rest
+pub all-first : {A : Type 0} (P : A → Type 0) (xs : List A) (i : ℕ) (x : A) → i < length xs → x ≡ get_or xs i x → AllByRecursion P (drop i xs) → P x × AllByRecursion P (drop (i + 1) xs)
+all-first P xs i x lt is all = subst (AllByRecursion P) (drop_more xs i x lt ∙ ap (λ y. y ∷ drop (i + 1) xs) (sym is)) all
+
+pub all-next : {A : Type 0} (P : A → Type 0) (xs : List A) (i : ℕ) (x : A) → i < length xs → x ≡ get_or xs i x → P x → AllByRecursion P (drop (i + 1) xs) → AllByRecursion P (drop i xs)
+all-next P xs i x lt is one rest =
+    subst (AllByRecursion P) (sym (drop_more xs i x lt ∙ ap (λ y. y ∷ drop (i + 1) xs) (sym is))) (one, rest)
+
 -- An element by its place.
 
 pub rest-at : {A : Type 0} (xs : List A) (i : ℕ) (x : A) → slice_get xs i ≡ Some x → drop i xs ≡ x ∷ drop (suc i) xs

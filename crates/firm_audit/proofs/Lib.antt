@@ -1,5 +1,9 @@
+pub mod Approvals
 pub mod Ascending
+pub mod Counted
 pub mod Entries
+pub mod FirmTrails
+pub mod FoundTrails
 pub mod Fronts
 pub mod Journals
 pub mod KeptRows

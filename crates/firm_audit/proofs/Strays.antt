@@ -20,7 +20,7 @@ not-owned ks owner.Firm apart = apart tt
 -- One matter's entries.
 
 -- a loaded entry has its number
-numbered-at : (base : ℕ) (ks : List Kept) (i : ℕ) (k : Kept) → AreNumbered base ks → slice_get ks i ≡ Some k → (k.number ≡ base + i) × (entry_at (entries_kept ks) (i + 1) ≡ Some k.entry)
+pub numbered-at : (base : ℕ) (ks : List Kept) (i : ℕ) (k : Kept) → AreNumbered base ks → slice_get ks i ≡ Some k → (k.number ≡ base + i) × (entry_at (entries_kept ks) (i + 1) ≡ Some k.entry)
 numbered-at base [] i k numbered at = absurd (cc)
 numbered-at base (j ∷ ks) zero k numbered at = let same : j ≡ k = cc in grind (arith, nat_tests)
 numbered-at base (j ∷ ks) (suc i) k numbered at =
@@ -49,7 +49,7 @@ ascends-at (j ∷ ks) zero a b up at behind =
     let same : j ≡ a = cc in subst (λ (x : KeptMatter). x.number < b.number) same (below-at j.number ks 0 b up.0 behind)
 ascends-at (j ∷ ks) (suc i) a b up at behind = ascends-at ks i a b up.1 at behind
 
-rows-there : (ks : List KeptMatter) (i : ℕ) (k : KeptMatter) → Ascends ks → slice_get ks i ≡ Some k → rows_in k.number ks ≡ rows_kept k.matter
+pub rows-there : (ks : List KeptMatter) (i : ℕ) (k : KeptMatter) → Ascends ks → slice_get ks i ≡ Some k → rows_in k.number ks ≡ rows_kept k.matter
 rows-there [] i k up at = absurd (cc)
 rows-there (j ∷ ks) zero k up at = let same : j ≡ k = cc in grind (arith, nat_tests, nat_lt, cases_Bool)
 rows-there (j ∷ ks) (suc i) k up at =

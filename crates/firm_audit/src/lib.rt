@@ -6,7 +6,11 @@
 //!
 //! - `audit`: of all rows of a firm, from whatever book they were read: **it finds no flaw exactly if they are those of
 //!   a sound firm**, each matter complete (`sound`). A flaw that it finds is there (`flaw`, by `IsFlawIn`).
-//! - `laws` `flawed_is_unsound`: a firm that has a flaw is not sound.
+//! - `audit_trail`: of the same rows, each matter complete: **it finds no flaw of the trail only if each matter's acts
+//!   fit its rows** (`HasItsTrail`), and then it counts the payments that have an approval, and those that are older
+//!   than the trail; a flaw that it finds is there (`IsTrailFound`).
+//! - `laws` `flawed_is_unsound`: a firm that has a flaw is not sound. `flawed_is_no_trail`: nor does a trail that has
+//!   one fit the rows.
 //! - `Err` is out of memory. No clause says that there was too little.
 #![tactic(auto)]
 
@@ -19,6 +23,8 @@ mod matter_journal;
 mod matters;
 mod order;
 mod own_money;
+mod trail;
 
 pub use firm::audit;
 pub use flaw::Flaw;
+pub use trail::{TrailCounts, TrailFlaw, TrailFound, audit_trail};

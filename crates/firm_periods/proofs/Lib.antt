@@ -1,5 +1,6 @@
 pub mod AccountRules
 pub mod Accounts
+pub mod Approvals
 pub mod AccountsCovered
 pub mod ClientsNamed
 pub mod NamedLists

@@ -2,6 +2,7 @@
 
 ghost use Rattle.firm_periods.specs.Named.{AlwaysListedOnce, EachStandsInOne, MovesAreEvents, NamedAreKept, NamesAreOfTheirMatter, PeriodsAgree, WaitsAlwaysAgree};
 ghost use Rattle.firm_periods.specs.Named.{PurgeChangesNoPeriodLeft, PurgeChangesNoWaitingLeft};
+ghost use Rattle.firm_periods.specs.Approvals.{ApprovalsAreKept};
 ghost use Rattle.firm_periods.specs.Accounts.{AccountsAreCovered, ClosingIsLedger, ClosingIsNextOpening, ClosingsAreLines, ClosingsAreTotal, OpeningIsBefore, WholeAccountIsOfRows};
 
 use matter_rows::laws::sound_is_covered;
@@ -17,6 +18,11 @@ pub fn periods_agree()
 /// What the sink stores of a firm is the list that it was made for.
 pub fn named_are_kept()
     ensures { NamedAreKept }
+{}
+
+/// What the sink of approvals stores of a firm are the payments issued in its period, each with who approved it.
+pub fn approvals_are_kept()
+    ensures { ApprovalsAreKept }
 {}
 
 /// In a sound firm each movement of the journal is named once, and nothing else is.

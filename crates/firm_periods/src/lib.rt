@@ -7,6 +7,9 @@
 //!
 //! - `NamedSink`; `laws` `named_are_kept`: of a firm's rows and lines, given one by one, `finish` gives what the `Pick`
 //!   names, by day, and its sum; whether a purge may have cut the list. A refused row leaves the sink as it was.
+//! - `ApprovalsSink`; `laws` `approvals_are_kept`: of a firm's acts and rows, given one by one, `finish` gives the
+//!   payments that were issued in the period, by the day of issue, each with the caller whose act approved it, or none
+//!   if no act says who did; whether a purge may have cut the list. A refused act or row leaves the sink as it was.
 //! - `laws` `periods_agree`: in every sound firm the receipts and the disbursements of a period add up to the change of
 //!   the journal over it (`change`); the movements of an entry are its events (`moves`); of every firm, what waits adds
 //!   up to the reconciliation's IN TRANSIT and to minus its OUTSTANDING (`waits`).
@@ -25,10 +28,12 @@
 #![tactic(auto)]
 
 mod account;
+mod approvals_sink;
 pub mod laws;
 mod moved;
 mod named_sink;
 
 pub use account::{Account, AccountLine, account_of};
+pub use approvals_sink::{ApprovalsSink, IssuedPayment};
 pub use moved::{Cause, MoveNames, Moved, NamedMove};
 pub use named_sink::{NamedList, NamedSink, Pick};

@@ -3,6 +3,7 @@
 ghost use Rattle.std.specs.Prelude.{◌≡◌, ◌++◌, [], ◌∷◌, IfOk, IfSome};
 ghost use Rattle.std.specs.List.{filter, flat_map};
 ghost use Rattle.std.specs.Ordering.{nat_cmp};
+ghost use Rattle.trail_laws.specs.Signed.{issue_days};
 ghost use Rattle.firm_periods.specs.Named.{is_disbursed, is_received_within, is_disbursed_within, booking_of, is_within, moves_of, named, option_list};
 ghost use Rattle.firm_periods.specs.Accounts.{IsSmallMove};
 ghost use Rattle.firm_periods.specs.declared.moved.Moved.{Moved};
@@ -93,6 +94,18 @@ fn some_move(day: Day, amount: i64, cause: Cause) -> Option<Moved>
     ensures { option_list result ≡ record { day = day; amount = amount; cause = cause } ∷ [] }
 {
     Some(Moved { day, amount, cause })
+}
+
+/// The day on which a payment was issued. None while it is proposed, and if it was declined.
+pub(crate) fn issue_day(state: &PaymentState) -> Option<Day>
+    ensures { option_list result ≡ issue_days state.now }
+{
+    match state {
+        PaymentState::Proposed | PaymentState::Declined => None,
+        PaymentState::Issued(day) => Some(*day),
+        PaymentState::Cleared(paid) => Some(paid.issued),
+        PaymentState::Voided(voided) => Some(voided.issued),
+    }
 }
 
 /// The movements of an entry: at most two.

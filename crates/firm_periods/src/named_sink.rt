@@ -49,7 +49,7 @@ impl Pick {
     }
 
     // Whether a purged matter that was closed on this day may have had movements that a list takes.
-    fn is_cut_by(self, closed: Option<Day>) -> bool
+    pub(crate) fn is_cut_by(self, closed: Option<Day>) -> bool
         ensures { result ≡ is_day_cut self closed }
     {
         let Some(closed) = closed else {

@@ -1,14 +1,18 @@
 -- The bodies read back as their objects.
-use Rattle.matter_bodies.proofs.Names.{◌≡◌, ℕ, ℤ, List, [], ◌∷◌, Some, map, length, refl, rules, true, arith, Data, string, compact_text, Seat, array_of, object_of, seat_object, role_name, ints, nat_tests}
+use Rattle.matter_bodies.proofs.Names.{◌≡◌, ℕ, ℤ, Bool, List, [], ◌∷◌, Some, map, length, refl, rules, true, arith, Data, string, compact_text, Seat, array_of, object_of, seat_object, role_name, ints, nat_tests}
 use Rattle.serde_json.specs.Read.{read}
-use Rattle.std.specs.Prelude.{codes, ◌+◌}
+use Rattle.std.specs.Prelude.{codes, not, ◌+◌}
+use Rattle.serde_json.specs.Data.{boolean}
 use Rattle.matter_rows.specs.declared.head.Holder.{Holder}
 use Rattle.matter_rows.specs.declared.claim.Against.{Against}
 use Rattle.matter_bodies.specs.Bodies.{entry_object, holder_value, purged_on, purge_members, matter_members, sums_of, receipt_members, import_members, claim_left_value}
 use Rattle.matter_rows.specs.declared.entry.Entry.{Entry}
 use Rattle.matter_rows.specs.Balances.{left_of}
+use Rattle.matter_rows.specs.declared.act.Act.{Act}
+use Rattle.trail_laws.specs.Signed.{begins_with_opening}
+use Rattle.matter_bodies.specs.Acts.{act_object}
 use Rattle.matter_bodies.specs.Listed.{entries_from}
-use Rattle.matter_bodies.specs.BodyLaws.{PurgeReadsBack, MatterReadsBack, ReceiptReadsBack, EntryReadsBack, EntriesReadBack, ImportReadsBack}
+use Rattle.matter_bodies.specs.BodyLaws.{PurgeReadsBack, MatterReadsBack, ReceiptReadsBack, EntryReadsBack, EntriesReadBack, ActsReadBack, ImportReadsBack}
 use Rattle.matter_bodies.proofs.ReadBack.{Reads, AllRead, ascend, AllValuesRead, read-compact_text, null-reads, string-reads, count-reads, or_null-reads, object-reads, array-reads}
 
 seat-reads : (s : Seat) → Reads 1 (seat_object s)
@@ -43,6 +47,23 @@ all-entries-read m rows =
     let entries : Reads 2 (array_of (entries_from m rows.entries 1 rows.entries)) = array-reads 1 (entries_from m rows.entries 1 rows.entries) (entries-read m rows.entries 1 rows.entries) in
     body-reads ((codes "entries", array_of (entries_from m rows.entries 1 rows.entries)) ∷ []) (entries, tt) refl
 
+boolean-reads : (n : ℕ) (b : Bool) → Reads n (boolean b)
+boolean-reads n b = record { same = refl; numbers = tt; depth = omega arith }
+
+act-reads : (act : Act) → Reads 1 (act_object act)
+act-reads act = grind (arith, ints, nat_tests, codes, object-reads, string-reads, or_null-reads)
+
+each-act-reads : (acts : List Act) → AllValuesRead 1 (map act_object acts)
+each-act-reads [] = tt
+each-act-reads (act ∷ acts) = (act-reads act, each-act-reads acts)
+
+pub all-acts-read : ActsReadBack
+all-acts-read acts =
+    let told : Reads 2 (array_of (map act_object acts)) = array-reads 1 (map act_object acts) (each-act-reads acts) in
+    let earlier = not (begins_with_opening acts) in
+    body-reads ((codes "acts", array_of (map act_object acts)) ∷ (codes "earlier", boolean earlier) ∷ [])
+    (told, (boolean-reads 2 earlier, tt)) refl
+
 pub import-reads : ImportReadsBack
 import-reads applied exceptions repeated statement unreadable a e r u =
     body-reads (import_members applied exceptions repeated statement unreadable)
@@ -63,4 +84,4 @@ matter-reads m rows few =
     (search (rules, string-reads, holder-reads, count-reads, or_null-reads)) refl
 
 -- what the law of the bodies says
-pub ruleset bodies_read = (matter-reads, purge-reads, receipt-reads, entry-reads, all-entries-read, import-reads)
+pub ruleset bodies_read = (matter-reads, purge-reads, receipt-reads, entry-reads, all-entries-read, all-acts-read, import-reads)

@@ -1,6 +1,8 @@
 -- An object's tokens and its text.
 use Rattle.matter_bodies.proofs.Names.{◌≡◌, ◌∷◌, ◌++◌, ◌∙◌, [], List, ℕ, ap, append_assoc, map, refl, sym, items_outline, members_outline, Data, Kept, Seat, items_of, kept_object, members_of, object_of, seat_object, value_tokens}
 use Rattle.matter_bodies.specs.Json.{members_between}
+use Rattle.matter_rows.specs.declared.act.Act.{Act}
+use Rattle.matter_bodies.specs.Acts.{act_object}
 use Rattle.json.specs.Token.{Token}
 use Rattle.json.specs.Tree.{items_tokens, members_tokens}
 
@@ -11,6 +13,10 @@ seats_rest ss = items_tokens (items_outline (items_of (map seat_object ss)))
 -- the tokens of these entries of a matter and of the end of their array
 abbrev pub entries_rest : ℕ → List Kept → List Token
 entries_rest m ks = items_tokens (items_outline (items_of (map (kept_object m) ks)))
+
+-- the tokens of these acts and of the end of their array
+abbrev pub acts_rest : List Act → List Token
+acts_rest acts = items_tokens (items_outline (items_of (map act_object acts)))
 
 members-all : (ms : List (List ℕ × Data)) → members_tokens (members_outline (members_of ms)) ≡ members_between ms ++ Token.end_object ∷ []
 members-all [] = refl

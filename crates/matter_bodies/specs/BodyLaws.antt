@@ -1,10 +1,12 @@
 -- The laws of the bodies: serde_json reads a body back as the object that it was written from.
-use Rattle.std.specs.Prelude.{◌≡◌, ◌<◌, ◌^◌, ℕ, ℤ, length, Option, Some}
+use Rattle.std.specs.Prelude.{◌≡◌, ◌<◌, ◌^◌, ℕ, ℤ, List, length, Option, Some}
 use Rattle.serde_json.specs.Read.{read}
+use Rattle.matter_rows.specs.declared.act.Act.{Act}
 use Rattle.matter_rows.specs.declared.entry.Entry.{Entry}
 use Rattle.matter_rows.specs.Rows.{Rows}
 use Rattle.matter_bodies.specs.Bodies.{matter_body, matter_object, purge_body, purge_object, receipt_body, receipt_object, entry_body, entry_object, import_body, import_object}
 use Rattle.matter_bodies.specs.Listed.{entries_body, entries_object}
+use Rattle.matter_bodies.specs.Acts.{acts_body, acts_object}
 
 abbrev pub MatterReadsBack : Type 0
 MatterReadsBack =
@@ -22,6 +24,9 @@ EntryReadsBack = (m n : ℕ) (e : Entry) (left : ℤ) → read (entry_body m n e
 
 abbrev pub EntriesReadBack : Type 0
 EntriesReadBack = (m : ℕ) (rows : Rows) → read (entries_body m rows) ≡ Some (entries_object m rows)
+
+abbrev pub ActsReadBack : Type 0
+ActsReadBack = (acts : List Act) → read (acts_body acts) ≡ Some (acts_object acts)
 
 abbrev pub ImportReadsBack : Type 0
 ImportReadsBack =

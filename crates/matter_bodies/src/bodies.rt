@@ -84,7 +84,7 @@ pub(crate) fn day_or_null(day: Option<Day>) -> Value<'static>
     }
 }
 
-fn entry_or_null(entry: Option<EntryNo>) -> Value<'static>
+pub(crate) fn entry_or_null(entry: Option<EntryNo>) -> Value<'static>
     ensures { data_of result ≡ or_null entry_value entry }
 {
     match entry {
@@ -93,7 +93,7 @@ fn entry_or_null(entry: Option<EntryNo>) -> Value<'static>
     }
 }
 
-fn cents_or_null(cents: Option<CentsOrZero>) -> Value<'static>
+pub(crate) fn cents_or_null(cents: Option<CentsOrZero>) -> Value<'static>
     ensures { data_of result ≡ or_null amount_value cents }
 {
     match cents {

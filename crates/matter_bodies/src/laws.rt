@@ -1,6 +1,6 @@
 //! The law of the bodies, the contract of a function that does nothing.
 
-ghost use Rattle.matter_bodies.specs.BodyLaws.{EntriesReadBack, EntryReadsBack, ImportReadsBack, MatterReadsBack, PurgeReadsBack, ReceiptReadsBack};
+ghost use Rattle.matter_bodies.specs.BodyLaws.{ActsReadBack, EntriesReadBack, EntryReadsBack, ImportReadsBack, MatterReadsBack, PurgeReadsBack, ReceiptReadsBack};
 
 /// serde_json reads a body back as the object that it was written from. So no member is lost, and no key is repeated or
 /// out of order.
@@ -11,5 +11,6 @@ pub fn bodies_read_back()
     ensures receipt { ReceiptReadsBack }
     ensures entry { EntryReadsBack }
     ensures entries { EntriesReadBack }
+    ensures acts { ActsReadBack }
     ensures import { ImportReadsBack }
 {}

@@ -15,7 +15,7 @@ pub use Rattle.trust_desk.proofs.AlwaysCovered.{runs-covered}
 pub use Rattle.trust_desk.proofs.Calls.{kept-as, kept-still, kept-then}
 pub use Rattle.trust_desk.proofs.Crashes.{leave-as, leave-still, leave-then}
 pub use Rattle.trust_desk.proofs.MadeRows.{fault-front, made-before, made-last, none-at_all, none-before, none-last, plain-step}
-pub use Rattle.trust_desk.proofs.Own.{each-own, same-for_the_matter}
+pub use Rattle.trust_desk.proofs.Own.{each-own, same-by_rows_alone, same-for_the_matter}
 pub use Rattle.trust_desk.proofs.Runs.{RunsSoundly-push, counted-push, sound-runs-are-runs}
 pub use Rattle.trust_desk.specs.Answered.{IsReplied}
 pub use Rattle.trust_desk.specs.Calls.{Counts, IsAny, KeepsBook}

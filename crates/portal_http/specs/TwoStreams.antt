@@ -1,12 +1,15 @@
 -- The answers for a matter do not depend on other matters.
-use Rattle.std.specs.Prelude.{ℕ, ◌≡◌, List, map}
-use Rattle.matter_rows.specs.Rows.{Rows}
+use Rattle.std.specs.Prelude.{ℕ, ◌≡◌, false, List, map}
+use Rattle.std.specs.List.{list_any}
+use Rattle.trail_laws.specs.Dossier.{Dossier}
 use Rattle.firm_rows.specs.Firm.{Firm, of}
 use Rattle.firm_rows.specs.FirmSound.{FirmSound}
 use Rattle.trust_desk.specs.declared.requests.Reply.{Reply}
+use Rattle.trust_desk.specs.Acts.{dossier_of}
 use Rattle.trust_desk.specs.Heard.{Own, project, told}
 use Rattle.trust_desk.specs.FirmStep.{IsUnstopped, RunsSoundly}
 use Rattle.trust_desk.specs.NeverBelowZero.{CoveredRun}
+use Rattle.trust_desk.specs.Isolation.{asks_for_acts}
 use Rattle.trust_desk.specs.Solo.{solo_replies, solo_rows}
 use Rattle.portal_messages.specs.declared.message.Message.{Message}
 use Rattle.portal_messages.specs.Messages.{AreMessages, MessagesEnd}
@@ -22,8 +25,8 @@ abbrev pub comes_to : ℕ → ℕ → List Message → List Own
 comes_to m day messages = project m day (map heard_of messages)
 
 -- the bytes of each answer of the matter's own machine
-abbrev pub own_answers : ℕ → Rows → List Own → List (List ℕ)
-own_answers m rows owns = map reply_bytes (solo_replies m rows owns)
+abbrev pub own_answers : ℕ → Dossier → List Own → List (List ℕ)
+own_answers m p owns = map reply_bytes (solo_replies m p owns)
 
 -- a stream was served over a sound firm, with these messages and replies, and no message that concerns the matter was
 -- stopped by the store or by lack of memory
@@ -40,7 +43,7 @@ pub record IsAnsweredAlike (m d e : ℕ) (f g : Firm) (ps qs : List Message) (rs
   -- each message that names the matter gets an answer with the same bytes
   pub answers : answers_to m ps rs ≡ answers_to m qs ss
   -- those bytes are the answers of the matter's own machine
-  pub own : answers_to m ps rs ≡ own_answers m (of m f) (comes_to m d ps)
+  pub own : answers_to m ps rs ≡ own_answers m (dossier_of m f) (comes_to m d ps)
   -- the matter has the same rows at the end
   pub rows : of m f' ≡ of m g'
   pub own_rows : of m f' ≡ solo_rows (of m f) (comes_to m d ps)
@@ -48,11 +51,19 @@ pub record IsAnsweredAlike (m d e : ℕ) (f g : Firm) (ps qs : List Message) (rs
   pub covered : CoveredRun d f (map heard_of ps) rs f'
   pub also_covered : CoveredRun e g (map heard_of qs) ss g'
 
--- this holds of two streams that were served to their ends, over two firms with the same rows of a matter, if the
--- same comes to that matter in both
+-- this holds of two streams that were served to their ends, over two firms with the same rows and acts of a matter, if
+-- the same comes to that matter in both; and its acts are the same at the end
 abbrev pub SameBytesForTheMatter : Type 0
 SameBytesForTheMatter =
     (m d e : ℕ) (f g f' g' : Firm) (xs ys : List ℕ) (ps qs : List Message) (x y : MessagesEnd) (rs ss : List Reply)
-    → of m f ≡ of m g → comes_to m d ps ≡ comes_to m e qs
+    → dossier_of m f ≡ dossier_of m g → comes_to m d ps ≡ comes_to m e qs
+    → WasServed m d f xs ps x rs f' → WasServed m e g ys qs y ss g'
+    → IsAnsweredAlike m d e f g ps qs rs ss f' g' × (dossier_of m f' ≡ dossier_of m g')
+
+-- and of two firms with the same rows of the matter, whatever its acts are, if nobody asks for them
+abbrev pub SameBytesByRowsAlone : Type 0
+SameBytesByRowsAlone =
+    (m d e : ℕ) (f g f' g' : Firm) (xs ys : List ℕ) (ps qs : List Message) (x y : MessagesEnd) (rs ss : List Reply)
+    → of m f ≡ of m g → comes_to m d ps ≡ comes_to m e qs → list_any asks_for_acts (comes_to m d ps) ≡ false
     → WasServed m d f xs ps x rs f' → WasServed m e g ys qs y ss g'
     → IsAnsweredAlike m d e f g ps qs rs ss f' g'

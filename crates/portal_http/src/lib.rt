@@ -17,19 +17,20 @@
 //!   `behind`). At WriteFault all answers except the last were written, and a prefix of that; a refusal after the
 //!   replies is that of the bytes there, or out of memory (`read`). At NoMemory the replies were written, and then that
 //!   refusal. The replies and the rows are those of the firm's steps, one after another, and **the firm is sound after
-//!   each message** (`run`); **each matter's replies, and its rows afterwards, are those of its own machine** (`own`);
-//!   **no ledger is below zero** before, in and after each message and each item of an import (`covered`); a reply is
-//!   Store only if a call of the book answered Store (`kept`). After a stop: if the store served as the stream began
-//!   and at most the last reply is Store or Memory, a crash may leave what it might have left before, or the rows after
-//!   some prefix of the messages with a part of the next; if no reply is either, a settled book is settled (`crash`).
-//!   The replies before the first that is Store or Memory are those of a run of the first messages, even if a fault has
-//!   shut the store since (`shut`); if there is no such reply, a store that served still serves, so that all of this is
-//!   said of it (`serves`).
-//! - `laws` `two_streams`: **in two sound firms that hold the same rows of a matter, whatever else their streams carry,
-//!   if what comes to the matter is the same, each message that names it is answered by the same bytes (`answers`),
-//!   those of the matter's own machine (`own`), its rows end the same (`rows`, `own_rows`), and no ledger of either
-//!   firm is below zero before, in or after any message or item (`covered`, `also_covered`)**; if the store or lack of
-//!   memory stopped a message that concerns the matter, nothing is said.
+//!   each message** (`run`); **each matter's replies, and its rows and acts afterwards, are those of its own machine**
+//!   (`own`); **no ledger is below zero** before, in and after each message and each item of an import (`covered`); a
+//!   reply is Store only if a call of the book answered Store (`kept`). After a stop: if the store served as the stream
+//!   began and at most the last reply is Store or Memory, a crash may leave what it might have left before, or the rows
+//!   after some prefix of the messages with a part of the next; if no reply is either, a settled book is settled
+//!   (`crash`). The replies before the first that is Store or Memory are those of a run of the first messages, even if
+//!   a fault has shut the store since (`shut`); if there is no such reply, a store that served still serves, so that
+//!   all of this is said of it (`serves`).
+//! - `laws` `two_streams`: **in two sound firms that hold the same rows and acts of a matter, whatever else their
+//!   streams carry, if what comes to the matter is the same, each message that names it is answered by the same bytes
+//!   (`answers`), those of the matter's own machine (`own`), its rows end the same (`rows`, `own_rows`), and so do its
+//!   acts, and no ledger of either firm is below zero before, in or after any message or item (`covered`,
+//!   `also_covered`)** (`whole`); where nobody asks for the acts, the same rows suffice (`rows`); if the store or lack
+//!   of memory stopped a message that concerns the matter, nothing is said.
 //! - `laws` `canonical_phrases`: the phrase of each status that replies have is that of the crate `http`.
 //!
 //! The command `stream` serves standard input by `serve_stream`, and `serve` each connection of a socket. What is

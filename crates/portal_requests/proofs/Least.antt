@@ -2,6 +2,8 @@
 use Rattle.portal_requests.proofs.Names.{◌≡◌, ◌∙◌, ◌<◌, ℕ, true, false, List, Option, Some, None, Result, Ok, Err, refl, sym, ap, subst, arith, bytes_eq, day_of, Line, Field, Refusal, BadField, BadMethod, NoCaller, NoRoute, Ask, Caller, Request, Message, path_of, Place, entry_ask, matter_ask, body_in, caller_of, dismissing, line_in, line_keys, named_in, part, period_in, method_of, Span, DayReport, PeriodReport, as_of, asked_at, reported_as_of, reported_within, called, of_matter, request, routed, place_of, ints, nat_tests}
 use Rattle.std.proofs.Common.{◌⊎◌, IfSome}
 use Rattle.trust_base.specs.Refusals.{number_of}
+use Rattle.trust_base.specs.Texts.{matter_of}
+use Rattle.portal_requests.specs.Requests.{trail_of, acts_of}
 use Rattle.portal_requests.specs.declared.routes.Place.TheVariants as place
 use Rattle.portal_requests.specs.LeastRefusal.{LeastRefusal, RefusesAt}
 
@@ -28,8 +30,14 @@ report-field caller report o r e = grind (arith, ints, nat_tests, err-same)
 period-field : (caller : Caller) (report : PeriodReport) (o : Option Span) (r : Refusal) → reported_within caller report o ≡ Err r → IsOfField r
 period-field caller report o r e = grind (arith, ints, nat_tests, err-same)
 
+trail-field : (caller : Caller) (o : Option ℕ) (r : Refusal) → trail_of caller o ≡ Err r → IsOfField r
+trail-field caller o r e = grind (arith, ints, nat_tests, err-same)
+
 line-field : (caller : Caller) (o : Option Line) (r : Refusal) → dismissing caller o ≡ Err r → IsOfField r
 line-field caller o r e = grind (arith, ints, nat_tests, err-same)
+
+acts-field : (caller : Caller) (o : Option ℕ) (r : Refusal) → acts_of caller o ≡ Err r → IsOfField r
+acts-field caller o r e = grind (arith, ints, nat_tests, err-same)
 
 of-field : (p : Place) (caller : Caller) (path body : List ℕ) (r : Refusal) → asked_at p caller path body ≡ Err r → IsOfField r
 of-field (place.Matter p) caller path body r e = matter-field caller (named_in path) (matter_ask p path body) r e
@@ -39,6 +47,8 @@ of-field (place.Report p) caller path body r e = absurd (cc)
 of-field place.Reconciliation caller path body r e = day-field caller (day_of (part 3 path)) r e
 of-field (place.AsOf report) caller path body r e = report-field caller report (day_of (part 3 path)) r e
 of-field (place.Within report) caller path body r e = period-field caller report (period_in (part 3 path) (part 4 path)) r e
+of-field place.Trail caller path body r e = trail-field caller (matter_of (part 3 path)) r e
+of-field place.Acts caller path body r e = acts-field caller (named_in path) r e
 of-field place.Import caller path body r e = absurd (cc)
 of-field (place.Match p) caller path body r e = absurd (cc)
 of-field place.Reasons caller path body r e = absurd (cc)

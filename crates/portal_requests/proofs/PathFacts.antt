@@ -3,6 +3,7 @@ use Rattle.portal_requests.proofs.Names.{◌≡◌, ◌∙◌, ◌++◌, ℕ, Bo
 use Rattle.std.specs.Borrow.{Bor}
 use Rattle.trust_base.proofs.ReadFacts.{digit_facts, number-none}
 use Rattle.portal_requests.specs.declared.routes.Place.TheVariants as place
+use Rattle.portal_requests.specs.Requests.{acts_of, trail_of}
 use Rattle.portal_requests.specs.NamedByPath.{NamedByPath}
 use Rattle.trust_desk.specs.declared.requests.CallerList.TheVariants as caller_list
 use Rattle.trust_desk.specs.declared.requests.MatchText.TheVariants as text
@@ -56,6 +57,7 @@ module _ (IsAt : Place → Type 0) (Is : List ℕ → Type 0) where
 abbrev is_of_firm : Place → Bool
 is_of_firm (place.Matter p) = false
 is_of_firm (place.Entry p) = false
+is_of_firm place.Acts = false
 is_of_firm (place.Listed p) = false
 is_of_firm _ = true
 
@@ -140,6 +142,12 @@ report-named n caller report day = grind (arith, ints, nat_tests)
 period-named : (n : ℕ) (caller : Caller) (report : PeriodReport) (period : Option Span) → names n (heard_as None (reported_within caller report period)) ≡ false
 period-named n caller report period = grind (arith, ints, nat_tests)
 
+acts-named : (n : ℕ) (caller : Caller) (named : Option ℕ) → names n (heard_as named (acts_of caller named)) ≡ is_the n named
+acts-named n caller named = grind (arith, ints, nat_tests)
+
+trail-named : (n : ℕ) (caller : Caller) (m : Option ℕ) → names n (heard_as None (trail_of caller m)) ≡ false
+trail-named n caller m = grind (arith, ints, nat_tests)
+
 dismissal-named : (n : ℕ) (caller : Caller) (o : Option Line) → names n (heard_as None (dismissing caller o)) ≡ false
 dismissal-named n caller o = grind (arith, ints, nat_tests)
 
@@ -153,6 +161,8 @@ at-named n (place.AsOf report) caller path body e = subst (λ (o : Option ℕ). 
 at-named n (place.Within report) caller path body e =
     let period = period_in (part 3 path) (part 4 path) in
     subst (λ (o : Option ℕ). names n (heard_as o (reported_within caller report period)) ≡ is_the n o) (sym (firm-unnamed path (place.Within report) refl e)) (period-named n caller report period)
+at-named n place.Trail caller path body e = subst (λ (o : Option ℕ). names n (heard_as o (trail_of caller (matter_of (part 3 path)))) ≡ is_the n o) (sym (firm-unnamed path place.Trail refl e)) (trail-named n caller (matter_of (part 3 path)))
+at-named n place.Acts caller path body e = acts-named n caller (named_in path)
 at-named n place.Import caller path body e = sym (ap (is_the n) (firm-unnamed path place.Import refl e))
 at-named n (place.Match text.Statement) caller path body e = sym (ap (is_the n) (firm-unnamed path (place.Match text.Statement) refl e))
 at-named n (place.Match text.Unmatched) caller path body e = sym (ap (is_the n) (firm-unnamed path (place.Match text.Unmatched) refl e))

@@ -2,7 +2,7 @@
 use Rattle.std.specs.Prelude.{ℕ, List, Option, Some, None, Result, Ok, Err, if◌then◌else◌}
 use Rattle.std.specs.Str.{bytes_eq}
 use Rattle.trust_base.specs.Periods.{Span}
-use Rattle.trust_base.specs.Texts.{day_of}
+use Rattle.trust_base.specs.Texts.{day_of, matter_of}
 use Rattle.trust_base.specs.declared.refusal.Refusal.{Refusal}
 use Rattle.trust_base.specs.declared.refusal.Refusal.TheVariants.{BadField, BadMethod, NoCaller, NoRoute}
 use Rattle.trust_base.specs.declared.refusal.Field.{Field}
@@ -46,6 +46,16 @@ abbrev pub reported_within : Caller → PeriodReport → Option Span → Result 
 reported_within caller report None = Err (BadField field.Day)
 reported_within caller report (Some period) = Ok (requests.Within caller report period)
 
+-- the trail of the matter in a path
+abbrev pub trail_of : Caller → Option ℕ → Result Request Refusal
+trail_of caller None = Err (BadField field.Matter)
+trail_of caller (Some m) = Ok (requests.Trail caller m)
+
+-- the acts of the matter in a path
+abbrev pub acts_of : Caller → Option ℕ → Result Request Refusal
+acts_of caller None = Err (BadField field.Matter)
+acts_of caller (Some m) = Ok (requests.Acts caller m)
+
 abbrev pub asked_at : Place → Caller → List ℕ → List ℕ → Result Request Refusal
 asked_at (place.Matter p) caller path body = of_matter caller (named_in path) (matter_ask p path body)
 asked_at (place.Entry p) caller path body = of_matter caller (named_in path) (entry_ask p (part 4 path) body)
@@ -55,6 +65,8 @@ asked_at place.Reconciliation caller path body = as_of caller (day_of (part 3 pa
 asked_at (place.AsOf report) caller path body = reported_as_of caller report (day_of (part 3 path))
 asked_at (place.Within report) caller path body =
     reported_within caller report (period_in (part 3 path) (part 4 path))
+asked_at place.Trail caller path body = trail_of caller (matter_of (part 3 path))
+asked_at place.Acts caller path body = acts_of caller (named_in path)
 asked_at place.Import caller path body = Ok (requests.Import caller body)
 asked_at (place.Match text) caller path body = Ok (requests.Match caller body text)
 asked_at place.Reasons caller path body = Ok (requests.Reasons caller)

@@ -14,7 +14,7 @@ use Rattle.book_reports.specs.declared.report.PeriodReport.TheVariants as period
 use Rattle.book_reports.specs.declared.report.Report.TheVariants as report
 use Rattle.trust_desk.specs.declared.requests.MatchText.TheVariants as text
 use Rattle.portal_requests.specs.declared.routes.Place.{Place}
-use Rattle.portal_requests.specs.declared.routes.Place.TheVariants.{AsOf, Dismissal, Entry, Import, Listed, Match, Matter, Reasons, Reconciliation, Report, Within}
+use Rattle.portal_requests.specs.declared.routes.Place.TheVariants.{Acts, AsOf, Dismissal, Entry, Import, Listed, Match, Matter, Reasons, Reconciliation, Report, Trail, Within}
 
 -- the rows with one more route
 abbrev pub row_in : Result Scan InsertError → Place → RowsOf (RouteOf Place) → RowsOf (RouteOf Place)
@@ -52,6 +52,7 @@ TABLE = (codes "/matters", Listed caller_list.Matters)
     ∷ (codes "/matters/{m}/purge", Matter matter.Purge)
     ∷ (codes "/matters/{m}/accounting", Matter matter.Accounting)
     ∷ (codes "/matters/{m}/accounting/{from}/{to}", Matter matter.Account)
+    ∷ (codes "/matters/{m}/trail", Acts)
     ∷ (codes "/matters/{m}/entries", Matter matter.Entries)
     ∷ (codes "/matters/{m}/entries/{e}", Entry entry.Show)
     ∷ (codes "/matters/{m}/entries/{e}/deposit", Entry entry.Deposit)
@@ -79,8 +80,11 @@ TABLE = (codes "/matters", Listed caller_list.Matters)
     ∷ (codes "/firm/outstanding/{day}", AsOf day_report.Outstanding)
     ∷ (codes "/firm/receipts/{from}/{to}", Within period_report.Receipts)
     ∷ (codes "/firm/disbursements/{from}/{to}", Within period_report.Disbursements)
+    ∷ (codes "/firm/approvals/{from}/{to}", Within period_report.Approvals)
     ∷ (codes "/firm/month/{day}", AsOf day_report.Month)
-    ∷ (codes "/firm/retention", Report report.Retention) ∷ []
+    ∷ (codes "/firm/retention", Report report.Retention)
+    ∷ (codes "/firm/trail", Report report.Trail)
+    ∷ (codes "/firm/trail/{m}", Trail) ∷ []
 
 unfoldable pub the_routes : RowsOf (RouteOf Place)
 the_routes = route_rows TABLE []

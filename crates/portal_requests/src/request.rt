@@ -15,8 +15,8 @@ ghost use Rattle.portal_requests.specs.Bodies.{texts};
 ghost use Rattle.portal_requests.specs.Callers.{caller_of};
 ghost use Rattle.portal_requests.specs.Dismissals.{dismissing_in};
 ghost use Rattle.portal_requests.specs.Paths.{named_in, part, period_in};
-ghost use Rattle.portal_requests.specs.Requests.{as_of, of_matter, reported_as_of, reported_within, request};
-ghost use Rattle.trust_base.specs.Texts.{day_of};
+ghost use Rattle.portal_requests.specs.Requests.{acts_of, as_of, of_matter, reported_as_of, reported_within, request, trail_of};
+ghost use Rattle.trust_base.specs.Texts.{day_of, matter_of};
 
 use crate::routes::{EntryPlace, MatterPlace, Place, Routes, method};
 use ask_fields::{
@@ -401,6 +401,26 @@ fn read_period_report(
     }
 }
 
+// Returns the request for the trail of a matter.
+fn read_trail(caller: Caller, matter: &[u8]) -> Result<Request, Refusal>
+    ensures { Answers (trail_of caller (matter_of matter.now)) result }
+{
+    match MatterNo::read(matter) {
+        Some(no) => Ok(Request::Trail(caller, no)),
+        None => Err(Refusal::BadField(Field::Matter)),
+    }
+}
+
+// Returns the request for the acts of a matter.
+fn read_acts(caller: Caller, matter: Option<MatterNo>) -> Result<Request, Refusal>
+    ensures { Answers (acts_of caller matter) result }
+{
+    match matter {
+        Some(no) => Ok(Request::Acts(caller, no)),
+        None => Err(Refusal::BadField(Field::Matter)),
+    }
+}
+
 // Returns the bank statement in a body. Fails if memory runs out.
 fn read_statement(alloc: Global, body: &[u8]) -> Result<OwnedBytes, AllocError>
     ensures { IfOk result (λ statement. statement ≡ body.now) }
@@ -434,6 +454,8 @@ pub fn request_of(alloc: Global, routes: &Routes, message: &Message) -> Result<R
         Place::Reconciliation => read_reconciliation(caller, part(path, 3)),
         Place::AsOf(report) => read_day_report(caller, report, part(path, 3)),
         Place::Within(report) => read_period_report(caller, report, part(path, 3), part(path, 4)),
+        Place::Trail => read_trail(caller, part(path, 3)),
+        Place::Acts => read_acts(caller, named_matter(path)),
         Place::Import => {
             let statement = read_statement(alloc, body)?;
             Ok(Request::Import { caller, statement })

@@ -59,6 +59,10 @@ pub(crate) enum Place {
     AsOf(DayReport),
     /// To a report on the firm of the period in the path.
     Within(PeriodReport),
+    /// To the trail of the matter in the path.
+    Trail,
+    /// To the acts of the matter in the path.
+    Acts,
     /// To the import of a bank statement.
     Import,
     /// To a text that matching a bank statement gives.
@@ -86,6 +90,8 @@ pub(crate) fn method(place: Place) -> &'static [u8]
         | Place::Reconciliation
         | Place::AsOf(_)
         | Place::Within(_)
+        | Place::Trail
+        | Place::Acts
         | Place::Reasons => b"GET",
         Place::Matter(_) | Place::Entry(_) | Place::Import | Place::Match(_) | Place::Dismissal =>
             b"POST",
@@ -113,6 +119,7 @@ const TABLE: &[(&str, Place)] = &[
         "/matters/{m}/accounting/{from}/{to}",
         Place::Matter(MatterPlace::Account),
     ),
+    ("/matters/{m}/trail", Place::Acts),
     ("/matters/{m}/entries", Place::Matter(MatterPlace::Entries)),
     ("/matters/{m}/entries/{e}", Place::Entry(EntryPlace::Show)),
     (
@@ -188,8 +195,14 @@ const TABLE: &[(&str, Place)] = &[
         "/firm/disbursements/{from}/{to}",
         Place::Within(PeriodReport::Disbursements),
     ),
+    (
+        "/firm/approvals/{from}/{to}",
+        Place::Within(PeriodReport::Approvals),
+    ),
     ("/firm/month/{day}", Place::AsOf(DayReport::Month)),
     ("/firm/retention", Place::Report(Report::Retention)),
+    ("/firm/trail", Place::Report(Report::Trail)),
+    ("/firm/trail/{m}", Place::Trail),
 ];
 
 /// The routes of the portal: paths, and the place to which each leads.

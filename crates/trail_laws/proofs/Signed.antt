@@ -28,7 +28,7 @@ no-acts_are_signed rows = record {
 
 -- Runs.
 
-sound-step : (p : Dossier) (step : Doing) → HasItsAmount step → Sound p.rows → Sound (dossier_after_step p step).rows
+pub sound-step : (p : Dossier) (step : Doing) → HasItsAmount step → Sound p.rows → Sound (dossier_after_step p step).rows
 sound-step p (AnAsk a) amount sound = steps-sound p.rows a amount sound
 sound-step p (ALine l today) amount sound = lines-sound p.rows l today sound
 
@@ -46,7 +46,7 @@ signed-run p (step ∷ run) amounts sound s =
     (step-adds nothing_before p step (λ begun after. IsSigned nothing_before after)
     (λ after adds. signed-more nothing_before p after adds sound s) signed-bare)
 
-sound-unopened : Sound unopened
+pub sound-unopened : Sound unopened
 sound-unopened = record { backed = backed-none; seated = tt; headed = (refl, refl); bare = tt; funded = tt }
 
 pub runs-are_signed : RunsAreSigned

@@ -1,3 +1,4 @@
 pub mod Dossier
 pub mod Added
 pub mod Signed
+pub mod Replayed

@@ -1,6 +1,7 @@
 //! Laws over the definitions. Each is the contract of a function that does nothing.
 
 ghost use Rattle.trail_laws.specs.Added.{RefusalAddsNone, RepeatAddsNone, ReadingAddsNone, PurgeLeavesNone, AskAddsOne, LineAddsNone, LineAddsOne};
+ghost use Rattle.trail_laws.specs.Replayed.{StepsKeepReplayed, StepsKeepComplete, LaterRunsAreReplayed, RunsAreReplayed};
 ghost use Rattle.trail_laws.specs.Signed.{SeatsFollowActs, RuleIsOfAsk, ActsStayAllowed, LawyersApprove, IssuesAreApproved, NoActsAreSigned, StepsKeepSigned, RunsKeepSigned, RunsAreSigned};
 
 /// An accepted ask that changes the matter adds exactly one act, of its caller, its day and its entry, and a bank line
@@ -38,4 +39,15 @@ pub fn payments_are_signed()
     ensures steps { StepsKeepSigned }
     ensures later_runs { RunsKeepSigned }
     ensures runs { RunsAreSigned }
+{}
+
+/// Where a matter's acts begin with its opening, its rows say of each act what was asked, or what the bank showed, and
+/// all of it, asked or shown again in order from nothing, makes the same rows and the same acts. After every run from a
+/// matter that was never opened this is so of the matter unless it is gone; and after every run of sound rows that had
+/// no acts, if it was opened in that run. Each step keeps it.
+pub fn runs_are_replayed()
+    ensures steps { StepsKeepReplayed }
+    ensures complete { StepsKeepComplete }
+    ensures later_runs { LaterRunsAreReplayed }
+    ensures runs { RunsAreReplayed }
 {}

@@ -14,6 +14,11 @@
 //! - `laws` `payments_are_signed`: after every run of asks and lines (`runs`) **each payment that is or was issued has
 //!   exactly one act of approval, on the day of its issue, by a person who had a lawyer's seat then** (`approved`).
 //!   Where the acts begin later than the matter, this is so of each payment that was not issued before.
+//! - `laws` `runs_are_replayed`: after every run of asks and lines (`runs`) a matter's acts are complete, and **its
+//!   rows say of each act what was asked, or what the bank showed, and all of it, asked or shown again in order from
+//!   nothing, makes the same rows and the same acts**, unless the matter was never opened, or was purged. After every
+//!   run of rows that had no acts this is so where the acts begin with the opening (`later_runs`). Each step keeps both
+//!   (`steps`, `complete`).
 #![tactic(auto)]
 
 pub mod laws;

@@ -1,5 +1,6 @@
 -- How a request is answered, by what the calls of the book were.
-use Rattle.trust_desk.proofs.Names.{Seen, ◌≡◌, ◌⊎◌, inl, inr, ◌∙◌, ℕ, true, false, Ok, Err, Result, refl, ap, sym, subst, IfOk, cond-false, is_fault, refused_by, Refusal, StoreFault, Ask, Asked, Caller, refusal, IsDecided, MatterChange, Firm, FirmChange, of, after, acted, after_change, after_edit, IsRead, IsWrite, Reply, IsAnswered, counted_end, counted_reply, is_store, IsMade, KindIsMade, is_fault_end, Steps, after_ask, after_asked, firm_step, kind_step, Heard, Kind, OfMatter, OnlyShown, OnlyTold, asked_on, kind_of, is_fault_reply, refused, replied, reply_for, reply_of, json_reply, text_reply, List, arith, ints, nat_tests}
+use Rattle.trust_desk.proofs.Names.{Seen, ◌≡◌, ◌⊎◌, inl, inr, ◌∙◌, ℕ, true, false, Ok, Err, Result, refl, ap, sym, subst, IfOk, cond-false, is_fault, refused_by, Refusal, StoreFault, Ask, Asked, Caller, refusal, IsDecided, MatterChange, Firm, FirmChange, of, after, acted, after_change, after_edit, IsRead, IsWrite, Reply, IsAnswered, counted_end, counted_reply, is_store, IsMade, KindIsMade, is_fault_end, Steps, after_ask, after_asked, firm_step, kind_step, Heard, Kind, OfActs, OfMatter, OnlyShown, OnlyTold, asked_on, kind_of, is_fault_reply, refused, replied, reply_for, reply_of, json_reply, text_reply, List, arith, ints, nat_tests}
+use Rattle.trust_desk.specs.Acts.{acts_for, dossier_of, reads_on}
 use Rattle.trust_desk.proofs.Calls.{uncounted, kept-as, kept-then, read-kept, write-kept}
 use Rattle.trust_desk.proofs.Crashes.{leave-as, leave-failed, read-leaves, written-leaves}
 use Rattle.trust_desk.proofs.Refused.{IsTold, fault-counted, fault-told}
@@ -109,3 +110,43 @@ module _ (day : ℕ) (h : Heard) (m : ℕ) (caller : Caller) (ask : Ask) (kind :
         → IsAnswered day h (Err (refused_by fault)) old new
     ask-unwritten fault read write makes =
         grind (arith, ints, nat_tests, refused-steps, fault-told, kept-as, fault-counted, kept-then, read-kept, write-kept, leave-failed, makes_it, written-leaves)
+
+-- A request for the acts of a matter.
+
+module _ (day : ℕ) (h : Heard) (m : ℕ) (caller : Caller) (kind : kind_of h ≡ OfActs m caller) where
+  acts-leave : (f : Firm) → f ≡ (firm_step day f h).firm
+  acts-leave f = sym (ap (λ (k : Kind). (kind_step day f k).firm) kind)
+
+  acts-say : (f : Firm) → json_reply (acts_for caller day (dossier_of m f)) ≡ (firm_step day f h).reply
+  acts-say f = sym (ap (λ (k : Kind). (kind_step day f k).reply) kind)
+
+  acts-make : (f found : Firm) → found ≡ f → IsMade day f h found
+  acts-make f found made = subst (λ (k : Kind). KindIsMade day f k found) (sym kind) made
+
+  acts-refuse : (f : Firm) (r : Refusal) → IsTold (refusal (of m f) (reads_on day caller)) r
+      → (is_fault r ≡ true) ⊎ ((refused r ≡ (firm_step day f h).reply) × (f ≡ (firm_step day f h).firm))
+  acts-refuse f r tells = grind (arith, ints, nat_tests, acts_for, of, acts-say, acts-leave)
+
+  module _ {old new : Seen} where
+    -- it is refused, as the matter is, or for want of memory
+    pub acts-refused : {T : Type 0} {read : T} (r : Refusal) → IsRead (Ok read) old new
+        → (new.clean → old.stands → IsTold (refusal (of m old.firm) (reads_on day caller)) r)
+        → IsAnswered day h (Err r) old new
+    acts-refused r read tells = record {
+      step = λ served stood. refused-steps day old.firm new.firm h r (acts-refuse old.firm r (tells served stood)) (read.same served stood);
+      plain = tt;
+      kept = kept-as (λ is stood.
+          let served = read.serves is in
+          sym (cond-false (is_store r) _ _ (tells served (stood (read.was_clean served))).told)) (read-kept read);
+      crash = λ is stood before.
+          leave-as (λ plain. refl) (λ f made. made)
+          (λ plain. elim (acts-refuse old.firm r (tells (read.serves is) stood)) [ inl fault ↦ absurd (cc) | inr same ↦ sym same.1 ])
+          (read-leaves read is stood);
+    }
+
+    -- they are told, and nothing changes
+    pub acts-told : {T : Type 0} {read : T} (reply : Reply) → is_fault_reply reply ≡ false → IsRead (Ok read) old new
+        → (new.clean → old.stands → reply ≡ json_reply (acts_for caller day (dossier_of m old.firm)))
+        → IsAnswered day h (Ok reply) old new
+    acts-told reply plain read tells =
+        grind (arith, ints, nat_tests, steps-plain, kept-as, read-kept, leave-as, read-leaves, acts-say, acts-leave, acts-make)

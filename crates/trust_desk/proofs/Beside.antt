@@ -1,8 +1,6 @@
 -- How an item is applied beside what is known of the firm's own ledger.
 use Rattle.trust_desk.proofs.Names.{Counts, Seen, ◌≡◌, ◌∙◌, ℕ, List, Option, Some, None, Result, Ok, Err, refl, ap, IfOk, IfSome, OnErr, ⊤, Line, StoreFault, LineEffect, BankLine, line_on, BalanceKind, FirmLine, Verdict, Firm, of, FirmChange, after, by_balance, by_firm_line, firm_verdict, IsFirmVerdict, edit-leaves, Item, IsRead, IsWrite, IsWriteIf, Counted, IsItemApplied, AgreesWith, IsAppliedBeside, KeepsBeside, lines_after, KeepsBook, after_item, after_told, balance_on, counted_by, counted_of, arith, ints, nat_tests}
 use Rattle.trust_matter.specs.declared.line_verdict.LineEffect.TheVariants as told
-use Rattle.firm_rows.specs.declared.ledger.BalanceKind.TheVariants as kind
-use Rattle.firm_rows.specs.declared.ledger.Verdict.TheVariants as own
 use Rattle.statement_csv.specs.declared.item.Item.TheVariants as item
 use Rattle.trust_store.proofs.Writes.{fit_write}
 use Rattle.trust_desk.proofs.Calls.{kept-then, read-kept, write-kept}

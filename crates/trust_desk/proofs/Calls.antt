@@ -1,9 +1,6 @@
 -- One call of a book after another, as what a call of the desk leaves of it.
-use Rattle.std.specs.Prelude.{◌≡◌, ℕ, Result, Ok, Err, false}
-use Rattle.trust_desk.proofs.Names.{Counts, Seen, ◌∙◌, refl, is_fault, Refusal, StoreFault, Firm, FirmChange, counted, IsRead, IsWrite, Body, KeepsBook, counted_body, counted_refusal, is_fault_body, arith, ints, nat_tests}
-use Rattle.trust_base.specs.declared.refusal.Refusal.TheVariants as refusal
-use Rattle.trust_base.specs.declared.refusal.StoreFault.TheVariants as faults
-use Rattle.trust_desk.specs.declared.requests.Body.TheVariants as body
+use Rattle.std.specs.Prelude.{◌≡◌, ℕ, Result, false}
+use Rattle.trust_desk.proofs.Names.{Counts, Seen, ◌∙◌, refl, is_fault, StoreFault, FirmChange, counted, IsRead, IsWrite, Body, KeepsBook, counted_body, counted_refusal, is_fault_body, arith, ints, nat_tests}
 
 pub read-kept : {T : Type 0} {result : Result T StoreFault} {old new : Seen} → IsRead result old new → KeepsBook (Counts (counted result)) old new
 read-kept read = record { was_clean = read.was_clean; was_sure = read.was_sure; still_stands = read.still_stands; still_lasts = λ sure _ lasts. read.still_lasts sure lasts; cause = λ sure stands. read.count }

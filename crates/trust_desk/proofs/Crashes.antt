@@ -1,5 +1,5 @@
 -- What a crash may leave after one call after another.
-use Rattle.trust_desk.proofs.Names.{Seen, ◌≡◌, inl, ℕ, Result, Ok, OnOk, IsOk, StoreFault, Firm, FirmChange, after, IsRead, IsWrite, MayLeave, MayLeaveChange, arith, ints, nat_tests}
+use Rattle.trust_desk.proofs.Names.{Seen, ◌≡◌, inl, Result, Ok, OnOk, IsOk, StoreFault, Firm, FirmChange, after, IsRead, IsWrite, MayLeave, MayLeaveChange, arith, ints, nat_tests}
 
 -- No call, and another way to say it.
 

@@ -1,10 +1,8 @@
 -- How an item is applied, by what is decided of it and by the calls of the book.
 use Rattle.trust_desk.proofs.Names.{Seen, ◌≡◌, ◌≤◌, ℕ, true, None, Some, Ok, Err, Result, sym, ap, ◌∙◌, Sound, Part, IsPart, holds_for_line, line-held, Line, StoreFault, BankLine, LineEffect, Rows, LineDecides, BalanceKind, Verdict, Firm, FirmChange, of, acted, after, after_edit, by_balance, by_line, Item, counted, counted_fault, IsRead, IsWrite, Counted, IsItemApplied, after_item, after_told, balance_item, balance_on, counted_as, counted_by, counted_of, counted_verdict, arith, ints, nat_tests, IsPartFor}
-use Rattle.trust_base.specs.declared.refusal.StoreFault.TheVariants as faults
 use Rattle.trust_matter.specs.declared.line_verdict.LineVerdict.{LineVerdict}
 use Rattle.trust_matter.specs.declared.line_verdict.LineVerdict.TheVariants as verdict
 use Rattle.firm_rows.specs.Firm.{after_match}
-use Rattle.firm_rows.specs.declared.ledger.BalanceKind.TheVariants as kind
 use Rattle.statement_csv.specs.declared.item.Item.TheVariants as item
 use Rattle.trust_desk.proofs.Calls.{kept-as, kept-then, read-kept, write-kept}
 use Rattle.trust_desk.proofs.Crashes.{leave-failed, read-leaves, written-leaves}

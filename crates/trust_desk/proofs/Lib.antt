@@ -7,8 +7,12 @@ pub mod Crashes
 pub mod MadeRows
 pub mod ItemsRead
 pub mod OwnItems
+pub mod OwnRows
+pub mod OwnActs
+pub mod OwnDossiers
 pub mod Own
 pub mod Steps
+pub mod KeptActs
 pub mod Answered
 pub mod Limits
 pub mod ImportSteps

@@ -58,7 +58,7 @@ pub use Rattle.trust_desk.specs.Counts.{counted_body, counted_end, counted_refus
 pub use Rattle.trust_desk.specs.Crashes.{AreFront, AreNoFaults, AreNoFaultsButLast, IsAfterFirst, IsMade, IsMadeInRun, IsOfItems, KindIsMade, MayLeave, MayLeaveChange, before_fault, is_fault_end, is_stopped}
 pub use Rattle.trust_desk.specs.Dismissing.{dismiss_refusal, dismissed_unless, is_exception}
 pub use Rattle.trust_desk.specs.FirmStep.{IsFaultReply, IsStopped, IsUnstopped, KindStopped, Runs, RunsSoundly, SoundRunsAreRuns, Steps, Stopped, after_ask, after_asked, firm_step, kind_step}
-pub use Rattle.trust_desk.specs.Heard.{Asks, Dismisses, Heard, Kind, NotRead, OfItems, OfMatter, OnlyShown, OnlyTold, Own, OwnAsk, OwnRefusal, asked_on, concerns, heard, is_the, kind_concerns, kind_names, kind_of, kind_own, names, own_if, own_of, own_of_item, own_of_items, project, told}
+pub use Rattle.trust_desk.specs.Heard.{Asks, Dismisses, Heard, Kind, NotRead, OfActs, OfItems, OfMatter, OnlyShown, OnlyTold, Own, OwnActs, OwnAsk, OwnLine, OwnRefusal, asked_on, concerns, heard, is_the, kind_concerns, kind_names, kind_of, kind_own, names, own_if, own_of, own_of_item, own_of_items, project, told}
 pub use Rattle.trust_desk.specs.ImportStep.{IsAfterFront, counts_text, import_refusal, import_reply, imported, is_not_of_firm, items_unless}
 pub use Rattle.trust_desk.specs.Imports.{AlwaysSound, AreBelow, AreFirst, AreRead, Imports, IsStop, IsUnnamed, KeepsAllUnnamed, Told, counted_stop, stop_at}
 pub use Rattle.trust_desk.specs.ItemStep.{after_item, after_items, after_told, balance_item, balance_on, count_item, counted_as, counted_by, counted_of, counted_verdict, counts_after, firm_line_on, names_item, none_counted}

@@ -1,7 +1,6 @@
 -- What is answered by what is kept of a matter is the answer of its rows.
 use Rattle.trust_desk.proofs.Names.{pos, ◌≡◌, ℕ, Bool, true, cond, List, Option, Some, None, refl, rules, sym, ap, ◌∙◌, eqb-true, Entry, PaymentState, Ask, Caller, Numbered, Kept, Rows, entry_at, Asked, Facts, number_named, facts_of, is_repeat, Part, IsPart, kept_at, entry_in, is_held_or_none, HoldsOn, holds_for, MatterChange, changed, changed_by, IsDecided, cancelled, decided, edit_on, rows_after, with_claim, with_payment, receipt_body, entry_body, Body, made_text, shown_text, body_of, said, success_of, replied, reply_of, status_of_edit, arith, ints, nat_tests, Edit, found_passes}
 use Rattle.std.proofs.Common.{◌==◌}
-use Rattle.matter_rows.specs.declared.entry.Entry.TheVariants as entry
 use Rattle.matter_rows.specs.declared.claim.ClaimState.{ClaimState}
 use Rattle.trust_matter.specs.declared.ask.Ask.TheVariants as ask
 use Rattle.matter_parts.specs.declared.edit.Edit.TheVariants as edit

@@ -1,11 +1,11 @@
 -- What the items of a statement do to a matter is what its own machine does with the lines that name it.
 use Rattle.trust_desk.proofs.Names.{◌≡◌, ◌≢◌, ℕ, false, ◌||◌, List, [], ◌∷◌, ◌++◌, refl, sym, ap, ◌∙◌, append_assoc, cond_both, eqb-true, eqb-false, or_parts, list_any, BankLine, LineEffect, Rows, line_on, after_line_effect, rows_after_line, Line, BalanceKind, Verdict, Firm, of, after, by_balance, by_firm_line, of-after_edit, of_other-after_edit, Item, after_told, after_item, after_items, names_item, Own, own_if, own_of_item, own_of_items, own_rows, own_reply, solo_rows, solo_replies, arith, ints, nat_tests}
 use Rattle.trust_desk.proofs.Names.{Err, IfOk, None, Ok, OnErr, Option, Result, Seen, FirmLine, IsAppliedBeside, StoreFault, Counted, counted_of}
+use Rattle.trail_laws.specs.Dossier.{Dossier}
 use Rattle.trust_desk.specs.Imports.{LeavesOwnItem}
+use Rattle.trust_desk.specs.Solo.{own_dossier, solo_dossier}
 use Rattle.trust_desk.specs.ItemStep.{KeepsUnnamed}
 use Rattle.trust_matter.specs.declared.line_verdict.LineEffect.TheVariants as told
-use Rattle.firm_rows.specs.declared.ledger.BalanceKind.TheVariants as kind
-use Rattle.firm_rows.specs.declared.ledger.Verdict.TheVariants as own
 use Rattle.statement_csv.specs.declared.item.Item.TheVariants as item
 
 -- A machine that goes on.
@@ -14,11 +14,11 @@ pub solo_rows-append : (rows : Rows) (xs ys : List Own) → solo_rows rows (xs +
 solo_rows-append rows [] ys = refl
 solo_rows-append rows (x ∷ xs) ys = solo_rows-append (own_rows rows x) xs ys
 
-pub solo_replies-append : (m : ℕ) (rows : Rows) (xs ys : List Own) → solo_replies m rows (xs ++ ys) ≡ solo_replies m rows xs ++ solo_replies m (solo_rows rows xs) ys
-solo_replies-append m rows [] ys = refl
-solo_replies-append m rows (x ∷ xs) ys =
-    ap (λ rs. own_reply m rows x ++ rs) (solo_replies-append m (own_rows rows x) xs ys)
-    ∙ sym (append_assoc (own_reply m rows x) (solo_replies m (own_rows rows x) xs) (solo_replies m (solo_rows (own_rows rows x) xs) ys))
+pub solo_replies-append : (m : ℕ) (p : Dossier) (xs ys : List Own) → solo_replies m p (xs ++ ys) ≡ solo_replies m p xs ++ solo_replies m (solo_dossier p xs) ys
+solo_replies-append m p [] ys = refl
+solo_replies-append m p (x ∷ xs) ys =
+    ap (λ rs. own_reply m p x ++ rs) (solo_replies-append m (own_dossier p x) xs ys)
+    ∙ sym (append_assoc (own_reply m p x) (solo_replies m (own_dossier p x) xs) (solo_replies m (solo_dossier (own_dossier p x) xs) ys))
 
 -- A line is seen in its matter, and in no other.
 
@@ -62,13 +62,13 @@ of-after_items m day firm (it ∷ items) =
 
 -- Lines give no reply.
 
-silent-item : (m day : ℕ) (rows : Rows) (it : Item) → solo_replies m rows (own_of_item m day it) ≡ []
-silent-item m day rows it = grind (arith, ints, nat_tests, cond_both, solo_replies)
+silent-item : (m day : ℕ) (p : Dossier) (it : Item) → solo_replies m p (own_of_item m day it) ≡ []
+silent-item m day p it = grind (arith, ints, nat_tests, cond_both, solo_replies)
 
-pub silent-items : (m day : ℕ) (rows : Rows) (items : List Item) → solo_replies m rows (own_of_items m day items) ≡ []
-silent-items m day rows [] = refl
-silent-items m day rows (it ∷ items) =
-    grind (arith, ints, nat_tests, solo_replies-append, silent-item, (silent-items m day (solo_rows rows (own_of_item m day it)) items))
+pub silent-items : (m day : ℕ) (p : Dossier) (items : List Item) → solo_replies m p (own_of_items m day items) ≡ []
+silent-items m day p [] = refl
+silent-items m day p (it ∷ items) =
+    grind (arith, ints, nat_tests, solo_replies-append, silent-item, (silent-items m day (solo_dossier p (own_of_item m day it)) items))
 
 -- A matter that no item names.
 

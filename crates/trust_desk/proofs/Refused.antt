@@ -1,7 +1,5 @@
 -- What a refusal of an ask is, and what is read for the ask.
 use Rattle.trust_desk.proofs.Names.{◌≡◌, ◌⊎◌, ℕ, true, false, Option, Some, sym, ◌∙◌, arith, and_from, false≢true, nat_tests, Refusal, StoreFault, is_fault, refused_by, Ask, fund_named, number_named, Part, IsWhole, entry_in, kept_at, is_whole, Rows, MayRefuse, counted_fault, named-held, is_store, counted_refusal, IsReadFor, ints, IsPartFor}
-use Rattle.trust_base.specs.declared.refusal.Refusal.TheVariants as refusals
-use Rattle.trust_base.specs.declared.refusal.StoreFault.TheVariants as faults
 use Rattle.matter_rows.specs.Shares.{number_or_none}
 use Rattle.matter_parts.proofs.AllKept.{whole-all}
 

@@ -1,6 +1,5 @@
 -- A step by its reply.
 use Rattle.trust_desk.proofs.Names.{◌≡◌, ℕ, true, false, [], refl, is_fault, Refusal, Firm, Reply, Heard, Kind, OfItems, kind_of, is_fault_reply, refused, IsFaultReply, KindStopped, Stopped, Steps, firm_step, arith, ints, nat_tests}
-use Rattle.trust_base.specs.declared.refusal.Refusal.TheVariants as refusals
 
 kind-not_done : (day : ℕ) (firm : Firm) (k : Kind) → KindStopped day firm k firm
 kind-not_done day firm (OfItems refused items) = (items, record { front = []; parts = refl; leaves = refl })

@@ -10,7 +10,7 @@ use Rattle.trust_desk.specs.declared.importing.ImportStop.{ImportStop}
 use Rattle.trust_desk.specs.declared.importing.ImportStop.TheVariants as stop
 use Rattle.trust_desk.specs.declared.requests.Reply.{Reply}
 use Rattle.trust_desk.specs.declared.requests.Request.{Request}
-use Rattle.trust_desk.specs.Heard.{Heard, Asks, Kind, OfMatter, OfItems, Dismisses, OnlyTold, OnlyShown, NotRead, kind_of, asked_on}
+use Rattle.trust_desk.specs.Heard.{Heard, Asks, Kind, OfMatter, OfActs, OfItems, Dismisses, OnlyTold, OnlyShown, NotRead, kind_of, asked_on}
 use Rattle.trust_desk.specs.Replies.{is_fault_reply}
 use Rattle.trust_desk.specs.ItemStep.{after_items}
 use Rattle.trust_desk.specs.ImportStep.{IsAfterFront}
@@ -63,6 +63,7 @@ is_fault_end (Err r) = is_fault r
 
 abbrev pub IsOfItems : Kind → Type 0
 IsOfItems (OfMatter m caller ask) = ⊥
+IsOfItems (OfActs m caller) = ⊥
 IsOfItems (OfItems refused items) = ⊤
 IsOfItems (Dismisses caller line) = ⊥
 IsOfItems (OnlyTold text) = ⊥
@@ -74,6 +75,7 @@ IsImport request = IsOfItems (kind_of (Asks request))
 
 abbrev pub KindIsMade : ℕ → Firm → Kind → Firm → Type 0
 KindIsMade day firm (OfMatter m caller ask) found = found ≡ after_ask m (asked_on day caller ask) firm
+KindIsMade day firm (OfActs m caller) found = found ≡ firm
 KindIsMade day firm (OfItems refused items) found = (rest : List Item) × IsAfterFront day firm items rest found
 KindIsMade day firm (Dismisses caller line) found = found ≡ after_dismissing caller line firm
 KindIsMade day firm (OnlyTold text) found = found ≡ firm

@@ -9,7 +9,8 @@ use Rattle.firm_rows.specs.Firm.{Firm, of, after_edit, acted}
 use Rattle.firm_rows.specs.FirmSound.{FirmSound}
 use Rattle.statement_csv.specs.declared.item.Item.{Item}
 use Rattle.trust_desk.specs.declared.requests.Reply.{Reply}
-use Rattle.trust_desk.specs.Heard.{Heard, Kind, OfMatter, OfItems, Dismisses, OnlyTold, OnlyShown, NotRead, kind_of, asked_on, concerns}
+use Rattle.trust_desk.specs.Acts.{acts_for, dossier_of}
+use Rattle.trust_desk.specs.Heard.{Heard, Kind, OfMatter, OfActs, OfItems, Dismisses, OnlyTold, OnlyShown, NotRead, kind_of, asked_on, concerns}
 use Rattle.trust_desk.specs.Replies.{refused, reply_of, json_reply, text_reply, is_fault_reply}
 use Rattle.trust_desk.specs.ItemStep.{after_items, counts_after, none_counted}
 use Rattle.trust_desk.specs.ImportStep.{IsAfterFront, import_reply}
@@ -35,6 +36,8 @@ kind_step day firm (OfMatter m caller ask) = record {
   firm = after_ask m (asked_on day caller ask) firm;
   reply = reply_of m (of m firm) (asked_on day caller ask);
 }
+kind_step day firm (OfActs m caller) =
+    record { firm = firm; reply = json_reply (acts_for caller day (dossier_of m firm)) }
 kind_step day firm (OfItems refused items) = record {
   firm = after_items day firm items;
   reply = import_reply refused (counts_after day firm items none_counted);
@@ -57,6 +60,7 @@ IsFaultReply reply = (reply ≡ refused Store) ⊎ (reply ≡ refused Memory)
 
 abbrev pub KindStopped : ℕ → Firm → Kind → Firm → Type 0
 KindStopped day firm (OfMatter m caller ask) new = new ≡ firm
+KindStopped day firm (OfActs m caller) new = new ≡ firm
 KindStopped day firm (OfItems refused items) new = (rest : List Item) × IsAfterFront day firm items rest new
 KindStopped day firm (Dismisses caller line) new = new ≡ firm
 KindStopped day firm (OnlyTold text) new = new ≡ firm

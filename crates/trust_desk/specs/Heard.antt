@@ -11,13 +11,13 @@ use Rattle.firm_rows.specs.Firm.{Firm}
 use Rattle.statement_csv.specs.declared.item.Item.{Item}
 use Rattle.statement_csv.specs.declared.item.Item.TheVariants as item
 use Rattle.trust_desk.specs.declared.requests.Request.{Request}
-use Rattle.trust_desk.specs.declared.requests.Request.TheVariants.{Matter, Import, Match, Dismiss, Report, Reconcile, AsOf, Within, Listed, Reasons}
+use Rattle.trust_desk.specs.declared.requests.Request.TheVariants.{Matter, Import, Match, Dismiss, Report, Reconcile, AsOf, Within, Trail, Acts, Listed, Reasons}
 use Rattle.trust_desk.specs.declared.requests.MatchText.{MatchText}
 use Rattle.trust_desk.specs.declared.requests.MatchText.TheVariants as part
 use Rattle.trust_desk.specs.declared.requests.Reply.{Reply}
 use Rattle.trust_desk.specs.ItemStep.{names_item}
 use Rattle.trust_desk.specs.ImportStep.{import_refusal, imported}
-use Rattle.trust_desk.specs.ReportStep.{day_report_for, period_report_for, reconciliation_for, report_for}
+use Rattle.trust_desk.specs.ReportStep.{day_report_for, period_report_for, reconciliation_for, report_for, trail_for}
 use Rattle.trust_desk.specs.MatchStep.{statement_for, unmatched_for}
 use Rattle.trust_desk.specs.ListStep.{list_for, reasons_for}
 
@@ -40,6 +40,8 @@ asked_on day caller ask = record { caller = caller; ask = ask; day = day }
 pub data Kind : Type 0 where
   -- a caller's ask about a matter
   OfMatter : (m : ℕ) (caller : Caller) (ask : Ask) → Kind
+  -- a caller asks for the acts of a matter
+  OfActs : (m : ℕ) (caller : Caller) → Kind
   -- the items of a statement, and why it is refused, if it is
   OfItems : (refused : Option Refusal) (items : List Item) → Kind
   -- a caller dismisses a line from the exceptions
@@ -65,6 +67,8 @@ kind_of (Asks (Report caller report)) = OnlyTold (report_for caller report)
 kind_of (Asks (Reconcile caller day)) = OnlyTold (reconciliation_for caller day)
 kind_of (Asks (AsOf caller report day)) = OnlyTold (day_report_for caller report day)
 kind_of (Asks (Within caller report period)) = OnlyTold (period_report_for caller report period)
+kind_of (Asks (Trail caller m)) = OnlyTold (trail_for caller m)
+kind_of (Asks (Acts caller m)) = OfActs m caller
 kind_of (Asks (Listed caller list)) = OnlyShown (list_for caller list)
 kind_of (Asks (Reasons caller)) = OnlyShown (reasons_for caller)
 kind_of (Unread named refusal) = NotRead named refusal
@@ -77,6 +81,7 @@ is_the m (Some n) = n == m
 
 abbrev pub kind_names : ℕ → Kind → Bool
 kind_names m (OfMatter n caller ask) = n == m
+kind_names m (OfActs n caller) = n == m
 kind_names m (OfItems refused items) = false
 kind_names m (Dismisses caller line) = false
 kind_names m (OnlyTold text) = false
@@ -95,9 +100,10 @@ told m (h ∷ hs) (reply ∷ replies) = if names m h then reply ∷ told m hs re
 
 -- What concerns a matter.
 
--- a caller's ask on a day, a message that was refused, or a bank line on a day
+-- a caller's ask on a day, a request for the acts, a message that was refused, or a bank line on a day
 pub data Own : Type 0 where
   OwnAsk : (asked : Asked) → Own
+  OwnActs : (caller : Caller) (day : ℕ) → Own
   OwnRefusal : (refusal : Refusal) → Own
   OwnLine : (line : BankLine) (day : ℕ) → Own
 
@@ -120,6 +126,7 @@ own_of_items m day (it ∷ items) = own_of_item m day it ++ own_of_items m day i
 
 abbrev pub kind_own : ℕ → ℕ → Kind → List Own
 kind_own m day (OfMatter n caller ask) = own_if (n == m) (OwnAsk (asked_on day caller ask))
+kind_own m day (OfActs n caller) = own_if (n == m) (OwnActs caller day)
 kind_own m day (OfItems refused items) = own_of_items m day items
 kind_own m day (Dismisses caller line) = []
 kind_own m day (OnlyTold text) = []
@@ -137,6 +144,7 @@ project m day (h ∷ hs) = own_of m day h ++ project m day hs
 
 abbrev pub kind_concerns : ℕ → Kind → Bool
 kind_concerns m (OfMatter n caller ask) = n == m
+kind_concerns m (OfActs n caller) = n == m
 kind_concerns m (OfItems refused items) = list_any (names_item m) items
 kind_concerns m (Dismisses caller line) = false
 kind_concerns m (OnlyTold text) = false

@@ -6,6 +6,7 @@ pub mod ReportStep
 pub mod ListStep
 pub mod Dismissing
 pub mod MatchStep
+pub mod Acts
 pub mod Heard
 pub mod FirmStep
 pub mod Solo

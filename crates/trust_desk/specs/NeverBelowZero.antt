@@ -5,13 +5,14 @@ use Rattle.trust_matter.specs.Step.{HasAmount}
 use Rattle.firm_rows.specs.Firm.{Firm, of}
 use Rattle.firm_rows.specs.FirmSound.{FirmSound}
 use Rattle.statement_csv.specs.declared.item.Item.{Item}
-use Rattle.trust_desk.specs.Heard.{Heard, Kind, OfMatter, OfItems, Dismisses, OnlyTold, OnlyShown, NotRead, kind_of}
+use Rattle.trust_desk.specs.Heard.{Heard, Kind, OfMatter, OfActs, OfItems, Dismisses, OnlyTold, OnlyShown, NotRead, kind_of}
 use Rattle.trust_desk.specs.ItemStep.{after_item}
 use Rattle.trust_desk.specs.FirmStep.{RunsSoundly, Steps, firm_step}
 use Rattle.trust_desk.specs.declared.requests.Reply.{Reply}
 
 abbrev pub KindHasAmounts : Kind → Type 0
 KindHasAmounts (OfMatter m caller ask) = HasAmount ask
+KindHasAmounts (OfActs m caller) = Unit {0}
 KindHasAmounts (OfItems refused items) = Unit {0}
 KindHasAmounts (Dismisses caller line) = Unit {0}
 KindHasAmounts (OnlyTold text) = Unit {0}
@@ -38,6 +39,7 @@ AlwaysCoveredBy day firm (it ∷ items) = IsCovered firm × AlwaysCoveredBy day 
 
 abbrev pub KindIsCovered : ℕ → Firm → Kind → Type 0
 KindIsCovered day firm (OfMatter m caller ask) = IsCovered firm
+KindIsCovered day firm (OfActs m caller) = IsCovered firm
 KindIsCovered day firm (OfItems refused items) = AlwaysCoveredBy day firm items
 KindIsCovered day firm (Dismisses caller line) = IsCovered firm
 KindIsCovered day firm (OnlyTold text) = IsCovered firm

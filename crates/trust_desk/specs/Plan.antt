@@ -10,7 +10,7 @@ use Rattle.matter_rows.specs.Sound.{Sound}
 use Rattle.trust_matter.specs.Conditions.{is_whole}
 use Rattle.trust_matter.specs.Facts.{number_named}
 use Rattle.trust_matter.specs.KeptFacts.{holds_for}
-use Rattle.firm_rows.specs.Firm.{Firm, of}
+use Rattle.firm_rows.specs.Firm.{of}
 use Rattle.trust_store.specs.Calls.{IsRead}
 use Rattle.trust_store.specs.Seen.{Seen}
 use Rattle.trust_desk.specs.Replies.{body_of}

@@ -1,5 +1,5 @@
 -- Why a request for a report of the firm is refused, and the text of the report.
-use Rattle.std.specs.Prelude.{ℕ, Bool, List, [], ◌∷◌, Option, Some, None, Result, Ok, Err}
+use Rattle.std.specs.Prelude.{ℕ, Bool, not, ◌&&◌, List, [], ◌∷◌, Option, Some, None, Result, Ok, Err}
 use Rattle.trust_base.specs.declared.refusal.Rule.TheVariants as rule
 use Rattle.trust_base.specs.declared.refusal.Refusal.{Refusal}
 use Rattle.trust_base.specs.declared.refusal.Refusal.TheVariants as refusals
@@ -8,7 +8,8 @@ use Rattle.firm_rows.specs.Firm.{Firm}
 use Rattle.trust_base.specs.Periods.{Span}
 use Rattle.matter_rows.specs.declared.act.Caller.{Caller}
 use Rattle.book_reports.specs.ReportTexts.{day_report_text, is_day_report_purged, lacks_statement, period_report_text, report_text}
-use Rattle.book_reports.specs.Reports.{has_no_statement, is_period_purged, is_purged_since, reconciliation_report}
+use Rattle.book_reports.specs.Reports.{has_no_statement, is_period_purged, is_purged_since, matter_trail_report, reconciliation_report}
+use Rattle.book_reports.specs.Trails.{is_gone_since, is_missing}
 use Rattle.book_reports.specs.declared.day_reports.Limits.{Limits}
 use Rattle.book_reports.specs.declared.report.DayReport.{DayReport}
 use Rattle.book_reports.specs.declared.report.PeriodReport.{PeriodReport}
@@ -73,6 +74,25 @@ period_report_conditions caller period firm =
 abbrev pub period_report_for : Caller → PeriodReport → Span → ℕ → Firm → Result (List ℕ) Refusal
 period_report_for caller report period today firm =
     text_unless (first (period_report_conditions caller period firm)) (period_report_text report period firm)
+
+-- each refusal of the trail of a matter with its condition, in the order of their numbers. That a matter was never
+-- opened, or was purged, only the cashier is told
+abbrev pub trail_conditions : Caller → ℕ → Firm → List (Bool × Refusal)
+trail_conditions caller m firm =
+    (not (is_not_of_firm caller) && is_missing m firm, refusals.NoMatter)
+    ∷ (not (is_not_of_firm caller) && is_gone_since m firm, refusals.Purged)
+    ∷ (is_not_of_firm caller, refusals.NotAllowed rule.Firm)
+    ∷ []
+
+-- the result of the trail of a matter on a business day: its text, or the refusal
+abbrev pub trail_for : Caller → ℕ → ℕ → Firm → Result (List ℕ) Refusal
+trail_for caller m today firm =
+    text_unless (first (trail_conditions caller m firm)) (matter_trail_report m today firm)
+
+-- the trail, or the refusal with the least number whose condition holds
+abbrev pub told_trail : Bool → Bool → List ℕ → Result (List ℕ) Refusal
+told_trail missing purged text =
+    text_unless (first ((missing, refusals.NoMatter) ∷ (purged, refusals.Purged) ∷ [])) text
 
 -- the text, or the refusal with the least number whose condition holds
 abbrev pub told_within : Limits → List ℕ → Result (List ℕ) Refusal

@@ -13,20 +13,21 @@ ghost use Rattle.trust_store.specs.Calls.{IsRead};
 ghost use Rattle.trust_desk.specs.Isolation.{IsOwn, KeepsOthers};
 ghost use Rattle.trust_desk.specs.Replies.{is_fault_reply};
 ghost use Rattle.trust_desk.specs.ReportStep.{day_report_for, period_report_for, reconciliation_for};
-ghost use Rattle.trust_desk.specs.ReportStep.{report_for};
+ghost use Rattle.trust_desk.specs.ReportStep.{report_for, trail_for};
 ghost use Rattle.trust_desk.specs.Answered.{IfServed, IsAnswered, IsReplied};
 ghost use Rattle.trust_desk.specs.Calls.{Counts, KeepsBook};
 
+use crate::acts::answer_acts;
 use crate::exceptions::dismiss;
 use crate::importing::{ImportEnd, ImportStop};
 use crate::requests::{
     Body, CallerList, End, MatchText, Reply, Request, RunEnd, check_import, is_not_of_firm,
-    tell_within,
+    tell_trail, tell_within,
 };
 use crate::watching::NoWatch;
 use book_reports::{
     ClearedLines, DayReport, PeriodReport, Report, append_day_report, append_period_report,
-    append_reconciliation, find_report,
+    append_reconciliation, find_report, find_trail,
 };
 use exception_reasons::reasons_body;
 use firm_lists::{matters_body, waiting_body};
@@ -228,6 +229,8 @@ impl<B: Book> Desk<B> {
             Request::Within(caller, report, period) => {
                 self.answer_period_report(alloc, caller, *report, *period)
             }
+            Request::Trail(caller, no) => self.answer_trail(alloc, caller, *no, day),
+            Request::Acts(caller, no) => answer_acts(alloc, &mut self.book, *no, caller, day),
             Request::Listed(caller, list) => self.answer_list(alloc, caller, *list),
             Request::Reasons(caller) => self.answer_reasons(alloc, caller, day),
         };
@@ -311,6 +314,24 @@ impl<B: Book> Desk<B> {
         let mut text = Vec::new(alloc);
         let limits = append_period_report(alloc, &mut self.book, report, period, &mut text)?;
         tell_within(limits, text)
+    }
+
+    // Answers with the trail of a matter on a business day, or says why it is refused. Nothing changes.
+    fn answer_trail(
+        &mut self,
+        alloc: Global,
+        caller: &Caller,
+        no: MatterNo,
+        day: Day,
+    ) -> Result<Reply, Refusal>
+        ensures { (h : Heard) → kind_of h ≡ OnlyTold (trail_for caller.now no)
+            → IsAnswered day h result (B.seen self.old) (B.seen self.new) }
+    {
+        if is_not_of_firm(caller) {
+            return Err(Refusal::NotAllowed(Rule::Firm));
+        }
+        let trail = find_trail(alloc, &mut self.book, no, day)?;
+        tell_trail(trail)
     }
 
     // Answers with a list of the matters that a caller may see. Nothing changes.

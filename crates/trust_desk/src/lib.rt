@@ -10,7 +10,7 @@
 //!   text; nothing changes, after a crash neither (`IsAnswered`, `reconciliation_for`).
 //! - `Desk::answer`: over every book: reply and rows are those of the firm's step; or the store or memory stopped it,
 //!   which the reply says with the status 503, and nothing changed, except that the first items of an import may have
-//!   been applied (`step` of `replied`). The rows of every matter that the request does not concern stay (`others`);
+//!   been applied (`step` of `replied`). The rows and acts of every matter that it does not concern stay (`others`);
 //!   the reply is that of the matter's own machine (`own`). The book still stands for a sound firm, and an answer of
 //!   Store comes only if a call of the book answered Store, even if a fault has shut its store, in the call or before
 //!   (`kept` of `replied`). **A crash may leave what it might have left before, or the rows with the ask's change; of
@@ -24,6 +24,9 @@
 //!   rows, or by the first of NotAllowed, NoStatement (of a reconciliation and of month's end) and PeriodPurged that
 //!   holds. Store or Memory may stop each of them instead. None of them changes anything, and these requests name no
 //!   matter (by the same clauses). That the card's matter is read whole is the contract of a private function.
+//! - `Desk::answer`, of acts: who asks for a matter's acts is refused as who asks for the matter, and else answered in
+//!   JSON by exactly the body of the matter's acts (`acts_for`). This names the matter, and is answered by its own
+//!   machine, which knows its rows and its acts; nothing changes (by the same clauses).
 //! - `Desk::answer_beside`: the same as `replied`. No clause says what it keeps of the rows.
 //! - `Desk::match_statement`: over every book: a statement whose references may be empty is refused as an import of it
 //!   would be, or becomes the statement for the import and the records that are left, as the definition gives them for
@@ -62,6 +65,7 @@
 //! The laws of its runs are in the crate `desk_laws`, and those of the acts in `desk_trail`.
 #![tactic(auto)]
 
+mod acts;
 mod desk;
 mod exceptions;
 mod explaining;
@@ -73,7 +77,7 @@ mod watching;
 
 pub use book_reports::{
     AppliedLine, Checked, ClearedLine, ClearedLines, DayReport, EarlierWatch, Flaw, PaymentWatch,
-    PeriodReport, Report, RowCounts, RowWatch, Unread,
+    PeriodReport, Report, RowCounts, RowWatch, TrailCounts, TrailFlaw, TrailFound, Unread,
 };
 pub use desk::Desk;
 pub use importing::{Counted, ImportEnd, ImportStop};

@@ -1,7 +1,9 @@
 //! What is read of the desk's book beside its requests: the calls of `book_reports`, over the book that the desk keeps.
 
 ghost use Rattle.std.specs.Prelude.{◌≡◌, ◌↔◌, IfOk, IfSome, None, OnOk};
+ghost use Rattle.std.specs.Result.{result_err};
 ghost use Rattle.firm_audit.specs.Flaws.{IsFlawOf};
+ghost use Rattle.firm_audit.specs.Trails.{IsTrailFound};
 ghost use Rattle.firm_rows.specs.FirmSound.{FirmSound};
 ghost use Rattle.book_reports.specs.Checking.{AreCountsOf, AreReads};
 ghost use Rattle.trust_store.specs.Calls.{IsRead};
@@ -16,15 +18,17 @@ use trust_base::{Day, MatterNo, StoreFault};
 use trust_store::Book;
 
 impl<B: Book> Desk<B> {
-    /// Reads all rows of the book, and returns how many there are and what is not sound in them, as
-    /// `book_reports::check`, with its errors. The book is unchanged.
+    /// Reads all rows of the book, and returns how many there are and what is not sound in them, or whether the trail
+    /// fits them, as `book_reports::check`, with its errors. The book is unchanged.
     pub fn check(&mut self, alloc: Global) -> Result<Checked, StoreFault>
         ensures sound { (B.seen self.new).clean → (B.seen self.old).readable
-            → IfOk result (λ c. c.flaw ≡ None ↔ FirmSound (B.seen self.old).firm) }
+            → IfOk result (λ c. result_err c.found ≡ None ↔ FirmSound (B.seen self.old).firm) }
         ensures flaw { (B.seen self.new).clean → (B.seen self.old).readable
-            → IfOk result (λ c. IfSome c.flaw (IsFlawOf (B.seen self.old).firm)) }
+            → IfOk result (λ c. IfSome (result_err c.found) (IsFlawOf (B.seen self.old).firm)) }
         ensures counts { (B.seen self.new).clean → (B.seen self.old).readable
             → IfOk result (λ c. AreCountsOf (B.seen self.old).firm c.counts) }
+        ensures trail { (B.seen self.new).clean → (B.seen self.old).readable
+            → IfOk result (λ c. IfOk c.found (IsTrailFound (B.seen self.old).firm)) }
         ensures read { IsRead result (B.seen self.old) (B.seen self.new) }
     {
         check(alloc, &mut self.book)

@@ -4,9 +4,9 @@ ghost use Rattle.std.specs.Prelude.{◌≡◌, IfOk, false};
 ghost use Rattle.trust_desk.specs.Crashes.{is_fault_end};
 ghost use Rattle.trust_desk.specs.ImportStep.{IsChecked, import_refusal, is_not_of_firm};
 ghost use Rattle.trust_desk.specs.Replies.{is_fault_reply, reply_for, text_reply};
-ghost use Rattle.trust_desk.specs.ReportStep.{told_within};
+ghost use Rattle.trust_desk.specs.ReportStep.{told_trail, told_within};
 
-use book_reports::{DayReport, Limits, PeriodReport, Report};
+use book_reports::{DayReport, Limits, MatterTrail, PeriodReport, Report};
 use statement_csv::{Lines, ReadFault};
 use std::alloc::Global;
 use trust_base::{Day, Field, Line, MAX_FILE_BYTES, MatterNo, OwnedBytes, Period, Refusal, Rule};
@@ -63,6 +63,10 @@ pub enum Request {
     AsOf(Caller, DayReport, Day),
     /// A caller asks for a report on the firm of a period.
     Within(Caller, PeriodReport, Period),
+    /// A caller asks for the trail of a matter.
+    Trail(Caller, MatterNo),
+    /// A caller asks who did what in a matter.
+    Acts(Caller, MatterNo),
     /// A caller asks for a list of the matters that it may see.
     Listed(Caller, CallerList),
     /// A caller asks for the exceptions of the firm, each with its reason.
@@ -94,6 +98,8 @@ impl Drop for Request {
             | Request::Reconcile(_caller, _)
             | Request::AsOf(_caller, _, _)
             | Request::Within(_caller, _, _)
+            | Request::Trail(_caller, _)
+            | Request::Acts(_caller, _)
             | Request::Listed(_caller, _)
             | Request::Reasons(_caller) => (),
         }
@@ -177,6 +183,25 @@ pub(crate) fn tell_within(limits: Limits, text: Vec<u8>) -> Result<Reply, Refusa
     Ok(Reply {
         status: 200,
         body: Body::Text(OwnedBytes::new(text)),
+    })
+}
+
+/// The reply that tells the trail of a matter, unless it is refused.
+pub(crate) fn tell_trail(trail: MatterTrail) -> Result<Reply, Refusal>
+    ensures says { reply_for result
+        ≡ text_reply (told_trail trail.is_missing trail.is_purged trail.text.items) }
+    ensures plain { IfOk result (λ reply. is_fault_reply reply ≡ false) }
+    ensures fine { is_fault_end result ≡ false }
+{
+    if trail.is_missing {
+        return Err(Refusal::NoMatter);
+    }
+    if trail.is_purged {
+        return Err(Refusal::Purged);
+    }
+    Ok(Reply {
+        status: 200,
+        body: Body::Text(OwnedBytes::new(trail.text)),
     })
 }
 

@@ -7,6 +7,7 @@ pub mod TextsOfReconciliation
 pub mod TextsOfLedgers
 pub mod TextsOfPeriods
 pub mod TextsOfAccounts
+pub mod TextsOfActs
 pub use Rattle.firm_figures.specs.Clients
 pub use Rattle.firm_figures.specs.Lists
 pub use Rattle.firm_figures.specs.Figures

@@ -6,7 +6,7 @@ use Rattle.trust_reports.specs.declared.page.Piece.{Piece}
 use Rattle.trust_reports.specs.declared.page.Piece.TheVariants as piece
 use Rattle.trust_reports.specs.declared.page.Sum.{Sum}
 use Rattle.trust_reports.specs.declared.page.Sum.TheVariants as sum
-use Rattle.trust_reports.specs.Texts.{column, further, or_dash, owner_text, reference_text, words_shown}
+use Rattle.trust_reports.specs.Texts.{caller_text, column, further, or_dash, owner_text, place_text, reference_text, words_shown}
 
 abbrev pub sum_text : Sum → List ℕ
 sum_text (sum.Of z) = signed_text z
@@ -28,7 +28,10 @@ text_of (piece.Bank z) = signed_text z
 text_of (piece.Matter m) = matter_text m
 text_of (piece.Entry n) = entry_text n
 text_of (piece.Reference m n) = reference_text m n
+text_of (piece.Place m n) = place_text m n
 text_of (piece.Owner o) = owner_text o
+text_of (piece.Person p) = p.now
+text_of (piece.Caller c) = caller_text c.now
 
 -- a piece after another
 abbrev pub further_piece : Piece → List ℕ

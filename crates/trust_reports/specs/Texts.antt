@@ -1,8 +1,10 @@
 -- How a line of a report is laid out: its fields, their widths, and the texts of what it names.
-use Rattle.std.specs.Prelude.{ℕ, ◌-◌, List, [], ◌∷◌, ◌++◌, length, codes, map, replicate, flat_map, if◌then◌else◌, encode_utf8_all}
+use Rattle.std.specs.Prelude.{ℕ, ◌-◌, List, [], ◌∷◌, ◌++◌, length, codes, map, replicate, flat_map, Option, Some, None, if◌then◌else◌, encode_utf8_all}
 use Rattle.std.specs.Char.{is_control}
 use Rattle.std.specs.Str.{chars}
 use Rattle.trust_base.specs.Texts.{day_text, entry_text, matter_text}
+use Rattle.matter_rows.specs.declared.act.Caller.{Caller}
+use Rattle.matter_rows.specs.declared.act.Caller.TheVariants as caller
 use Rattle.firm_rows.specs.declared.movement.Owner.{Owner}
 use Rattle.firm_rows.specs.declared.movement.Owner.TheVariants as owner
 
@@ -41,10 +43,20 @@ column label_places figure_places label figure =
 abbrev pub reference_text : ℕ → ℕ → List ℕ
 reference_text matter entry = 77 ∷ (matter_text matter ++ 45 ∷ entry_text entry)
 
+-- a matter, `M` and its six digits, or an entry of it
+abbrev pub place_text : ℕ → Option ℕ → List ℕ
+place_text m None = 77 ∷ matter_text m
+place_text m (Some n) = reference_text m n
+
 -- whose money was moved
 abbrev pub owner_text : Owner → List ℕ
 owner_text (owner.Matter matter entry) = reference_text matter entry
 owner_text owner.Firm = codes "FIRM"
+
+-- who did something
+abbrev pub caller_text : Caller → List ℕ
+caller_text caller.Cashier = codes "cashier"
+caller_text (caller.Person person) = person
 
 -- The text of a bank line.
 

@@ -78,6 +78,14 @@ payment_state (payment.Issued day) = codes "ISSUED" ∷ day_text day ∷ []
 payment_state (payment.Cleared c) = codes "ISSUED" ∷ day_text c.issued ∷ told (codes "CLEARED") c.clearing
 payment_state (payment.Voided v) = codes "ISSUED" ∷ day_text v.issued ∷ codes "VOIDED" ∷ day_text v.undone ∷ []
 
+-- what became of an issued payment: the bank paid it, or it was voided
+abbrev pub end_fields : PaymentState → List (List ℕ)
+end_fields payment.Proposed = []
+end_fields payment.Declined = []
+end_fields (payment.Issued day) = []
+end_fields (payment.Cleared c) = told (codes "CLEARED") c.clearing
+end_fields (payment.Voided v) = codes "VOIDED" ∷ day_text v.undone ∷ []
+
 -- what a payment is paid from
 abbrev pub fund_fields : Fund → List (List ℕ)
 fund_fields fund.General = codes "FROM GENERAL" ∷ []

@@ -4,8 +4,9 @@ ghost use Rattle.std.specs.Prelude.{◌≡◌, [], ◌∷◌, ◌++◌, OnOk, co
 ghost use Rattle.trust_base.specs.Texts.{amount_text, day_text, entry_text};
 ghost use Rattle.trust_reports.specs.Texts.{further};
 ghost use Rattle.trust_reports.specs.TextsOfLedgers.{against_fields, barred, claim_fields, claim_state, deposit_fields};
-ghost use Rattle.trust_reports.specs.TextsOfLedgers.{deposit_names, deposit_state, entry_fields, fee_fields, fund_fields};
-ghost use Rattle.trust_reports.specs.TextsOfLedgers.{kept_line, made, payment_fields, payment_names, payment_state, told};
+ghost use Rattle.trust_reports.specs.TextsOfLedgers.{deposit_names, deposit_state, end_fields, entry_fields};
+ghost use Rattle.trust_reports.specs.TextsOfLedgers.{fee_fields, fund_fields, kept_line, made, payment_fields};
+ghost use Rattle.trust_reports.specs.TextsOfLedgers.{payment_names, payment_state, told};
 
 use crate::page::{Page, Piece, Printed, push_fields, push_word};
 use std::alloc::AllocError;
@@ -102,6 +103,18 @@ fn push_payment_state(page: &mut Page, state: &PaymentState) -> Result<(), Alloc
             push_told(page, "CLEARED", &paid.clearing)
         }
         PaymentState::Voided(voided) => push_voided(page, *voided),
+    }
+}
+
+/// Appends what became of an issued payment.
+pub(crate) fn push_end(page: &mut Page, state: &PaymentState) -> Result<(), AllocError>
+    ensures before { page.new.before ≡ page.old.before }
+    ensures text { OnOk result (page.new.text ≡ page.old.text ++ flat_map further (end_fields state.now)) }
+{
+    match state {
+        PaymentState::Proposed | PaymentState::Declined | PaymentState::Issued(_) => Ok(()),
+        PaymentState::Cleared(paid) => push_told(page, "CLEARED", &paid.clearing),
+        PaymentState::Voided(voided) => push_dated(page, "VOIDED", voided.undone),
     }
 }
 

@@ -4,7 +4,7 @@
 ghost use Rattle.std.specs.Prelude.{◌≡◌, [], ◌∷◌, ◌++◌, replicate, flat_map, encode_utf8, if◌then◌else◌, OnOk, OnErr};
 ghost use Rattle.trust_base.specs.Texts.{amount_text, day_text, matter_text, signed_text};
 ghost use Rattle.trust_reports.specs.Texts.{column, further, heading, left_in, or_dash, reference_text, right_in};
-ghost use Rattle.trust_reports.specs.Texts.{shown, shown_text, words_shown};
+ghost use Rattle.trust_reports.specs.Texts.{place_text, shown, shown_text, words_shown};
 ghost use Rattle.trust_reports.specs.Pieces.{further_piece, row_text, sum_text, text_of};
 
 use arrayvec::ArrayVec;
@@ -16,8 +16,9 @@ use std::marker::Model;
 use std::mem;
 use trust_base::{
     BankAmount, BankText, Cents, CentsOrZero, CivilDay, Day, EntryNo, Label, LineText, MatterNo,
-    day_bytes,
+    PersonId, day_bytes,
 };
+use trust_matter::Caller;
 
 /// A report being appended to the content of a vector.
 ///
@@ -169,7 +170,12 @@ pub(crate) enum Piece<'a> {
     Entry(EntryNo),
     /// An entry of a matter.
     Reference(MatterNo, EntryNo),
+    /// A matter, or an entry of it.
+    Place(MatterNo, Option<EntryNo>),
     Owner(Owner),
+    Person(&'a PersonId),
+    /// Who did something.
+    Caller(&'a Caller),
 }
 
 /// The six digits of a matter's number.
@@ -195,6 +201,19 @@ fn push_reference(page: &mut Page, matter: MatterNo, entry: EntryNo) -> Result<(
     page.push(&matter_digits(matter))?;
     page.push(b"-")?;
     page.push(&entry.digits())
+}
+
+fn push_place(page: &mut Page, matter: MatterNo, entry: Option<EntryNo>) -> Result<(), AllocError>
+    ensures before { page.new.before ≡ page.old.before }
+    ensures text { OnOk result (page.new.text ≡ page.old.text ++ place_text matter entry) }
+{
+    match entry {
+        Some(entry) => push_reference(page, matter, entry),
+        None => {
+            page.push(b"M")?;
+            page.push(&matter_digits(matter))
+        }
+    }
 }
 
 fn push_or_dash(page: &mut Page, text: &[u8]) -> Result<(), AllocError>
@@ -294,8 +313,12 @@ fn push_piece(page: &mut Page, piece: &Piece<'_>) -> Result<(), AllocError>
         Piece::Matter(matter) => page.push(&matter_digits(*matter)),
         Piece::Entry(entry) => page.push(&entry.digits()),
         Piece::Reference(matter, entry) => push_reference(page, *matter, *entry),
+        Piece::Place(matter, entry) => push_place(page, *matter, *entry),
         Piece::Owner(Owner::Matter { matter, entry }) => push_reference(page, *matter, *entry),
         Piece::Owner(Owner::Firm) => page.push(b"FIRM"),
+        Piece::Person(person) => page.push(person.as_slice()),
+        Piece::Caller(Caller::Cashier) => page.push(b"cashier"),
+        Piece::Caller(Caller::Person(person)) => page.push(person.as_slice()),
     }
 }
 

@@ -1,5 +1,6 @@
 use Rattle.book_reports.proofs.Names.{◌≡◌, fold, ap, rules, ◌∙◌, Firm, no_journal, trial_kept, with_moved, with_trial_own, with_trial_row, none_retained, with_row_retained, own_card_text, exception_line, exceptions_text, journal_text, retention_text, trial_text, own_card_report, arith, ints, nat_tests}
-use Rattle.book_reports.proofs.ReportTexts.{exceptions-told, handed-before, journal-told, retention-told, trial-told}
+use Rattle.trust_reports.specs.TextsOfActs.{act_line, trail_text}
+use Rattle.book_reports.proofs.ReportTexts.{exceptions-told, handed-before, journal-told, retention-told, trail-told, trial-told}
 use Rattle.book_reports.proofs.business_day.find_report.Goals as goal
 
 pub returns-in_ok-each_exception-in-Exceptions-clause-told : goal.returns-in_ok-each_exception-in-Exceptions-clause-told
@@ -38,3 +39,7 @@ returns-in_ok-retention_text-in-Retention-clause-told g c =
 pub returns-in_ok-own_card_text-in-OwnLedger-clause-told : goal.returns-in_ok-own_card_text-in-OwnLedger-clause-told
 unfolding own_card_report
 returns-in_ok-own_card_text-in-OwnLedger-clause-told g c = grind (arith, ints, nat_tests, own_card_text)
+
+pub returns-in_ok-each_act-in-Trail-clause-told : goal.returns-in_ok-each_act-in-Trail-clause-told
+returns-in_ok-each_act-in-Trail-clause-told g c =
+    grind (arith, ints, nat_tests, fold, act_line, trail_text, trail-told)

@@ -1,7 +1,6 @@
-use Rattle.book_reports.proofs.Names.{◌≡◌, ◌∙◌, ◌++◌, ap, sym, refl, is_none, text_of, None, append-nil, arith, ints, nat_tests}
+use Rattle.book_reports.proofs.Names.{◌∙◌, ◌++◌, ap, sym, refl, is_none, text_of, None, append-nil}
 use Rattle.std.specs.Option.{option_map}
 use Rattle.trust_reports.specs.Reconciliations.{told}
-use Rattle.trust_reports.specs.TextsOfReconciliation.{reconciliation_text}
 use Rattle.book_reports.proofs.ReconciliationAnswers.{closings-kept, stated}
 use Rattle.book_reports.proofs.day_reports.append_reconciliation.Goals as goal
 

@@ -1,4 +1,4 @@
-use Rattle.book_reports.proofs.Names.{Ok, IsRead, arith, ints, nat_tests, counted}
+use Rattle.book_reports.proofs.Names.{arith, ints, nat_tests, counted}
 use Rattle.book_reports.proofs.ReadCalls.{read-then}
 use Rattle.book_reports.proofs.ReconciliationAnswers.{rows-kept}
 use Rattle.book_reports.proofs.day_reports.read_reconciliation.Goals as goal

@@ -1,6 +1,5 @@
 -- Each item of a statement is counted, once.
 use Rattle.desk_laws.proofs.Names.{◌≡◌, ℕ, ◌+◌, List, [], ◌∷◌, length, arith, ◌∙◌, Firm, Item, ImportReply, Counted, after_item, counted_of, none_counted, count_item, counts_after, count_sum, ints, nat_tests}
-use Rattle.trust_desk.specs.declared.importing.Counted.TheVariants as counted
 use Rattle.desk_laws.proofs.laws.every_item_is_counted.Goals as goal
 
 sum-one : (it : Item) (k : Counted) (c : ImportReply) → count_sum (count_item it k c) ≡ count_sum c + 1

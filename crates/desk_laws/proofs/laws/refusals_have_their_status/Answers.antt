@@ -1,5 +1,7 @@
 -- The status of a reply whose body is a refusal.
 use Rattle.desk_laws.proofs.Names.{◌≡◌, inl, inr, ℕ, Bool, true, false, cond, List, Option, Result, sym, ap, subst, MatchBool, status_of, Refusal, Asked, is_text, dismiss_refusal, dismiss_reply, Json, Refused, Text, Rows, refusal, Firm, of, ImportReply, Kind, OfMatter, OfItems, Dismisses, OnlyShown, OnlyTold, NotRead, kind_of, asked_on, import_reply, counts_after, none_counted, is_fault_reply, refused, replied, json_reply, text_reply, HasItsStatus, IsStopped, firm_step, kind_step, arith, ints, nat_tests}
+use Rattle.trust_desk.specs.Acts.{acts_for, dossier_of}
+use Rattle.trust_desk.specs.Heard.{OfActs}
 use Rattle.desk_laws.proofs.laws.refusals_have_their_status.Goals as goal
 
 refused-status : (r : Refusal) → HasItsStatus (refused r)
@@ -26,6 +28,7 @@ json-status told = grind (arith, ints, nat_tests, refused-status)
 step-status : (day : ℕ) (firm : Firm) (k : Kind) → HasItsStatus (kind_step day firm k).reply
 step-status day firm (OfMatter m caller ask) =
     let a = asked_on day caller ask in replied-status (refusal (of m firm) a) m (of m firm) a
+step-status day firm (OfActs m caller) = json-status (acts_for caller day (dossier_of m firm))
 step-status day firm (OfItems refused items) = import-status refused (counts_after day firm items none_counted)
 step-status day firm (Dismisses caller line) = dismiss-status (dismiss_refusal caller line firm)
 step-status day firm (OnlyTold text) = text-status (text day firm)

@@ -1,5 +1,6 @@
 use Rattle.trust_desk.proofs.Names.{Asks}
-use Rattle.trust_desk.proofs.Own.{keeps-others, own-once}
+use Rattle.trust_desk.proofs.Own.{own-once}
+use Rattle.trust_desk.proofs.OwnDossiers.{keeps-others}
 use Rattle.trust_desk.proofs.desk.Desk.answer.Goals as goal
 
 pub returns-clause-others : goal.returns-clause-others

@@ -1,4 +1,4 @@
-use Rattle.trust_desk.proofs.Names.{◌≡◌, ◌∙◌, ◌++◌, ap, sym, Ok, IsRead, subst, text_reply}
+use Rattle.trust_desk.proofs.Names.{◌∙◌, ◌++◌, ap, sym, Ok, IsRead, subst, text_reply}
 use Rattle.book_reports.specs.ReportTexts.{day_report_text, is_day_report_purged, lacks_statement}
 use Rattle.trust_desk.specs.ReportStep.{day_report_for}
 use Rattle.book_reports.specs.DayReports.{IsAppended}

@@ -1,4 +1,4 @@
-use Rattle.trust_desk.proofs.Names.{◌≡◌, ◌∙◌, ◌++◌, ap, sym, false, Ok, IsRead, subst, text_reply}
+use Rattle.trust_desk.proofs.Names.{◌∙◌, ◌++◌, ap, sym, false, Ok, IsRead, subst, text_reply}
 use Rattle.book_reports.specs.ReportTexts.{period_report_text}
 use Rattle.trust_desk.specs.ReportStep.{period_report_for}
 use Rattle.book_reports.specs.DayReports.{IsAppended}

@@ -1,4 +1,4 @@
-use Rattle.trust_desk.proofs.Names.{◌≡◌, ◌∙◌, ◌++◌, ap, sym, Ok, IsRead, subst, text_reply}
+use Rattle.trust_desk.proofs.Names.{◌∙◌, ◌++◌, ap, sym, Ok, IsRead, subst, text_reply}
 use Rattle.trust_desk.specs.ReportStep.{reconciliation_for}
 use Rattle.book_reports.specs.DayReports.{IsAppended}
 use Rattle.book_reports.specs.Reports.{has_no_statement, is_period_purged, reconciliation_report}

@@ -1,8 +1,8 @@
--- Each matter's dossier in a run of the firm is that of its own machine.
+-- Each matter's dossier in a step of the firm is that of its own machine.
 use Rattle.std.proofs.Common.{◌≡◌, ◌≢◌, ℕ, Bool, true, false, List, [], ◌∷◌, ◌++◌, Option, Some, None, refl, sym, ap, ◌∙◌, subst}
 use Rattle.std.specs.List.{list_any}
 use Rattle.std.specs.Prelude.{MatchBool, ◌==◌}
-use Rattle.std.proofs.lemmas.Bool.{cond_both, eqb-false, eqb-true, false≢true}
+use Rattle.std.proofs.lemmas.Bool.{cond_both, eqb-false, eqb-true}
 use Rattle.trust_base.specs.declared.line.Line.{Line}
 use Rattle.trust_base.specs.declared.refusal.Refusal.{Refusal}
 use Rattle.matter_parts.specs.Changes.{last_after}
@@ -23,16 +23,18 @@ use Rattle.statement_csv.specs.declared.item.Item.{Item}
 use Rattle.statement_csv.specs.declared.item.Item.TheVariants as item
 use Rattle.trail_laws.specs.Dossier.{Dossier, dossier_after, dossier_after_line}
 use Rattle.trail_laws.proofs.Added.{dossier-by-line}
-use Rattle.trust_desk.proofs.Own.{of-after_asked}
+use Rattle.trust_desk.proofs.OwnActs.{acts-asked, acts-other, acts-told}
+use Rattle.trust_desk.proofs.OwnRows.{of-after_asked}
 use Rattle.trust_desk.proofs.OwnItems.{none-front, none-items}
+use Rattle.trust_desk.specs.Acts.{dossier_of}
 use Rattle.trust_desk.specs.Dismissing.{dismiss_refusal, dismissed_unless}
 use Rattle.trust_desk.specs.declared.requests.Reply.{Reply}
 use Rattle.trust_desk.specs.FirmStep.{IsStopped, KindStopped, Steps, after_ask, after_asked, firm_step, kind_step}
-use Rattle.trust_desk.specs.Heard.{Heard, Kind, OfMatter, OfItems, Dismisses, OnlyTold, OnlyShown, NotRead, Own, OwnAsk, OwnLine, OwnRefusal, asked_on, concerns, is_the, kind_concerns, kind_of, kind_own, own_if, own_of, own_of_item, own_of_items, project}
+use Rattle.trust_desk.specs.Heard.{Heard, Kind, OfMatter, OfActs, OfItems, Dismisses, OnlyTold, OnlyShown, NotRead, Own, OwnAsk, OwnActs, OwnLine, OwnRefusal, asked_on, is_the, kind_concerns, kind_of, kind_own, own_if, own_of_item, own_of_items}
+use Rattle.trust_desk.specs.Isolation.{KeepsOthers}
 use Rattle.trust_desk.specs.ItemStep.{after_item, after_items, after_told, balance_on, firm_line_on, names_item, told_act}
 use Rattle.trust_desk.specs.Replies.{is_fault_reply}
-use Rattle.desk_trail.specs.Dossiers.{EachDossierOwn, OthersActsStay, SameDossiers, dossier_of, own_dossier, solo_dossier}
-use Rattle.desk_trail.proofs.OwnActs.{acts-asked, acts-other, acts-told}
+use Rattle.trust_desk.specs.Solo.{own_dossier, solo_dossier}
 
 -- An ask is seen in its matter, and in no other.
 
@@ -104,7 +106,7 @@ own-item m day firm (item.OfFirm line) = firm_line-none m line (firm_line_on fir
 own-item m day firm (item.Stray line) = refl
 own-item m day firm (item.Unreadable number) = refl
 
-solo-append : (p : Dossier) (xs ys : List Own) → solo_dossier p (xs ++ ys) ≡ solo_dossier (solo_dossier p xs) ys
+pub solo-append : (p : Dossier) (xs ys : List Own) → solo_dossier p (xs ++ ys) ≡ solo_dossier (solo_dossier p xs) ys
 solo-append p [] ys = refl
 solo-append p (x ∷ xs) ys = solo-append (own_dossier p x) xs ys
 
@@ -121,9 +123,10 @@ dismissed-none : (m : ℕ) (o : Option Refusal) (line : Line) (firm : Firm) → 
 dismissed-none m None line firm = refl
 dismissed-none m (Some r) line firm = refl
 
-refused-none : (b : Bool) (r : Refusal) (p : Dossier) → p ≡ solo_dossier p (own_if b (OwnRefusal r))
-refused-none true r p = refl
-refused-none false r p = refl
+-- what is only asked for, and what is refused, leave it
+left-none : (b : Bool) (own : Own) (p : Dossier) → own_dossier p own ≡ p → p ≡ solo_dossier p (own_if b own)
+left-none true own p same = sym same
+left-none false own p same = refl
 
 pub kind-dossier : (m day : ℕ) (firm : Firm) (k : Kind) → dossier_of m (kind_step day firm k).firm ≡ solo_dossier (dossier_of m firm) (kind_own m day k)
 kind-dossier m day firm (OfMatter n caller ask) =
@@ -132,16 +135,18 @@ kind-dossier m day firm (OfMatter n caller ask) =
     (λ owns. dossier_of m (after_ask n a firm) ≡ solo_dossier (dossier_of m firm) owns)
     (λ same. subst (λ (k : ℕ). dossier_of k (after_ask n a firm) ≡ dossier_after (dossier_of k firm) a) (eqb-true n m same) (own-asked n a firm))
     (λ other. other-asked (refusal (of n firm) a) m n a firm (λ same. eqb-false n m other (sym same)))
+kind-dossier m day firm (OfActs n caller) = left-none (n == m) (OwnActs caller day) (dossier_of m firm) refl
 kind-dossier m day firm (OfItems refused items) = own-items m day firm items
 kind-dossier m day firm (Dismisses caller line) = dismissed-none m (dismiss_refusal caller line firm) line firm
 kind-dossier m day firm (OnlyTold text) = refl
 kind-dossier m day firm (OnlyShown json) = refl
-kind-dossier m day firm (NotRead named r) = refused-none (is_the m named) r (dossier_of m firm)
+kind-dossier m day firm (NotRead named r) = left-none (is_the m named) (OwnRefusal r) (dossier_of m firm) refl
 
 -- What does not concern a matter.
 
-none-own : (m day : ℕ) (k : Kind) → kind_concerns m k ≡ false → kind_own m day k ≡ []
+pub none-own : (m day : ℕ) (k : Kind) → kind_concerns m k ≡ false → kind_own m day k ≡ []
 none-own m day (OfMatter n caller ask) other = ap (λ b. own_if b (OwnAsk (asked_on day caller ask))) other
+none-own m day (OfActs n caller) other = ap (λ b. own_if b (OwnActs caller day)) other
 none-own m day (OfItems refused items) other = none-items m day items other
 none-own m day (Dismisses caller line) other = refl
 none-own m day (OnlyTold text) other = refl
@@ -149,7 +154,7 @@ none-own m day (OnlyShown json) other = refl
 none-own m day (NotRead named r) other = ap (λ b. own_if b (OwnRefusal r)) other
 
 -- what was stopped leaves its dossier
-stopped-other : (m day : ℕ) (firm new : Firm) (k : Kind) → KindStopped day firm k new → kind_concerns m k ≡ false → dossier_of m new ≡ dossier_of m firm
+pub stopped-other : (m day : ℕ) (firm new : Firm) (k : Kind) → KindStopped day firm k new → kind_concerns m k ≡ false → dossier_of m new ≡ dossier_of m firm
 stopped-other m day firm new (OfItems refused items) is other =
     let left = is.1 in
     let whole : list_any (names_item m) (left.front ++ is.0) ≡ false = ap (list_any (names_item m)) left.parts ∙ other in
@@ -158,37 +163,13 @@ stopped-other m day firm new (OfItems refused items) is other =
     ∙ ap (solo_dossier (dossier_of m firm)) (none-items m day left.front (none-front m left.front is.0 whole)))
 stopped-other m day firm new _ is other = ap (dossier_of m) is
 
-made-other : (m day : ℕ) (firm : Firm) (k : Kind) → kind_concerns m k ≡ false → dossier_of m (kind_step day firm k).firm ≡ dossier_of m firm
+pub made-other : (m day : ℕ) (firm : Firm) (k : Kind) → kind_concerns m k ≡ false → dossier_of m (kind_step day firm k).firm ≡ dossier_of m firm
 made-other m day firm k other = kind-dossier m day firm k ∙ ap (solo_dossier (dossier_of m firm)) (none-own m day k other)
 
-pub others-acts_stay : OthersActsStay
-others-acts_stay m day firm new h reply other step = ap (λ (p : Dossier). p.acts) (cases (is_fault_reply reply) step)
+-- nor does a step, whatever stopped it
+pub keeps-others : (day : ℕ) (firm new : Firm) (h : Heard) (reply : Reply) → Steps day firm h reply new → KeepsOthers firm h new
+keeps-others day firm new h reply step m other = cases (is_fault_reply reply) step
   where
     cases : (b : Bool) → MatchBool b (IsStopped day firm h reply new) ((reply ≡ (firm_step day firm h).reply) × (new ≡ (firm_step day firm h).firm)) → dossier_of m new ≡ dossier_of m firm
     cases true is = stopped-other m day firm new (kind_of h) is.leaves other
     cases false is = ap (dossier_of m) is.1 ∙ made-other m day firm (kind_of h) other
-
--- A run.
-
-step-own : (m day : ℕ) (firm new : Firm) (h : Heard) (reply : Reply) → (concerns m h ≡ true → is_fault_reply reply ≡ false) → Steps day firm h reply new → dossier_of m new ≡ solo_dossier (dossier_of m firm) (own_of m day h)
-step-own m day firm new h reply fine step = cases (concerns m h) refl (is_fault_reply reply) refl step
-  where
-    cases : (c : Bool) → concerns m h ≡ c → (b : Bool) → is_fault_reply reply ≡ b → MatchBool b (IsStopped day firm h reply new) ((reply ≡ (firm_step day firm h).reply) × (new ≡ (firm_step day firm h).firm)) → dossier_of m new ≡ solo_dossier (dossier_of m firm) (own_of m day h)
-    cases c is false faultless to = ap (dossier_of m) to.1 ∙ kind-dossier m day firm (kind_of h)
-    cases true is true fault stopped = absurd (false≢true (sym (fine is) ∙ fault))
-    cases false is true fault stopped =
-        stopped-other m day firm new (kind_of h) stopped.leaves is
-        ∙ sym (ap (solo_dossier (dossier_of m firm)) (none-own m day (kind_of h) is))
-
-pub each-dossier_own : EachDossierOwn
-each-dossier_own m day firm [] [] new fine run = ap (dossier_of m) run
-each-dossier_own m day firm (h ∷ hs) (reply ∷ replies) new fine run =
-    each-dossier_own m day run.0 hs replies new fine.1 run.2
-    ∙ (ap (λ (p : Dossier). solo_dossier p (project m day hs)) (step-own m day firm run.0 h reply fine.0 run.1)
-    ∙ sym (solo-append (dossier_of m firm) (own_of m day h) (project m day hs)))
-each-dossier_own m day firm _ _ new fine run = absurd run
-
-pub same-dossiers : SameDossiers
-same-dossiers m d e f g ps qs rs ss f' g' same heard fine well here there =
-    each-dossier_own m d f ps rs f' fine here
-    ∙ ((λ i. solo_dossier (same i) (heard i)) ∙ sym (each-dossier_own m e g qs ss g' well there))

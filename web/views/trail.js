@@ -1,0 +1,77 @@
+// Who did what in a matter, for all who may read it.
+
+import { refusedBox } from '../boxes.js';
+import { actsPath } from '../desk.js';
+import { el, label, link, number, p, printed } from '../elements.js';
+import { column, longTable } from '../tables.js';
+import { actWords } from '../words.js';
+import { entryLink } from './lists.js';
+
+// So many acts are shown first.
+const FIRST = 200;
+
+const DONE = 'Who did what';
+const CUT = 'Earlier acts are not recorded.';
+const UNREAD = 'Who did what could not be read.';
+
+// By these an entry was made.
+const MAKING = ['deposited', 'proposed', 'earned', 'disputed', 'claimed'];
+
+const COLUMNS = [column('Day', 'tight'), column('Entry', 'tight'), column('Who', 'tight'), column('What')];
+
+// A matter's acts. Where they can't be had, what else a view has is shown all the same.
+export async function readActs(page, matter) {
+    const answer = await page.desk.read(actsPath(matter));
+    return answer.isDone ? answer.body.acts : null;
+}
+
+const ofEntry = (acts, no) => acts.filter(({ entry }) => entry === no);
+
+// A line of the bank is imported by the cashier, who decides nothing by it.
+const isOfBank = ({ deed }) => deed === 'cleared' || deed === 'returned';
+
+// Those who made an entry what it is, each once, in the order in which they came; a dash if no act says so.
+export function doersOf(acts, no) {
+    const doers = ofEntry(acts ?? [], no).filter((act) => !isOfBank(act)).map(({ caller }) => caller);
+    return [...new Set(doers)].join(', ') || '-';
+}
+
+// Who did what to an entry. An entry that is older than the trail has no act by which it was made.
+export function doneTable(acts, no) {
+    if (!acts) return p(UNREAD);
+    const items = ofEntry(acts, no);
+    const isCut = !items.some(({ deed }) => MAKING.includes(deed));
+    return [
+        isCut && p(CUT),
+        longTable({
+            caption: DONE,
+            columns: COLUMNS.filter(({ name }) => name !== 'Entry'),
+            items,
+            cells: (act) => [number(act.day), label(act.caller), actWords(act)],
+            first: FIRST,
+        }),
+    ];
+}
+
+export const unreadNote = (acts) => !acts && p(UNREAD);
+
+// What the cashier prints is the text, which the firm files; all others print the table.
+async function toPrint(page, matter, table) {
+    if (page.person !== 'cashier') return table;
+    const path = `/firm/trail/${matter}`;
+    const answer = await page.desk.read(path);
+    if (!answer.isDone) return [table, refusedBox(answer, page.person)];
+    return [el('div', { class: 'on-screen' }, table), printed(answer.text, path, `trail-${matter}.txt`)];
+}
+
+export async function matterTrail(page, matter) {
+    const answer = await page.desk.read(actsPath(matter));
+    const title = ['Trail of matter ', number(matter)];
+    const back = p(link(`#/m/${matter}`, 'The matter'));
+    if (!answer.isDone) return { title, parts: [refusedBox(answer, page.person), back] };
+    const { acts, earlier } = answer.body;
+    const cells = (act) => [number(act.day), act.entry && entryLink({ matter, entry: act.entry }), label(act.caller),
+        actWords(act)];
+    const table = longTable({ caption: DONE, columns: COLUMNS, items: acts, cells, first: FIRST });
+    return { title, parts: [earlier && p(CUT), await toPrint(page, matter, table), back] };
+}
