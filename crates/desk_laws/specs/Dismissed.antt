@@ -10,7 +10,7 @@ use Rattle.trust_desk.specs.Dismissing.{dismiss_refusal}
 use Rattle.trust_desk.specs.FirmStep.{firm_step}
 use Rattle.trust_desk.specs.Heard.{Asks}
 
--- only the exceptions change
+-- only the exceptions and the dismissals change
 pub record KeepsAllElse (firm new : Firm) : Type 0 where
   pub rows : new.rows ≡ firm.rows
   pub movements : new.movements ≡ firm.movements

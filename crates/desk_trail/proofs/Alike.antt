@@ -97,9 +97,9 @@ counts-alike day (it ∷ items) c f g same =
 
 -- A step.
 
-dismissed-unsigned : (o : Option Refusal) (line : Line) → Ignores (λ (f : Firm). unsigned (dismissed_unless o line f))
-dismissed-unsigned None line acts firm = refl
-dismissed-unsigned (Some r) line acts firm = refl
+dismissed-unsigned : (day : ℕ) (o : Option Refusal) (line : Line) → Ignores (λ (f : Firm). unsigned (dismissed_unless day o line f))
+dismissed-unsigned day None line acts firm = refl
+dismissed-unsigned day (Some r) line acts firm = refl
 
 pub made-alike : (day : ℕ) (k : Kind) (f g : Firm) → unsigned f ≡ unsigned g
     → unsigned (kind_step day f k).firm ≡ unsigned (kind_step day g k).firm
@@ -108,6 +108,6 @@ made-alike day (OfMatter m caller ask) f g same =
     alike (λ (x : Firm). unsigned (after_ask m a x)) (ask-unsigned m a) f g same
 made-alike day (OfItems refused items) f g same = items-alike day items f g same
 made-alike day (Dismisses caller line) f g same =
-    alike (λ (x : Firm). unsigned (after_dismissing caller line x))
-    (λ acts firm. dismissed-unsigned (dismiss_refusal caller line firm) line acts firm) f g same
+    alike (λ (x : Firm). unsigned (after_dismissing day caller line x))
+    (λ acts firm. dismissed-unsigned day (dismiss_refusal caller line firm) line acts firm) f g same
 made-alike day _ f g same = same

@@ -1,5 +1,5 @@
 -- No text of a firm depends on its acts, unless it shows them.
-use Rattle.std.proofs.Common.{◌≡◌, ℕ, Bool, true, false, List, refl, sym}
+use Rattle.std.proofs.Common.{◌≡◌, ℕ, true, false, List, refl, sym}
 use Rattle.std.proofs.lemmas.Bool.{false≢true}
 use Rattle.trust_base.specs.Periods.{Span}
 use Rattle.matter_rows.specs.declared.act.Caller.{Caller}

@@ -2,6 +2,7 @@ pub mod Acts
 pub mod Back
 pub mod Balances
 pub mod Becomes
+pub mod Dismissals
 pub mod Empty
 pub mod EntriesMade
 pub mod EntryFind
