@@ -83,16 +83,22 @@ export const readApprovals = (text) => linesOf(text).slice(1).map((line) => {
     return { day, reference, amount, approver: approver === '-' ? null : approver, end, endDay, bankRef, words };
 });
 
-// The acts of a trail, and whether it says that earlier ones are not recorded.
-export function readTrail(text) {
-    const [, ...lines] = linesOf(text);
-    const isCut = lines[0] === 'EARLIER ACTS ARE NOT RECORDED';
-    const acts = lines.slice(isCut ? 1 : 0).map((line) => {
-        const [day, reference, caller, deed, ...more] = line.split(' ');
-        return { day, reference, caller, deed, more };
-    });
-    return { isCut, acts };
+const DISMISSED = /^(\d{4}-\d\d-\d\d) - (\S+) DISMISSED (.*)$/su;
+
+// A line of the firm's trail: an act, or, where it has a line of the bank, an exception that was dismissed.
+function readDone(text) {
+    const dismissed = DISMISSED.exec(text);
+    if (dismissed) {
+        const [, day, caller, line] = dismissed;
+        return { day, caller, line };
+    }
+    const [day, reference, caller, deed, ...more] = text.split(' ');
+    return { day, reference, caller, deed, more };
 }
+
+// What was done, by the business day, of one day the acts first.
+export const readTrail = (text) =>
+    linesOf(text).slice(1).map(readDone).sort((one, other) => one.day.localeCompare(other.day));
 
 const BALANCED = /^(\d{4}-\d\d-\d\d) (M\d{6}-\d{4}) (-?\d+\.\d\d) (-?\d+\.\d\d) ([A-Z]+)$/;
 

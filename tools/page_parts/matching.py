@@ -273,6 +273,13 @@ def take_a_slip_back(bank: Bank) -> None:
     left = bank.firm.desk.ask("cashier", "GET", "/firm/exceptions")[1]
     slips = [slip for slip in ("S1", "S2", "S3", "S4") if f" {slip} " in left]
     bank.checks.same("the slips that are left", slips, [])
+    trail = Browser("cashier", bank.firm.origin)
+    trail.to("#/report/trail")
+    trail.settle()
+    text = trail.text()
+    for words in ("cashier dismissed the exception", "- cashier DISMISSED"):
+        bank.checks.so(f"the trail has {words!r}", words in text, text)
+    trail.quit()
 
 
 def see_spiteful_words(bank: Bank) -> None:

@@ -2,7 +2,7 @@
 use Rattle.std.proofs.Common.{inl, inr, ◌≡◌, [], Option, None, sym, subst}
 use Rattle.std.specs.Prelude.{◌↔◌, IfSome}
 use Rattle.std.proofs.lemmas.Option.{IfSome_then}
-use Rattle.firm_rows.proofs.Acts.{sound-acts}
+use Rattle.firm_rows.proofs.Dismissals.{sound-trail}
 use Rattle.firm_rows.specs.Firm.{Firm}
 use Rattle.firm_rows.specs.FirmSound.{FirmSound}
 use Rattle.trust_store.specs.declared.all_rows.AllRows.{AllRows}
@@ -12,14 +12,14 @@ use Rattle.firm_audit.specs.declared.flaw.Flaw.{Flaw}
 use Rattle.firm_audit.proofs.Refuted.{none_of_matters}
 
 module _ (rows : AllRows) (firm : Firm) (same : firm_of_all rows ≡ firm) (whole : AreKeptWhole rows.matters.items) where
-  -- the firm that has these rows, but for its acts
-  abbrev without_acts : Firm
-  without_acts = firm_of rows.matters.items rows.movements.items rows.firm_lines.items rows.exceptions.items rows.balances.items
+  -- the firm that has these rows, but for its trail
+  abbrev without_trail : Firm
+  without_trail = firm_of rows.matters.items rows.movements.items rows.firm_lines.items rows.exceptions.items rows.balances.items
 
   pub checked-sound : (flaw : Option Flaw) → (flaw ≡ None ↔ AreSound rows) → (flaw ≡ None ↔ FirmSound firm)
   checked-sound flaw sound = (
-    λ none. subst FirmSound same (sound-acts rows.acts.items without_acts (sound.0 none).firm),
-    λ so. sound.1 (record { matters = whole; firm = sound-acts [] (firm_of_all rows) (subst FirmSound (sym same) so) }),
+    λ none. subst FirmSound same (sound-trail rows.acts.items rows.dismissals.items without_trail (sound.0 none).firm),
+    λ so. sound.1 (record { matters = whole; firm = sound-trail [] [] (firm_of_all rows) (subst FirmSound (sym same) so) }),
   )
 
   one-of_firm : (f : Flaw) → IsFlawIn rows f → IsFlawOf firm f

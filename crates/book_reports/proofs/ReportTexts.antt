@@ -9,8 +9,8 @@ use Rattle.std.proofs.Common.{Bool, true, false, cond, refl}
 use Rattle.std.specs.Prelude.{◌==◌}
 use Rattle.firm_rows.specs.declared.matter_act.MatterAct.{MatterAct}
 use Rattle.trust_reports.specs.Texts.{heading}
-use Rattle.trust_reports.specs.TextsOfActs.{act_line, trail_text}
-use Rattle.book_reports.specs.Reports.{acts_in}
+use Rattle.trust_reports.specs.TextsOfActs.{act_line, dismissal_line, trail_text}
+use Rattle.firm_audit.specs.Trails.{acts_in}
 unfoldable use Rattle.book_reports.specs.Reports.{trail_report}
 use Rattle.book_reports.specs.Trails.{ActsKept, no_acts, with_act_of}
 
@@ -48,11 +48,19 @@ exceptions-told today firm text is =
     is
     ∙ (lines-written exception_line (exceptions_text today []) firm.exceptions ∙ ap (λ begun. begun ++ flat_map exception_line firm.exceptions) (append-nil (heading (codes "EXCEPTIONS") today)))
 
-pub trail-told : (today : ℕ) (firm : Firm) (text : List ℕ) → text ≡ fold (λ text act. text ++ act_line act) (trail_text today []) firm.acts → text ≡ trail_report today firm
+pub trail-told : (today : ℕ) (firm : Firm) (acts text : List ℕ)
+    → acts ≡ fold (λ text act. text ++ act_line act) (trail_text today [] []) firm.acts
+    → text ≡ fold (λ text dismissal. text ++ dismissal_line dismissal) acts firm.dismissals
+    → text ≡ trail_report today firm
 unfolding trail_report
-trail-told today firm text is =
-    is
-    ∙ (lines-written act_line (trail_text today []) firm.acts ∙ ap (λ begun. begun ++ flat_map act_line firm.acts) (append-nil (heading (codes "TRAIL") today)))
+trail-told today firm acts text is behind =
+    let begun : List ℕ = heading (codes "TRAIL") today in
+    let done : acts ≡ begun ++ flat_map act_line firm.acts =
+    is ∙ (lines-written act_line (trail_text today [] []) firm.acts ∙ ap (λ b. b ++ flat_map act_line firm.acts) (append-nil begun)) in
+    behind
+    ∙ (lines-written dismissal_line acts firm.dismissals
+    ∙ (ap (λ b. b ++ flat_map dismissal_line firm.dismissals) done
+    ∙ append_assoc begun (flat_map act_line firm.acts) (flat_map dismissal_line firm.dismissals)))
 
 -- the acts of one matter, put behind one another
 acts-put : (s : ActsKept) (acts : List MatterAct) → (fold with_act_of s acts).acts ≡ s.acts ++ acts_in s.matter acts

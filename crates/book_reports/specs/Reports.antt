@@ -1,10 +1,9 @@
 -- The reports of a firm. Each is the text of a list made from its rows.
-use Rattle.std.specs.Prelude.{ℕ, Bool, ◌==◌, List, [], ◌∷◌, ◌++◌, Option, Some, None, is_none}
-use Rattle.std.specs.List.{filter}
+use Rattle.std.specs.Prelude.{ℕ, Bool, List, [], ◌∷◌, ◌++◌, Option, Some, None, is_none}
 use Rattle.trust_base.specs.Periods.{Span, month_to}
-use Rattle.firm_rows.specs.declared.matter_act.MatterAct.{MatterAct}
 use Rattle.firm_rows.specs.Firm.{Firm}
 use Rattle.firm_rows.specs.FirmLines.{balance_of}
+use Rattle.firm_audit.specs.Trails.{acts_in}
 use Rattle.trust_reports.specs.Clients.{client_lines, clients_total}
 use Rattle.trust_reports.specs.Figures.{closing_on, own_by}
 pub use Rattle.trust_reports.specs.Purged.{is_period_purged}
@@ -43,15 +42,11 @@ exceptions_report today firm = exceptions_text today firm.exceptions
 unfoldable pub own_card_report : ℕ → Firm → List ℕ
 own_card_report today firm = own_card_text today firm.firm_lines
 
--- who did what, in the order of acceptance
+-- who did what, and which exceptions were dismissed, each in the order of acceptance
 unfoldable pub trail_report : ℕ → Firm → List ℕ
-trail_report today firm = trail_text today firm.acts
+trail_report today firm = trail_text today firm.acts firm.dismissals
 
--- the acts of one matter among these
-abbrev pub acts_in : ℕ → List MatterAct → List MatterAct
-acts_in m acts = filter (λ a. a.matter == m) acts
-
--- the same of one matter
+-- who did what in one matter
 unfoldable pub matter_trail_report : ℕ → ℕ → Firm → List ℕ
 matter_trail_report m today firm = matter_trail_text today m (acts_in m firm.acts)
 

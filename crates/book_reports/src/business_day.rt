@@ -64,6 +64,7 @@ pub fn find_report<B: Book>(
         Report::Trail => {
             let mut trail = TrailSink::new(alloc, today)?;
             book.each_act(&mut trail)?;
+            book.each_dismissal(&mut trail)?;
             Ok(trail.finish())
         }
     }

@@ -2,15 +2,15 @@
 
 ghost use Rattle.std.specs.Prelude.{◌≡◌, ◌++◌, ◌∷◌, ◌==◌, [], IfOk, cond};
 ghost use Rattle.book_reports.specs.Trails.{no_acts, with_act_of};
-ghost use Rattle.trust_reports.specs.TextsOfActs.{act_line, trail_text};
+ghost use Rattle.trust_reports.specs.TextsOfActs.{act_line, dismissal_line, trail_text};
 
-use firm_rows::{ActSink, MatterAct};
+use firm_rows::{ActSink, Dismissal, DismissalSink, MatterAct};
 use std::alloc::{AllocError, Global};
 use std::marker::Model;
 use trust_base::{Day, MatterNo};
-use trust_reports::{act_line, trail_text};
+use trust_reports::{act_line, dismissal_line, trail_text};
 
-/// Writes the trail on a business day, each act as it is received.
+/// Writes the trail on a business day, each act and each dismissal as it is received.
 ///
 /// Contracts see it as the text so far.
 #[derive(Drop)]
@@ -29,10 +29,10 @@ impl Model for TrailSink {
 impl TrailSink {
     /// Begins with the heading. The only error is out of memory.
     pub fn new(alloc: Global, today: Day) -> Result<TrailSink, AllocError>
-        ensures { IfOk result (λ sink. sink ≡ trail_text today []) }
+        ensures { IfOk result (λ sink. sink ≡ trail_text today [] []) }
     {
         let mut text = Vec::new(alloc);
-        trail_text(today, &[], &mut text)?;
+        trail_text(today, &[], &[], &mut text)?;
         Ok(TrailSink { text })
     }
 
@@ -49,6 +49,14 @@ impl ActSink for TrailSink {
 
     fn act(&mut self, act: &MatterAct) -> Result<(), AllocError> {
         act_line(act, &mut self.text)
+    }
+}
+
+impl DismissalSink for TrailSink {
+    ghost taken_out = { λ text dismissal. text ++ dismissal_line dismissal };
+
+    fn dismissal(&mut self, dismissal: &Dismissal) -> Result<(), AllocError> {
+        dismissal_line(dismissal, &mut self.text)
     }
 }
 

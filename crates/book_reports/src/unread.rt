@@ -5,8 +5,8 @@ ghost use Rattle.book_reports.specs.Checking.{AreReads};
 ghost use Rattle.trust_store.specs.Calls.{IsRead};
 
 use firm_rows::{
-    ActSink, BalanceKind, BalanceRow, BalanceSink, ExceptionSink, FirmLine, FirmLineSink,
-    MatterAct, MatterRow, MatterRowSink, Movement, MovementSink,
+    ActSink, BalanceKind, BalanceRow, BalanceSink, Dismissal, DismissalSink, ExceptionSink,
+    FirmLine, FirmLineSink, MatterAct, MatterRow, MatterRowSink, Movement, MovementSink,
 };
 use std::alloc::{AllocError, Global};
 use std::marker::Model;
@@ -37,6 +37,8 @@ pub enum Unread {
     Balance(u64),
     /// The nth act, from 1.
     Act(u64),
+    /// The nth dismissal, from 1.
+    Dismissal(u64),
     /// None of these: the rows can't be read together.
     Elsewhere,
 }
@@ -157,6 +159,15 @@ impl ActSink for RowsSeen {
     }
 }
 
+impl DismissalSink for RowsSeen {
+    ghost taken_out = { λ seen dismissal. seen };
+
+    fn dismissal(&mut self, _dismissal: &Dismissal) -> Result<(), AllocError> {
+        self.see();
+        Ok(())
+    }
+}
+
 // Whether a read succeeded. Out of memory is passed on as an error.
 fn is_answered<T: Drop>(read: Result<T, StoreFault>) -> Result<bool, StoreFault> {
     match read {
@@ -248,8 +259,8 @@ fn unread_of_matters<B: Book>(alloc: Global, book: &mut B) -> Result<Option<Unre
     unread_matter(alloc, book, &seen.matters)
 }
 
-// Returns which row of the journal, of the firm's own lines, of the exceptions, of the balances or of the acts can't be
-// read.
+// Returns which row of the journal, of the firm's own lines, of the exceptions, of the balances, of the acts or of the
+// dismissals can't be read.
 #[tactic(auto, using(crate::proofs::ReadCalls::reads_of_read))]
 fn unread_of_firm<B: Book>(book: &mut B) -> Result<Unread, StoreFault>
     ensures { AreReads (B.seen book.old) (B.seen book.new) }
@@ -273,6 +284,10 @@ fn unread_of_firm<B: Book>(book: &mut B) -> Result<Unread, StoreFault>
     let mut seen = RowsSeen::new();
     if !is_answered(book.each_act(&mut seen))? {
         return Ok(Unread::Act(seen.next()));
+    }
+    let mut seen = RowsSeen::new();
+    if !is_answered(book.each_dismissal(&mut seen))? {
+        return Ok(Unread::Dismissal(seen.next()));
     }
     Ok(Unread::Elsewhere)
 }

@@ -77,6 +77,7 @@ unread_text (unread.FirmLine n) = codes "ROW " ++ (firm_line_table_name ++ (code
 unread_text (unread.Exception n) = codes "ROW " ++ (exception_table_name ++ (codes " " ++ decimal n))
 unread_text (unread.Balance n) = codes "ROW " ++ (balance_table_name ++ (codes " " ++ decimal n))
 unread_text (unread.Act n) = codes "ROW " ++ (act_table_name ++ (codes " " ++ decimal n))
+unread_text (unread.Dismissal n) = codes "ROW dismissal " ++ decimal n
 unread_text unread.Elsewhere = codes "ROW ELSEWHERE"
 
 -- the result of a check

@@ -147,6 +147,7 @@ impl fmt::Display for RowName {
             Unread::Exception(number) => write!(f, "ROW {EXCEPTION_TABLE} {number}"),
             Unread::Balance(number) => write!(f, "ROW {BALANCE_TABLE} {number}"),
             Unread::Act(number) => write!(f, "ROW {ACT_TABLE} {number}"),
+            Unread::Dismissal(number) => write!(f, "ROW dismissal {number}"),
             Unread::Elsewhere => f.write_str("ROW ELSEWHERE"),
         }
     }

@@ -113,6 +113,9 @@ pub fn write_unread<W: fmt::Write>(f: &mut fmt::Formatter<W>, unread: &Unread) -
         Unread::Exception(number) => write_unread_row(f, *number, EXCEPTION_TABLE),
         Unread::Balance(number) => write_unread_row(f, *number, BALANCE_TABLE),
         Unread::Act(number) => write_unread_row(f, *number, ACT_TABLE),
+        Unread::Dismissal(number) => {
+            write!(f, "dismissal {number} of {ACT_TABLE} can't be read")
+        }
         Unread::Elsewhere => f.write_str("the rows can't be read together"),
     }
 }

@@ -8,6 +8,7 @@ pub mod MatchedAgain
 pub mod Gathered
 pub mod SecondMatch
 pub mod DismissedLines
+pub mod KeptDismissals
 pub mod ToldOwn
 pub mod ReasonsTold
 mod Names

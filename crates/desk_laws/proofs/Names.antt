@@ -3,7 +3,7 @@ pub use Rattle.firm_rows.proofs.Kept.{IsKept}
 pub use Rattle.firm_rows.proofs.LinesStay.{balance-kept, balances-stay, edit-leaves, line-kept, lines-stay}
 pub use Rattle.firm_rows.proofs.OwnLines.{balance-fits, firm_line-fits}
 pub use Rattle.firm_rows.specs.Firm.{EntryRow, Firm, HeadRow, Row, SeatRow, acted, after_edit, entries_among, entry_pairs, head_pairs, of, pairs, put, rows_of, without_line}
-pub use Rattle.firm_rows.specs.FirmChange.{FirmChange, FitsFirm, Repeated, Unmatched, after, by_balance, by_firm_line}
+pub use Rattle.firm_rows.specs.FirmChange.{Dismissed, FirmChange, FitsFirm, Repeated, Unmatched, after, by_balance, by_firm_line}
 pub use Rattle.firm_rows.specs.FirmLines.{balance_verdict, is_bookable, is_kept_as, kept_balance}
 pub use Rattle.firm_rows.specs.FirmSound.{FirmSound, IsInOrder}
 pub use Rattle.firm_rows.specs.declared.ledger.BalanceKind.{BalanceKind}

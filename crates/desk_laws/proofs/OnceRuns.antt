@@ -1,5 +1,5 @@
 -- What every item and every step of a firm keeps, every run keeps.
-use Rattle.desk_laws.proofs.Names.{ℕ, List, [], ◌∷◌, Option, Some, None, sym, subst, Refusal, Line, Edit, last_after, BankLine, LineEffect, Asked, line_on, refusal, edit_on, BalanceKind, Firm, of, acted, after_edit, FirmChange, Repeated, Unmatched, after, FitsFirm, by_balance, by_firm_line, balance-fits, firm_line-fits, Item, Reply, after_told, after_item, after_items, after_balance, balance_on, firm_line_on, Heard, Kind, OfMatter, OfItems, Dismisses, kind_of, asked_on, dismiss_refusal, dismissed_unless, is_fault_reply, after_asked, firm_step, kind_step, KindStopped, Steps, Runs, DayRun, RunsOn, arith, ints, nat_tests}
+use Rattle.desk_laws.proofs.Names.{ℕ, List, [], ◌∷◌, Option, Some, None, sym, subst, Refusal, Line, Edit, last_after, BankLine, LineEffect, Asked, line_on, refusal, edit_on, BalanceKind, Firm, of, acted, after_edit, FirmChange, Dismissed, Repeated, Unmatched, after, FitsFirm, by_balance, by_firm_line, balance-fits, firm_line-fits, Item, Reply, after_told, after_item, after_items, after_balance, balance_on, firm_line_on, Heard, Kind, OfMatter, OfItems, Dismisses, kind_of, asked_on, dismiss_refusal, dismissed_unless, is_fault_reply, after_asked, firm_step, kind_step, KindStopped, Steps, Runs, DayRun, RunsOn, arith, ints, nat_tests}
 use Rattle.matter_rows.specs.declared.act.Act.{Act}
 use Rattle.trust_matter.specs.Step.{act_on}
 use Rattle.trust_matter.specs.declared.line_verdict.LineEffect.TheVariants as told
@@ -68,14 +68,14 @@ module _ (P : Firm → Type 0) (change-keeps : (change : FirmChange) (firm : Fir
       edit-keeps m e (last_after (of m firm).head e a.day) (act_on (of m firm) a) firm is
   asked-keeps (Some r) m a firm is = is
 
-  dismissed-keeps : (o : Option Refusal) (line : Line) (firm : Firm) → P firm → P (dismissed_unless o line firm)
-  dismissed-keeps None line firm is = change-keeps (Repeated line) firm tt is
-  dismissed-keeps (Some r) line firm is = is
+  dismissed-keeps : (day : ℕ) (o : Option Refusal) (line : Line) (firm : Firm) → P firm → P (dismissed_unless day o line firm)
+  dismissed-keeps day None line firm is = change-keeps (Dismissed day line) firm tt is
+  dismissed-keeps day (Some r) line firm is = is
 
   each-kind : (day : ℕ) (firm : Firm) (k : Kind) → P firm → P (kind_step day firm k).firm
   each-kind day firm (OfMatter m caller ask) is = asked-keeps (refusal (of m firm) (asked_on day caller ask)) m (asked_on day caller ask) firm is
   each-kind day firm (OfItems refused items) is = items-keep P each-item day firm items is
-  each-kind day firm (Dismisses caller line) is = dismissed-keeps (dismiss_refusal caller line firm) line firm is
+  each-kind day firm (Dismisses caller line) is = dismissed-keeps day (dismiss_refusal caller line firm) line firm is
   each-kind day firm _ is = is
 
   each-step : (day : ℕ) (firm : Firm) (h : Heard) → P firm → P (firm_step day firm h).firm

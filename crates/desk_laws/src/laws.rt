@@ -5,7 +5,7 @@ ghost use Rattle.trust_desk.specs.FirmStep.{SoundRunsAreRuns};
 ghost use Rattle.trust_desk.specs.NeverBelowZero.{NeverBelowZero, RunsNeverBelowZero};
 ghost use Rattle.desk_laws.specs.Counts.{EveryItemIsCounted};
 ghost use Rattle.desk_laws.specs.Matching.{FilledLinesAreApplied, FilledLinesAreInBook, SecondMatchFillsNothing};
-ghost use Rattle.desk_laws.specs.Dismissed.{DismissedOnce, DismissingMovesNothing};
+ghost use Rattle.desk_laws.specs.Dismissed.{DismissedOnce, DismissingMovesNothing, RunsKeepDismissals, StepsKeepDismissals};
 ghost use Rattle.desk_laws.specs.OnceOnly.{BalanceOnce, FirmLineOnce, LineOnceOnly, OnceOnly};
 ghost use Rattle.desk_laws.specs.Purging.{PurgingChangesNoFigure};
 ghost use Rattle.desk_laws.specs.ReasonsTold.{ReasonsAreVerdicts};
@@ -97,6 +97,15 @@ pub fn dismissing_moves_nothing()
 /// A dismissed line is not an exception any more. Dismissing it again is refused.
 pub fn dismissed_once()
     ensures { DismissedOnce }
+{}
+
+/// What is dismissed is kept. A step of the firm adds the line that it dismisses, with the business day, behind the
+/// dismissals that are there; no step takes one out, a purge neither. After all runs on whatever days, whatever stopped
+/// their steps, the dismissals are those that were there, and behind them, in order and each with its day, the line of
+/// each request to dismiss whose reply is no refusal.
+pub fn dismissals_are_kept()
+    ensures steps { StepsKeepDismissals }
+    ensures runs { RunsKeepDismissals }
 {}
 
 /// Each line that a match writes and that had no reference of its own is applied if the output is imported on the same

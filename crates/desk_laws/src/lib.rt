@@ -28,6 +28,10 @@
 //! - `laws` `dismissing_moves_nothing`, `dismissed_once`: whoever asks to dismiss a line, and whether it is dismissed
 //!   or refused: the rows of all matters, the journal, the firm's own lines, the balances and the acts stay as they
 //!   are. A line that was dismissed is no exception, and to dismiss it again is refused.
+//! - `laws` `dismissals_are_kept`: **a line that is dismissed is kept among the dismissals, with the business day, and
+//!   stays there**: each step adds what it dismisses behind those that are there, and takes none out (`steps`); after
+//!   all runs, with or without faults, they are those that were there and then the lines of the requests to dismiss
+//!   that were not answered with a refusal, in order (`runs`).
 //! - `laws` `filled_lines_are_applied`, `filled_lines_are_in_book`, `second_match_fills_nothing`: **each line that a
 //!   match writes and that had no reference of its own is applied** when what is written is imported on the same day
 //!   into the same sound firm, whatever was written before it; after that import the line is in the book already, and a

@@ -1,7 +1,8 @@
--- The acts of a firm tell nothing but what they say: no answer depends on them that does not show them, and no row.
+-- The acts of a firm tell nothing but what they say, and neither do its dismissals: no answer depends on them that does
+-- not show them, and no row.
 use Rattle.std.specs.Prelude.{◌≡◌, ℕ, Bool, true, false, List, []}
 use Rattle.std.specs.List.{list_any}
-use Rattle.firm_rows.specs.Firm.{Firm, with_acts}
+use Rattle.firm_rows.specs.Firm.{Firm, with_acts, with_dismissals}
 use Rattle.book_reports.specs.declared.report.DayReport.{DayReport}
 use Rattle.book_reports.specs.declared.report.DayReport.TheVariants as day_reports
 use Rattle.book_reports.specs.declared.report.PeriodReport.{PeriodReport}
@@ -15,14 +16,19 @@ use Rattle.trust_desk.specs.FirmStep.{Runs, firm_step}
 use Rattle.trust_desk.specs.Heard.{Heard, Asks, Unread}
 
 -- the firm without its acts
-abbrev pub unsigned : Firm → Firm
-unsigned firm = with_acts [] firm
+abbrev pub without_acts : Firm → Firm
+without_acts firm = with_acts [] firm
+
+-- the firm without its dismissals
+abbrev pub without_dismissals : Firm → Firm
+without_dismissals firm = with_dismissals [] firm
+
+-- the trail of the firm, which has its acts and its dismissals
+abbrev pub is_trail : Report → Bool
+is_trail reports.Trail = true
+is_trail _ = false
 
 -- What shows acts.
-
-abbrev pub is_of_acts : Report → Bool
-is_of_acts reports.Trail = true
-is_of_acts _ = false
 
 -- the packet of month's end has the approvals of the month
 abbrev pub has_approvals : DayReport → Bool
@@ -36,7 +42,7 @@ is_of_approvals _ = false
 -- the request is for the trail, of the firm or of a matter, for the acts of a matter, or for approvals, of a period or
 -- at a month's end
 abbrev pub asks_for_acts : Request → Bool
-asks_for_acts (requests.Report caller report) = is_of_acts report
+asks_for_acts (requests.Report caller report) = is_trail report
 asks_for_acts (requests.AsOf caller report day) = has_approvals report
 asks_for_acts (requests.Within caller report period) = is_of_approvals report
 asks_for_acts (requests.Trail caller m) = true
@@ -53,18 +59,26 @@ abbrev pub shows_acts : Heard → Bool
 shows_acts (Asks request) = asks_for_acts request
 shows_acts (Unread named refusal) = false
 
--- two firms that differ in their acts alone answer alike whatever they hear, unless it is answered with acts, and
--- differ in their acts alone afterwards
-abbrev pub ActsTellNothing : Type 0
-ActsTellNothing =
-    (day : ℕ) (f g : Firm) (h : Heard) → unsigned f ≡ unsigned g
-    → (shows_acts h ≡ false → (firm_step day f h).reply ≡ (firm_step day g h).reply)
-    × (unsigned (firm_step day f h).firm ≡ unsigned (firm_step day g h).firm)
+-- What shows dismissals: the trail of the firm. That of a matter has none, nor have the approvals.
 
--- so every run of the one firm in which nothing is answered with acts could be one of the other, with the same replies,
--- and would leave two firms that differ in their acts alone
-abbrev pub RunsTellNothing : Type 0
-RunsTellNothing =
-    (day : ℕ) (f g after : Firm) (hs : List Heard) (replies : List Reply) → unsigned f ≡ unsigned g
-    → list_any shows_acts hs ≡ false → Runs day f hs replies after
-    → (other : Firm) × Runs day g hs replies other × (unsigned after ≡ unsigned other)
+abbrev pub shows_dismissals : Heard → Bool
+shows_dismissals (Asks (requests.Report caller report)) = is_trail report
+shows_dismissals _ = false
+
+-- Nothing is told.
+
+-- two firms that are the same without a part of them answer alike whatever they hear, unless it is answered with that
+-- part, and are the same without it afterwards
+abbrev pub StepsTellNothing : (Firm → Firm) → (Heard → Bool) → Type 0
+StepsTellNothing without shows =
+    (day : ℕ) (f g : Firm) (h : Heard) → without f ≡ without g
+    → (shows h ≡ false → (firm_step day f h).reply ≡ (firm_step day g h).reply)
+    × (without (firm_step day f h).firm ≡ without (firm_step day g h).firm)
+
+-- so every run of the one firm in which nothing is answered with that part could be one of the other, with the same
+-- replies, and would leave two firms that are the same without it
+abbrev pub RunsTellNothing : (Firm → Firm) → (Heard → Bool) → Type 0
+RunsTellNothing without shows =
+    (day : ℕ) (f g after : Firm) (hs : List Heard) (replies : List Reply) → without f ≡ without g
+    → list_any shows hs ≡ false → Runs day f hs replies after
+    → (other : Firm) × Runs day g hs replies other × (without after ≡ without other)

@@ -1,15 +1,22 @@
-//! Laws of a firm's acts. Each is the contract of a function that does nothing.
+//! Laws of a firm's acts and dismissals. Each is the contract of a function that does nothing.
 
 ghost use Rattle.desk_trail.specs.Dossiers.{EachActsOwn, OthersActsStay};
 ghost use Rattle.desk_trail.specs.ReplayedRuns.{RunsStayReplayed, RunsStayComplete, MattersAreReplayed, LaterMattersAreReplayed};
 ghost use Rattle.desk_trail.specs.SignedRuns.{OlderFirmsAreSigned, RunsStaySigned, PaymentsAreApproved, LaterPaymentsAreApproved};
-ghost use Rattle.desk_trail.specs.TellNothing.{ActsTellNothing, RunsTellNothing};
+ghost use Rattle.desk_trail.specs.TellNothing.{StepsTellNothing, RunsTellNothing, without_acts, without_dismissals, shows_acts, shows_dismissals};
 
 /// Acts tell nothing but what they say. Two firms that differ in their acts alone answer alike whatever they hear, but
 /// for the trail, a matter's acts and the approvals, and differ in their acts alone afterwards.
 pub fn acts_tell_nothing()
-    ensures steps { ActsTellNothing }
-    ensures runs { RunsTellNothing }
+    ensures steps { StepsTellNothing without_acts shows_acts }
+    ensures runs { RunsTellNothing without_acts shows_acts }
+{}
+
+/// Dismissals tell nothing but what they say. Two firms that differ in their dismissals alone answer alike whatever
+/// they hear, but for the firm's trail, and differ in their dismissals alone afterwards.
+pub fn dismissals_tell_nothing()
+    ensures steps { StepsTellNothing without_dismissals shows_dismissals }
+    ensures runs { RunsTellNothing without_dismissals shows_dismissals }
 {}
 
 /// In every run each matter's acts are those of its own machine. What does not concern a matter leaves its acts.

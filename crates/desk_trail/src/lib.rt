@@ -1,4 +1,4 @@
-//! Laws of the acts that the desk's runs leave in a firm, which say who did what in each matter.
+//! Laws of the acts that the desk's runs leave in a firm, which say who did what in each matter, and of its dismissals.
 //!
 //! # What is promised
 //!
@@ -9,6 +9,9 @@
 //!   answered with acts, and differ in their acts alone afterwards (`steps`); so each run of the one in which nothing
 //!   is answered with acts could be one of the other (`runs`). What is answered with acts is the trail, of the firm or
 //!   of a matter, a matter's acts, and the approvals, of a period or at a month's end.
+//! - `laws` `dismissals_tell_nothing`: two firms that differ in their dismissals alone answer alike whatever they hear
+//!   but a request for the firm's trail, and differ in their dismissals alone afterwards (`steps`); so each run of the
+//!   one without such a request could be one of the other (`runs`).
 //! - `laws` `acts_are_own`: **in every run each matter's acts afterwards are those of its own machine** if nothing that
 //!   concerns it was stopped (`own`); a step that does not concern a matter leaves its acts (`others`). That two firms
 //!   with the same rows and acts of a matter are told, and leave, the same is `two_firms` of `desk_laws`.

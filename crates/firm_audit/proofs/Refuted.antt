@@ -5,9 +5,10 @@ use Rattle.std.specs.List.Sorted.{IsStrictlySortedBy}
 use Rattle.std.specs.declared.cmp.Ordering.{Ordering}
 use Rattle.std.specs.declared.cmp.Ordering.TheVariants.{Less}
 use Rattle.trust_store.specs.declared.all_rows.AllRows.{AllRows}
-use Rattle.firm_rows.proofs.Acts.{sound-acts}
+use Rattle.firm_rows.proofs.Dismissals.{sound-trail}
 use Rattle.firm_rows.specs.FirmSound.{FirmSound}
-use Rattle.firm_rows.specs.Firm.{with_acts}
+use Rattle.firm_rows.specs.Firm.{with_trail}
+use Rattle.firm_rows.specs.declared.dismissal.Dismissal.{Dismissal}
 use Rattle.firm_rows.specs.declared.matter_act.MatterAct.{MatterAct}
 use Rattle.firm_rows.specs.declared.movement.Owner.{Owner}
 use Rattle.firm_rows.specs.declared.movement.Owner.TheVariants as owner
@@ -89,16 +90,16 @@ module _ (firm : Firm) (sound : FirmSound firm) where
 
 -- All rows.
 
--- a flaw of a firm is one whatever the acts are
-flaw-acts : (acts : List MatterAct) (firm : Firm) (f : Flaw) → IsFlawOf firm f → IsFlawOf (with_acts acts firm) f
-flaw-acts acts firm (flaw.Matter m) is = is
-flaw-acts acts firm (flaw.Entry m n) is = is
-flaw-acts acts firm (flaw.Journal m) is = is
-flaw-acts acts firm (flaw.Movement n) is = is
-flaw-acts acts firm flaw.OwnMovements is = is
-flaw-acts acts firm (flaw.FirmLine n) is = is
-flaw-acts acts firm (flaw.Exception n) is = is
-flaw-acts acts firm (flaw.Balance n) is = is
+-- a flaw of a firm is one whatever the trail is
+flaw-trail : (acts : List MatterAct) (dismissals : List Dismissal) (firm : Firm) (f : Flaw) → IsFlawOf firm f → IsFlawOf (with_trail acts dismissals firm) f
+flaw-trail acts dismissals firm (flaw.Matter m) is = is
+flaw-trail acts dismissals firm (flaw.Entry m n) is = is
+flaw-trail acts dismissals firm (flaw.Journal m) is = is
+flaw-trail acts dismissals firm (flaw.Movement n) is = is
+flaw-trail acts dismissals firm flaw.OwnMovements is = is
+flaw-trail acts dismissals firm (flaw.FirmLine n) is = is
+flaw-trail acts dismissals firm (flaw.Exception n) is = is
+flaw-trail acts dismissals firm (flaw.Balance n) is = is
 
 pub none_of_matters : (ks : List KeptMatter) (f : Flaw) → AreKeptWhole ks → IsMatterFlaw ks f → ⊥
 none_of_matters ks (flaw.Matter m) kept is = none-flawed ks m kept is
@@ -110,17 +111,17 @@ none_of_matters ks (flaw.FirmLine n) kept is = is
 none_of_matters ks (flaw.Exception n) kept is = is
 none_of_matters ks (flaw.Balance n) kept is = is
 
--- the firm that has these rows, but for its acts
-abbrev without_acts : AllRows → Firm
-without_acts rows = firm_of rows.matters.items rows.movements.items rows.firm_lines.items rows.exceptions.items rows.balances.items
+-- the firm that has these rows, but for its trail
+abbrev without_trail : AllRows → Firm
+without_trail rows = firm_of rows.matters.items rows.movements.items rows.firm_lines.items rows.exceptions.items rows.balances.items
 
-pub among-all : (rows : AllRows) (f : Flaw) → IsFlawOf (without_acts rows) f → IsFlawIn rows f
-among-all rows f is = inr (flaw-acts rows.acts.items (without_acts rows) f is)
+pub among-all : (rows : AllRows) (f : Flaw) → IsFlawOf (without_trail rows) f → IsFlawIn rows f
+among-all rows f is = inr (flaw-trail rows.acts.items rows.dismissals.items (without_trail rows) f is)
 
 none-in : (rows : AllRows) (f : Flaw) → AreSound rows → IsFlawIn rows f → ⊥
 none-in rows f sound (inl is) = none_of_matters rows.matters.items f sound.matters is
 none-in rows f sound (inr is) =
-    refuted (firm_of_all rows) (sound-acts rows.acts.items (without_acts rows) sound.firm) f is
+    refuted (firm_of_all rows) (sound-trail rows.acts.items rows.dismissals.items (without_trail rows) sound.firm) f is
 
 -- a flaw that is there is found exactly if the rows are not sound
 pub none-found : (rows : AllRows) (found : Option Flaw) → (found ≡ None → AreSound rows) → IfSome found (IsFlawIn rows) → (found ≡ None ↔ AreSound rows)

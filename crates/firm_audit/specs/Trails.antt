@@ -64,6 +64,10 @@ IsEntryFlaw p n = IsOfNoEntry p n ⊎ (¬ IsApproved p n)
 
 -- All of a firm.
 
+-- the acts of one matter among these
+abbrev pub acts_in : ℕ → List MatterAct → List MatterAct
+acts_in m acts = filter (λ a. a.matter == m) acts
+
 abbrev pub dossier_of : ℕ → Firm → Dossier
 dossier_of m firm = record { rows = of m firm; acts = acts_of m firm }
 
@@ -116,9 +120,9 @@ FlawedIsNoTrail = (firm : Firm) (f : TrailFlaw) → IsTrailFlawOf firm f → ¬ 
 
 -- In the code.
 
--- the acts of one matter among these
+-- what was done in one matter, by these acts
 abbrev pub acts_among : ℕ → List MatterAct → List Act
-acts_among m acts = map (λ a. a.act) (filter (λ a. a.matter == m) acts)
+acts_among m acts = map (λ a. a.act) (acts_in m acts)
 
 -- a day or none
 abbrev pub days_of : Option ℕ → List ℕ

@@ -1,5 +1,5 @@
 -- The acts of a firm: which change which, and that they decide nothing.
-use Rattle.firm_rows.proofs.Names.{◌≡◌, ℕ, not, cond, List, [], ◌∷◌, ◌++◌, map, filter, Option, Some, None, refl, ap, ◌∙◌, ◌==◌, arith, nat_tests, append-nil, filter-append, map-append, Act, MatterAct, Edit, acts_by, Firm, acts_left, acts_without, joined_act, joined_acts, with_acts, after_edit, matched_by, OfMatter, Repeated, Unmatched, OfFirm, OfBalance, FitsFirm, FirmSound, IsInOrder, ActsOfOneChange, ActsDecideNothing}
+use Rattle.firm_rows.proofs.Names.{◌≡◌, ℕ, not, cond, List, [], ◌∷◌, ◌++◌, map, filter, Option, Some, None, refl, ap, ◌∙◌, ◌==◌, arith, nat_tests, append-nil, filter-append, map-append, Act, MatterAct, Edit, acts_by, Firm, acts_left, acts_without, joined_act, joined_acts, with_acts, after_edit, matched_by, OfMatter, Repeated, Unmatched, Dismissed, OfFirm, OfBalance, FitsFirm, FirmSound, IsInOrder, ActsOfOneChange, ActsDecideNothing}
 use Rattle.std.specs.Prelude.{option_to_list}
 use Rattle.trust_matter.specs.edit.Edit.TheVariants as edit
 use Rattle.firm_rows.specs.FirmChange.{FirmChange, after}
@@ -72,6 +72,7 @@ after-acts (OfMatter m (Some line) change) acts firm =
     ap (λ (f : Firm). with_acts [] (matched_by (Some line) f)) (edit-acts m change.edit change.last acts firm)
 after-acts (Repeated line) acts firm = refl
 after-acts (Unmatched line) acts firm = refl
+after-acts (Dismissed day line) acts firm = refl
 after-acts (OfFirm line) acts firm = refl
 after-acts (OfBalance kind line) acts firm = refl
 
@@ -80,6 +81,7 @@ fits-acts : (change : FirmChange) (acts : List MatterAct) (firm : Firm)
 fits-acts (OfMatter m line change) acts firm fits = fits
 fits-acts (Repeated line) acts firm fits = fits
 fits-acts (Unmatched line) acts firm fits = fits
+fits-acts (Dismissed day line) acts firm fits = fits
 fits-acts (OfFirm line) acts firm fits = fits
 fits-acts (OfBalance kind line) acts firm fits = fits
 
@@ -88,6 +90,7 @@ acts-fit : (change : FirmChange) (acts : List MatterAct) (firm : Firm)
 acts-fit (OfMatter m line change) acts firm fits = fits
 acts-fit (Repeated line) acts firm fits = fits
 acts-fit (Unmatched line) acts firm fits = fits
+acts-fit (Dismissed day line) acts firm fits = fits
 acts-fit (OfFirm line) acts firm fits = fits
 acts-fit (OfBalance kind line) acts firm fits = fits
 
@@ -142,5 +145,6 @@ acts-of-one-change n (OfMatter m (Some line) change) firm =
     ∙ own-changed n m change.edit change.act firm.acts
 acts-of-one-change n (Repeated line) firm = refl
 acts-of-one-change n (Unmatched line) firm = refl
+acts-of-one-change n (Dismissed day line) firm = refl
 acts-of-one-change n (OfFirm line) firm = refl
 acts-of-one-change n (OfBalance kind line) firm = refl

@@ -1,8 +1,9 @@
 -- Each change of a firm's rows changes those of one matter at most, and leaves a sound firm sound.
-use Rattle.firm_rows.proofs.Names.{◌≡◌, ℕ, Option, Some, None, arith, nat_tests, Line, Covered, as_firm_line, balance_row, Firm, of, after_change, with_firm_line, with_balance_row, OfMatter, Repeated, Unmatched, OfFirm, OfBalance, matched_by, FirmSound, IsInOrder, ChangesOne, StaysSound, StaysInOrder, LineFits}
+use Rattle.firm_rows.proofs.Names.{◌≡◌, ℕ, Option, Some, None, arith, nat_tests, Line, Covered, as_firm_line, balance_row, Firm, of, after_change, with_firm_line, with_balance_row, OfMatter, Repeated, Unmatched, Dismissed, OfFirm, OfBalance, matched_by, FirmSound, IsInOrder, ChangesOne, StaysSound, StaysInOrder, LineFits}
 use Rattle.firm_rows.proofs.Balances.{balances-sorted}
 use Rattle.firm_rows.proofs.Changed.{changes-own, changes-no_other}
 use Rattle.firm_rows.proofs.Kept.{stays-sound}
+use Rattle.firm_rows.proofs.Dismissals.{dismissed-in_order, dismissed-sound}
 use Rattle.firm_rows.proofs.Lines.{match-in_order, stray-stays-in_order, match-sound, stray-stays-sound}
 use Rattle.firm_rows.proofs.Order.{stays-in_order}
 use Rattle.firm_rows.proofs.OwnLines.{own_line-sound, statement-sound}
@@ -30,6 +31,7 @@ pub change-stays-in_order : StaysInOrder
 change-stays-in_order (OfMatter m line change) firm order = in_order-matched line (after_change m change firm) (stays-in_order m change firm order)
 change-stays-in_order (Repeated line) firm order = match-in_order line firm order
 change-stays-in_order (Unmatched line) firm order = stray-stays-in_order line firm order
+change-stays-in_order (Dismissed day line) firm order = dismissed-in_order day line firm order
 change-stays-in_order (OfFirm line) firm order = match-in_order line (with_firm_line (as_firm_line line) firm) (record { rows = order.rows; exceptions = order.exceptions; balances = order.balances })
 change-stays-in_order (OfBalance kind line) firm order = match-in_order line (with_balance_row (balance_row kind line) firm) (record { rows = order.rows; exceptions = order.exceptions; balances = balances-sorted (balance_row kind line) firm.balances order.balances })
 
@@ -37,6 +39,7 @@ pub change-stays-sound : Covered → StaysSound
 change-stays-sound law (OfMatter m line change) firm sound fits = sound-matched line (after_change m change firm) (stays-sound law m change firm sound fits)
 change-stays-sound law (Repeated line) firm sound fits = match-sound line firm sound
 change-stays-sound law (Unmatched line) firm sound fits = stray-stays-sound line firm sound
+change-stays-sound law (Dismissed day line) firm sound fits = dismissed-sound day line firm sound
 change-stays-sound law (OfFirm line) firm sound fits = match-sound line (with_firm_line (as_firm_line line) firm) (own_line-sound (as_firm_line line) firm sound fits)
 change-stays-sound law (OfBalance kind line) firm sound fits = match-sound line (with_balance_row (balance_row kind line) firm) (statement-sound (balance_row kind line) firm sound)
 

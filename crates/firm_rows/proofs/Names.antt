@@ -26,12 +26,13 @@ pub use Rattle.trust_matter.specs.Rows.{Rows, entry_at, last_of, unopened, with_
 pub use Rattle.trust_matter.specs.Sound.{AreRising, Sound}
 pub use Rattle.trust_matter.specs.edit.Edit.{Edit}
 pub use Rattle.trust_matter.specs.entry.Entry.{Entry}
-pub use Rattle.firm_rows.specs.Firm.{EntryRow, Firm, HeadRow, Row, SeatRow, acts_left, acts_without, after_change, after_edit, after_match, after_stray, among, purged_by, empty_firm, entries_among, entry_pairs, head_pairs, is_of_matter, joined_act, joined_acts, joined_movement, kept_movements, moved_by, moved_without, of, own_movement, pairs, put, rewritten_by, rows_of, seat_pairs, with_acts, with_firm_line, with_balance_row}
-pub use Rattle.firm_rows.specs.FirmChange.{FitsFirm, OfBalance, OfFirm, OfMatter, Repeated, Unmatched, by_balance, matched_by}
+pub use Rattle.firm_rows.specs.Firm.{EntryRow, Firm, HeadRow, Row, SeatRow, acts_left, acts_without, after_change, after_dismissal, after_edit, after_match, after_stray, among, purged_by, empty_firm, entries_among, entry_pairs, head_pairs, is_of_matter, joined_act, joined_acts, joined_movement, kept_movements, moved_by, moved_without, of, own_movement, pairs, put, rewritten_by, rows_of, seat_pairs, with_acts, with_dismissal, with_dismissals, with_firm_line, with_trail, with_balance_row}
+pub use Rattle.firm_rows.specs.FirmChange.{Dismissed, FitsFirm, OfBalance, OfFirm, OfMatter, Repeated, Unmatched, by_balance, matched_by}
 pub use Rattle.firm_rows.specs.FirmLines.{IsOwnBalance, as_firm_line, balance_cmp, balance_of, balance_row, balance_verdict, is_balance_on, is_kept_as, is_own_balance, kept_balance, place_of, with_balance}
-pub use Rattle.firm_rows.specs.FirmSound.{ActsDecideNothing, ActsOfOneChange, AreMovedInTime, BalanceFits, ChangesOne, FirmLineFits, FirmSound, IsInOrder, LineFits, PurgeLeavesOthers, PurgedMovesNothing, SoundIsSolvent, StaysInOrder, StaysSound}
+pub use Rattle.firm_rows.specs.FirmSound.{ActsDecideNothing, ActsOfOneChange, AreMovedInTime, BalanceFits, ChangesOne, DismissalsDecideNothing, DismissalsOfOneChange, FirmLineFits, FirmSound, IsInOrder, LineFits, PurgeLeavesOthers, PurgedMovesNothing, SoundIsSolvent, StaysInOrder, StaysSound}
 pub use Rattle.firm_rows.specs.Journal.{amount_for, days_moved, event_of, events_moved, firm_events, is_of_entry, is_of_firm, ledger_share, line_event, moved_for, row_share}
 pub use Rattle.firm_rows.specs.Sums.{sum_of}
+pub use Rattle.firm_rows.specs.declared.dismissal.Dismissal.{Dismissal}
 pub use Rattle.firm_rows.specs.declared.ledger.FirmLine.{FirmLine}
 pub use Rattle.firm_rows.specs.declared.ledger.BalanceRow.{BalanceRow}
 pub use Rattle.firm_rows.specs.declared.matter_act.MatterAct.{MatterAct}

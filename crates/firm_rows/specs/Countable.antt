@@ -5,6 +5,7 @@ use Rattle.std.specs.List.{AllByRecursion}
 use Rattle.trust_base.specs.Limits.{IsAmount, IsBankAmount}
 use Rattle.trust_base.specs.declared.line.Line.{Line}
 use Rattle.trust_matter.specs.Rows.{entry_amount}
+use Rattle.firm_rows.specs.declared.dismissal.Dismissal.{Dismissal}
 use Rattle.firm_rows.specs.declared.matter_act.MatterAct.{MatterAct}
 use Rattle.firm_rows.specs.declared.movement.Movement.{Movement}
 use Rattle.firm_rows.specs.declared.ledger.FirmLine.{FirmLine}
@@ -36,6 +37,9 @@ IsBalanceInRange row = IsBankAmount row.amount
 -- an act has no amount
 abbrev pub IsActInRange : MatterAct → Type 0
 IsActInRange act = Unit {0}
+
+abbrev pub IsDismissalInRange : Dismissal → Type 0
+IsDismissalInRange d = IsLineInRange d.line
 
 -- fewer than 2^64 rows, each with its amount in range
 pub record AreCountable {A : Type 0} (IsInRange : A → Type 0) (rows : List A) : Type 0 where

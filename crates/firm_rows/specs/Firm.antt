@@ -1,5 +1,6 @@
 -- The rows of a firm: a joined list of the rows of all matters, each paired with its matter; the movements; the lines
--- of the firm's own ledger; the bank lines that match nothing; the balances that the bank reported; and the acts.
+-- of the firm's own ledger; the bank lines that match nothing; the balances that the bank reported; the acts; and the
+-- dismissals.
 use Rattle.std.specs.Prelude.{ℕ, Bool, false, ◌+◌, ◌==◌, nat_lt, List, [], ◌∷◌, ◌++◌, map, not, Option, Some, None}
 use Rattle.std.specs.List.{filter}
 use Rattle.trust_base.specs.LineOrder.{is_before, is_same_line}
@@ -13,6 +14,7 @@ use Rattle.trust_matter.specs.edit.Edit.TheVariants as edit
 use Rattle.trust_matter.specs.movement.EntryMovement as change
 use Rattle.trust_matter.specs.Rows.{Rows}
 use Rattle.trust_matter.specs.Changes.{MatterChange, changed_by, movement_of}
+use Rattle.firm_rows.specs.declared.dismissal.Dismissal.{Dismissal}
 use Rattle.firm_rows.specs.declared.matter_act.MatterAct.{MatterAct}
 use Rattle.firm_rows.specs.declared.movement.Movement.{Movement}
 use Rattle.firm_rows.specs.declared.movement.Owner.{Owner}
@@ -37,7 +39,7 @@ row_of (given.Entry number entry) = EntryRow number entry.now
 
 -- the rows of all matters, each with its matter's number; the movements and the lines of the firm's own ledger, both in
 -- the order of acceptance; the exceptions, a sorted set of whole lines; the balances, openings before closings, each by
--- day; and the acts in the order of acceptance
+-- day; and the acts and the dismissals, each in the order of acceptance
 pub record Firm : Type 0 where
   pub rows : List (ℕ × Row)
   pub movements : List Movement
@@ -45,10 +47,19 @@ pub record Firm : Type 0 where
   pub exceptions : List Line
   pub balances : List BalanceRow
   pub acts : List MatterAct
+  pub dismissals : List Dismissal
 
 -- a firm without rows
 abbrev pub empty_firm : Firm
-empty_firm = record { rows = []; movements = []; firm_lines = []; exceptions = []; balances = []; acts = [] }
+empty_firm = record {
+  rows = [];
+  movements = [];
+  firm_lines = [];
+  exceptions = [];
+  balances = [];
+  acts = [];
+  dismissals = [];
+}
 
 -- A matter's own rows.
 
@@ -188,25 +199,14 @@ acts_without m acts = filter (λ a. not (a.matter == m)) acts
 
 -- the acts left after an edit of a matter: without its own if it is purged, otherwise all
 abbrev pub acts_left : ℕ → Edit → List MatterAct → List MatterAct
-acts_left m edit.Nothing acts = acts
-acts_left m (edit.Open opening) acts = acts
-acts_left m (edit.Seat seat) acts = acts
-acts_left m (edit.Unseat person) acts = acts
-acts_left m (edit.Close day) acts = acts
 acts_left m (edit.Purge day) acts = acts_without m acts
-acts_left m (edit.Append entry) acts = acts
-acts_left m (edit.Exchange entry) acts = acts
+acts_left m _ acts = acts
 
 -- the acts after a change of a matter: with the one that it is remembered by, or, if it is purged, without its own
 abbrev pub joined_acts : ℕ → Edit → Option Act → List MatterAct → List MatterAct
 joined_acts m edit.Nothing act acts = acts
-joined_acts m (edit.Open opening) act acts = acts ++ joined_act m act
-joined_acts m (edit.Seat seat) act acts = acts ++ joined_act m act
-joined_acts m (edit.Unseat person) act acts = acts ++ joined_act m act
-joined_acts m (edit.Close day) act acts = acts ++ joined_act m act
-joined_acts m (edit.Purge day) act acts = acts_without m acts
-joined_acts m (edit.Append entry) act acts = acts ++ joined_act m act
-joined_acts m (edit.Exchange entry) act acts = acts ++ joined_act m act
+joined_acts m (edit.Purge day) act acts = acts_left m (edit.Purge day) acts
+joined_acts m e act acts = acts_left m e acts ++ joined_act m act
 
 -- the firm with other acts
 abbrev pub with_acts : List MatterAct → Firm → Firm
@@ -237,6 +237,24 @@ after_stray line firm = record firm { exceptions = with_line line firm.exception
 -- the firm without this exception, if it was one
 abbrev pub after_match : Line → Firm → Firm
 after_match line firm = record firm { exceptions = without_line line firm.exceptions }
+
+-- A dismissal.
+
+-- the firm with other dismissals
+abbrev pub with_dismissals : List Dismissal → Firm → Firm
+with_dismissals dismissals firm = record firm { dismissals = dismissals }
+
+-- the firm with another trail: other acts, and other dismissals
+abbrev pub with_trail : List MatterAct → List Dismissal → Firm → Firm
+with_trail acts dismissals firm = with_dismissals dismissals (with_acts acts firm)
+
+-- the firm with one more dismissal, behind the others
+abbrev pub with_dismissal : Dismissal → Firm → Firm
+with_dismissal d firm = with_dismissals (firm.dismissals ++ d ∷ []) firm
+
+-- the firm without this exception, which was dismissed on this day
+abbrev pub after_dismissal : ℕ → Line → Firm → Firm
+after_dismissal day line firm = after_match line (with_dismissal (record { day = day; line = line }) firm)
 
 -- A line of the firm's own ledger.
 

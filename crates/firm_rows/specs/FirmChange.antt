@@ -10,14 +10,15 @@ use Rattle.firm_rows.specs.declared.ledger.Verdict.{Verdict}
 use Rattle.firm_rows.specs.declared.ledger.Verdict.TheVariants as told
 use Rattle.firm_rows.specs.declared.ledger.BalanceKind.{BalanceKind}
 use Rattle.firm_rows.specs.FirmLines.{balance_of, IsOwnBalance, as_firm_line, balance_row, kept_balance}
-use Rattle.firm_rows.specs.Firm.{Firm, of, after_change, after_match, after_stray, with_firm_line, with_balance_row}
+use Rattle.firm_rows.specs.Firm.{Firm, of, after_change, after_match, after_dismissal, after_stray, with_firm_line, with_balance_row}
 
--- a change of a matter, with the bank line that made it, if any; a repeated line; an unmatched line; an applied line of
--- the firm's own; and an applied balance
+-- a change of a matter, with the bank line that made it, if any; a repeated line; an unmatched line; a line that was
+-- dismissed, with the business day; an applied line of the firm's own; and an applied balance
 pub data FirmChange : Type 0 where
   OfMatter : (matter : ℕ) (line : Option Line) (change : MatterChange) → FirmChange
   Repeated : (line : Line) → FirmChange
   Unmatched : (line : Line) → FirmChange
+  Dismissed : (day : ℕ) (line : Line) → FirmChange
   OfFirm : (line : Line) → FirmChange
   OfBalance : (kind : BalanceKind) (line : Line) → FirmChange
 
@@ -26,11 +27,12 @@ abbrev pub matched_by : Option Line → Firm → Firm
 matched_by None firm = firm
 matched_by (Some line) firm = after_match line firm
 
--- the firm after a change: an applied or repeated line is no exception from then on, an unmatched one is
+-- the firm after a change: an applied, repeated or dismissed line is no exception from then on, an unmatched one is
 abbrev pub after : FirmChange → Firm → Firm
 after (OfMatter m line change) firm = matched_by line (after_change m change firm)
 after (Repeated line) firm = after_match line firm
 after (Unmatched line) firm = after_stray line firm
+after (Dismissed day line) firm = after_dismissal day line firm
 after (OfFirm line) firm = after_match line (with_firm_line (as_firm_line line) firm)
 after (OfBalance kind line) firm = after_match line (with_balance_row (balance_row kind line) firm)
 
@@ -39,6 +41,7 @@ abbrev pub rows_after : ℕ → FirmChange → Rows → Rows
 rows_after n (OfMatter m line change) rows = if n == m then changed change rows else rows
 rows_after n (Repeated line) rows = rows
 rows_after n (Unmatched line) rows = rows
+rows_after n (Dismissed day line) rows = rows
 rows_after n (OfFirm line) rows = rows
 rows_after n (OfBalance kind line) rows = rows
 
@@ -48,6 +51,7 @@ abbrev pub FitsFirm : Firm → FirmChange → Type 0
 FitsFirm firm (OfMatter m line change) = IsChange (of m firm) change
 FitsFirm firm (Repeated line) = Unit {0}
 FitsFirm firm (Unmatched line) = Unit {0}
+FitsFirm firm (Dismissed day line) = Unit {0}
 FitsFirm firm (OfFirm line) = IsOwnBalance (balance_of firm.firm_lines +ℤ line.amount)
 FitsFirm firm (OfBalance kind line) = kept_balance kind line.date firm.balances ≡ None
 

@@ -1,5 +1,5 @@
 -- What is true of a firm's rows at every moment.
-use Rattle.std.specs.Prelude.{◌≡◌, ◌≢◌, ◌↔◌, ◌==◌, ℕ, ◌≤◌, List, [], map, take, pos, ◌+ℤ◌, ◌≤ℤ◌, Ok, if◌then◌else◌}
+use Rattle.std.specs.Prelude.{◌≡◌, ◌≢◌, ◌↔◌, ◌==◌, ℕ, ◌≤◌, List, [], ◌∷◌, ◌++◌, map, take, pos, ◌+ℤ◌, ◌≤ℤ◌, Ok, if◌then◌else◌}
 use Rattle.std.specs.List.{filter, AllByRecursion}
 use Rattle.std.specs.List.Sorted.{IsStrictlySortedBy}
 use Rattle.trust_base.specs.LineOrder.{line_cmp}
@@ -14,12 +14,13 @@ use Rattle.trust_matter.specs.Balances.{ledger}
 use Rattle.trust_matter.specs.Events.{events_in}
 use Rattle.trust_matter.specs.Sound.{AreRising, Sound}
 use Rattle.trust_matter.specs.LineStep.{LineDecides}
+use Rattle.firm_rows.specs.declared.dismissal.Dismissal.{Dismissal}
 use Rattle.firm_rows.specs.declared.matter_act.MatterAct.{MatterAct}
 use Rattle.firm_rows.specs.declared.ledger.Verdict.{Verdict}
 use Rattle.firm_rows.specs.declared.ledger.BalanceKind.{BalanceKind}
 use Rattle.firm_rows.specs.FirmLines.{balance_of, StaysWithin, balance_cmp, firm_verdict, kept_balance, balance_verdict}
-use Rattle.firm_rows.specs.Firm.{Firm, of, put, is_of_matter, acts_of, with_acts, after_edit}
-use Rattle.firm_rows.specs.FirmChange.{FirmChange, OfMatter, Repeated, Unmatched, OfFirm, OfBalance, after, rows_after, FitsFirm, by_line, by_firm_line, by_balance}
+use Rattle.firm_rows.specs.Firm.{Firm, of, put, is_of_matter, acts_of, with_acts, with_dismissals, after_edit}
+use Rattle.firm_rows.specs.FirmChange.{FirmChange, OfMatter, Repeated, Unmatched, Dismissed, OfFirm, OfBalance, after, rows_after, FitsFirm, by_line, by_firm_line, by_balance}
 use Rattle.firm_rows.specs.Journal.{events_moved, firm_events, line_event, days_moved, moved_for, ledger_sum, journal_sum}
 
 -- the rows of each matter stand together and in order, matters by number; the exceptions are sorted, each line once;
@@ -84,6 +85,7 @@ abbrev pub acts_after : ℕ → FirmChange → List Act → List Act
 acts_after n (OfMatter m line change) acts = if n == m then acts_by change.edit change.act acts else acts
 acts_after n (Repeated line) acts = acts
 acts_after n (Unmatched line) acts = acts
+acts_after n (Dismissed day line) acts = acts
 acts_after n (OfFirm line) acts = acts
 acts_after n (OfBalance kind line) acts = acts
 
@@ -101,6 +103,26 @@ pub record ActsDecideNothing (acts : List MatterAct) (change : FirmChange) (firm
   pub sound : FirmSound (with_acts acts firm) ↔ FirmSound firm
   pub fits : FitsFirm (with_acts acts firm) change ↔ FitsFirm firm change
   pub after : with_acts [] (after change (with_acts acts firm)) ≡ with_acts [] (after change firm)
+
+-- What a change of the firm makes of the dismissals.
+
+abbrev pub dismissals_after : FirmChange → List Dismissal → List Dismissal
+dismissals_after (Dismissed day line) dismissals = dismissals ++ record { day = day; line = line } ∷ []
+dismissals_after _ dismissals = dismissals
+
+-- dismissing a line adds it, with its day, and no other change adds or removes any: a purge leaves them
+abbrev pub DismissalsOfOneChange : Type 0
+DismissalsOfOneChange =
+    (change : FirmChange) (firm : Firm) → (after change firm).dismissals ≡ dismissals_after change firm.dismissals
+
+-- Dismissals decide nothing.
+
+-- whatever the dismissals are: a firm is sound without them or not at all, a change fits it or not, and makes of its
+-- other rows what it makes of them without dismissals
+pub record DismissalsDecideNothing (dismissals : List Dismissal) (change : FirmChange) (firm : Firm) : Type 0 where
+  pub sound : FirmSound (with_dismissals dismissals firm) ↔ FirmSound firm
+  pub fits : FitsFirm (with_dismissals dismissals firm) change ↔ FitsFirm firm change
+  pub after : with_dismissals [] (after change (with_dismissals dismissals firm)) ≡ with_dismissals [] (after change firm)
 
 -- Every verdict on a line is a change that fits.
 

@@ -14,7 +14,7 @@ use Rattle.firm_rows.specs.Firm.{Row, Firm, row_of}
 abbrev pub row_pair : ℕ × MatterRow → ℕ × Row
 row_pair p = (p.0, row_of p.1)
 
--- the firm that has these rows, and no acts
+-- the firm that has these rows, and neither acts nor dismissals
 abbrev pub in_memory : List (ℕ × MatterRow) → List Movement → List FirmLine → List Line → List BalanceRow → Firm
 in_memory rows movements firm_lines exceptions balances = record {
   rows = map row_pair rows;
@@ -23,6 +23,7 @@ in_memory rows movements firm_lines exceptions balances = record {
   exceptions = exceptions;
   balances = balances;
   acts = [];
+  dismissals = [];
 }
 
 -- The rows that a sink receives.

@@ -43,6 +43,7 @@ two_matters = record {
   exceptions = [];
   balances = [];
   acts = [];
+  dismissals = [];
 }
 
 -- this firm's rows are in order, and it is solvent: all ledgers together are at zero, and the journal is never below;

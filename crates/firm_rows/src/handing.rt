@@ -4,14 +4,16 @@ ghost use Rattle.std.specs.Prelude.{◌≡◌, FitsSigned, OnOk, OnErr, map};
 ghost use Rattle.std.specs.Int.{w64};
 ghost use Rattle.trust_base.specs.Limits.{IsAmount};
 ghost use Rattle.trust_matter.specs.Rows.{entry_amount};
-ghost use Rattle.firm_rows.specs.Countable.{IsRowInRange, IsMovementInRange, IsFirmLineInRange, IsLineInRange, IsBalanceInRange, IsActInRange};
+ghost use Rattle.firm_rows.specs.Countable.{IsRowInRange, IsMovementInRange, IsFirmLineInRange, IsLineInRange, IsBalanceInRange, IsActInRange, IsDismissalInRange};
 ghost use Rattle.firm_rows.specs.Handing.{AreHanded, row_pair};
 
+use crate::dismissal::Dismissal;
 use crate::ledger::{BalanceRow, FirmLine};
 use crate::matter_act::MatterAct;
 use crate::movement::Movement;
 use crate::sink::{
-    ActSink, BalanceSink, ExceptionSink, FirmLineSink, MatterRow, MatterRowSink, MovementSink,
+    ActSink, BalanceSink, DismissalSink, ExceptionSink, FirmLineSink, MatterRow, MatterRowSink,
+    MovementSink,
 };
 use std::alloc::AllocError;
 use trust_base::{Line, MatterNo};
@@ -121,6 +123,20 @@ pub fn hand_acts<S: ActSink>(acts: &[MatterAct], sink: &mut S) -> Result<(), All
 {
     for act in acts {
         sink.act(act)?;
+    }
+    Ok(())
+}
+
+/// Passes each dismissal to the sink, in order. Stops if the sink runs out of memory.
+pub fn hand_dismissals<S: DismissalSink>(
+    dismissals: &[Dismissal],
+    sink: &mut S,
+) -> Result<(), AllocError>
+    ensures { AreHanded S.taken_out IsDismissalInRange dismissals.now result sink.old sink.new }
+{
+    for dismissal in dismissals {
+        let _in_range = dismissal.line.amount.get();
+        sink.dismissal(dismissal)?;
     }
     Ok(())
 }

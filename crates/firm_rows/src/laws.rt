@@ -1,11 +1,12 @@
 //! Laws over the definitions. Each is the contract of a function that does nothing.
 
 ghost use Rattle.std.specs.Prelude.{List};
+ghost use Rattle.firm_rows.specs.declared.dismissal.Dismissal.{Dismissal};
 ghost use Rattle.firm_rows.specs.declared.matter_act.MatterAct.{MatterAct};
 ghost use Rattle.firm_rows.specs.Exceptions.{WithLineAdds, WithoutLineTakes, WithLineAgain};
 ghost use Rattle.firm_rows.specs.Firm.{Firm, empty_firm};
 ghost use Rattle.firm_rows.specs.FirmChange.{FirmChange};
-ghost use Rattle.firm_rows.specs.FirmSound.{IsInOrder, FirmSound, ChangesOne, StaysSound, StaysInOrder, PurgedMovesNothing, PurgeLeavesOthers, ActsOfOneChange, ActsDecideNothing, LineFits, FirmLineFits, BalanceFits, SoundIsSolvent};
+ghost use Rattle.firm_rows.specs.FirmSound.{IsInOrder, FirmSound, ChangesOne, StaysSound, StaysInOrder, PurgedMovesNothing, PurgeLeavesOthers, ActsOfOneChange, ActsDecideNothing, DismissalsOfOneChange, DismissalsDecideNothing, LineFits, FirmLineFits, BalanceFits, SoundIsSolvent};
 ghost use Rattle.firm_rows.specs.LinesStay.{FirmLineIsKept, FirmLinesStay, BalanceIsKept, BalancesStay};
 ghost use Rattle.firm_rows.specs.Unsound.{SolventIsNotSound};
 
@@ -47,6 +48,19 @@ pub fn acts_of_one_change()
 /// rows, is the same whatever its acts are.
 pub fn acts_decide_nothing()
     ensures { (acts : List MatterAct) (change : FirmChange) (firm : Firm) → ActsDecideNothing acts change firm }
+{}
+
+/// Dismissing a line adds it to the dismissals, with its day, behind those that are there. No other change adds one or
+/// takes one out, a purge neither.
+pub fn dismissals_of_one_change()
+    ensures { DismissalsOfOneChange }
+{}
+
+/// Dismissals decide nothing: whether a firm is sound, whether a change fits it, and what a change makes of all its
+/// other rows, is the same whatever its dismissals are.
+pub fn dismissals_decide_nothing()
+    ensures { (dismissals : List Dismissal) (change : FirmChange) (firm : Firm)
+        → DismissalsDecideNothing dismissals change firm }
 {}
 
 /// Every verdict on a bank line is a change that fits, be it a line that names an entry, one of the firm's own, or a

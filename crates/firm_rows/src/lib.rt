@@ -1,4 +1,5 @@
-//! The joined rows of a firm, its movements and its acts, and what is true of rows and movements at every moment.
+//! The joined rows of a firm, its movements, its acts and its dismissals, and what is true of rows and movements at
+//! every moment.
 //!
 //! # What is promised
 //!
@@ -27,10 +28,14 @@
 //!   purge removes these, and no other matter's acts change.
 //! - `laws` `acts_decide_nothing`: whether a firm is sound, which change fits it, and what a change makes of all its
 //!   other rows, is the same whatever its acts are.
-//! - `hand_rows`, `hand_movements`, `hand_firm_lines`, `hand_lines`, `hand_balances`, `hand_acts`: a sink gets all rows
-//!   of a slice in order, or, if it runs out of memory, some first ones.
+//! - `laws` `dismissals_of_one_change`: dismissing a line adds it, with its day, to the dismissals, and no other change
+//!   touches them: purging a matter leaves them.
+//! - `laws` `dismissals_decide_nothing`: the same of dismissals as of acts.
+//! - `hand_rows`, `hand_movements`, `hand_firm_lines`, `hand_lines`, `hand_balances`, `hand_acts`, `hand_dismissals`: a
+//!   sink gets all rows of a slice in order, or, if it runs out of memory, some first ones.
 #![tactic(auto)]
 
+mod dismissal;
 mod handing;
 pub mod laws;
 mod ledger;
@@ -39,8 +44,10 @@ mod matter_act;
 mod movement;
 mod sink;
 
+pub use dismissal::Dismissal;
 pub use handing::{
-    hand_acts, hand_balances, hand_firm_lines, hand_lines, hand_movements, hand_rows,
+    hand_acts, hand_balances, hand_dismissals, hand_firm_lines, hand_lines, hand_movements,
+    hand_rows,
 };
 pub use ledger::{
     BalanceKind, BalanceRow, FirmLedger, FirmLine, Verdict, decide_balance, decide_firm_line,
@@ -50,6 +57,6 @@ pub use limits::MAX_OWN;
 pub use matter_act::MatterAct;
 pub use movement::{Movement, Owner};
 pub use sink::{
-    ActSink, BalanceSink, ExceptionSink, FirmLineSink, MatterRow, MatterRowSink, MovementSink,
-    RowSink,
+    ActSink, BalanceSink, DismissalSink, ExceptionSink, FirmLineSink, MatterRow, MatterRowSink,
+    MovementSink, RowSink,
 };

@@ -3,6 +3,7 @@
 ghost use Rattle.std.specs.Prelude.{◌≡◌, ℕ, OnOk, OnErr};
 ghost use Rattle.firm_rows.specs.Firm.{Row, HeadRow, SeatRow, EntryRow, row_of};
 
+use crate::dismissal::Dismissal;
 use crate::ledger::{BalanceRow, FirmLine};
 use crate::matter_act::MatterAct;
 use crate::movement::Movement;
@@ -121,6 +122,19 @@ pub trait ActSink {
     /// Receives an act of a matter.
     fn act(&mut self, act: &MatterAct) -> Result<(), AllocError>
         ensures ok { OnOk result (self.new ≡ remembered self.old act.now) }
+        ensures err { OnErr result (self.new ≡ self.old) };
+}
+
+/// Receives the dismissals of a firm in order. If memory runs out, the sink is unchanged.
+pub trait DismissalSink {
+    ghost use Rattle.firm_rows.specs.declared.dismissal.Dismissal.{Dismissal};
+
+    /// The sink after a dismissal.
+    ghost taken_out: { Self → Dismissal → Self };
+
+    /// Receives a dismissal: a whole bank line that was taken out of the exceptions, with the day.
+    fn dismissal(&mut self, dismissal: &Dismissal) -> Result<(), AllocError>
+        ensures ok { OnOk result (self.new ≡ taken_out self.old dismissal.now) }
         ensures err { OnErr result (self.new ≡ self.old) };
 }
 

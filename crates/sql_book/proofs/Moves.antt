@@ -1,9 +1,8 @@
 -- Tables that were moved stand for the firm for which the tables of version 1 stood, and tables with an added trail for
 -- the one for which the others stood.
-use Rattle.sql_book.proofs.Names.{◌≡◌, List, [], ◌∷◌, map, length, refl, sym, ap, subst, arith, Row, Trees, Database, Layout, Made, Moved, Stood, IsMoved, IsExtended, AreSound, firm_from, Stands, StandsSound, firm_in, firm_then, StoodSound, firm_bare, BareStands, BareStandsSound}
-use Rattle.sqlite_catalog.specs.Change.{KeepsRows}
-use Rattle.sql_schema.specs.Bare.{bare_schema}
-use Rattle.sql_schema.specs.Schema.{matter_tree, seat_tree, entry_tree, journal_tree, firm_line_tree, exception_tree, balance_tree, act_tree}
+use Rattle.sql_book.proofs.Names.{◌≡◌, List, [], ◌∷◌, map, length, refl, sym, ap, subst, arith, Row, Database, Layout, Moved, Stood, IsMoved, IsExtended, AreSound, firm_from, Stands, StandsSound, firm_in, firm_then, StoodSound, firm_bare, BareStands, BareStandsSound}
+use Rattle.sql_schema.specs.Schema.{act_tree}
+use Rattle.sql_making.proofs.Extended.{alike}
 use Rattle.sql_tables.specs.Lists.{Lists}
 use Rattle.sql_tables.specs.Rows.{act_in}
 use Rattle.sql_tables.specs.Standing.{HeadsHold, SeatsHold, EntriesHold, MovementsHold, FirmLinesHold, ExceptionsHold, BalancesHold, ActsHold}
@@ -20,36 +19,6 @@ moved_in l db next is m s = subst (λ k. StandsSound k next) (sym is) (moved_sta
 
 pub firm_moved_in : (l : Layout) (db next : Database) → l ≡ Moved → IsMoved db next → Stood db → firm_in l next.trees ≡ firm_then db.trees
 firm_moved_in l db next is m s = subst (λ k. firm_in k next.trees ≡ firm_then db.trees) (sym is) (moved_firm db next m s)
-
--- The tables that were there are there still.
-record AreAlike (l : Layout) (db next : Trees) : Type 0 where
-  heads : next (matter_tree l) ≡ db (matter_tree l)
-  seats : next (seat_tree l) ≡ db (seat_tree l)
-  entries : next (entry_tree l) ≡ db (entry_tree l)
-  movements : next (journal_tree l) ≡ db (journal_tree l)
-  firm_lines : next (firm_line_tree l) ≡ db (firm_line_tree l)
-  exceptions : next (exception_tree l) ≡ db (exception_tree l)
-  balances : next (balance_tree l) ≡ db (balance_tree l)
-
-alike : (l : Layout) (db next : Trees) → KeepsRows (bare_schema l).tables db next → AreAlike l db next
-alike Made db next k = record {
-  heads = k.1.0;
-  seats = k.1.1.0;
-  entries = k.1.1.1.0;
-  movements = k.1.1.1.1.0;
-  firm_lines = k.1.1.1.1.1.1.0;
-  exceptions = k.1.1.1.1.1.1.1.0;
-  balances = k.1.1.1.1.1.1.1.1.0;
-}
-alike Moved db next k = record {
-  heads = k.1.1.1.1.1.1.1.1.1.0;
-  seats = k.1.1.1.1.1.1.1.1.1.1.0;
-  entries = k.1.1.1.1.1.1.1.1.1.1.1.0;
-  movements = k.1.1.1.1.0;
-  firm_lines = k.1.1.1.1.1.1.0;
-  exceptions = k.1.1.1.1.1.1.1.0;
-  balances = k.1.1.1.1.1.1.1.1.0;
-}
 
 -- a trail without acts
 no_acts : (rows : List Row) → map act_in rows ≡ [] → ActsHold rows

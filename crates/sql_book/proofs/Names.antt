@@ -1,6 +1,6 @@
 -- The names that the proofs of this crate cite, passed on from one place. Declares nothing.
 pub use Rattle.firm_rows.specs.Firm.{Firm, acted, after_edit}
-pub use Rattle.firm_rows.specs.FirmChange.{FirmChange, FitsFirm, OfBalance, OfFirm, OfMatter, Repeated, Unmatched, after}
+pub use Rattle.firm_rows.specs.FirmChange.{Dismissed, FirmChange, FitsFirm, OfBalance, OfFirm, OfMatter, Repeated, Unmatched, after}
 pub use Rattle.firm_rows.specs.FirmLines.{as_firm_line, balance_row}
 pub use Rattle.sql_making.specs.Books.{AreNewBook, IsBook, IsNewBook, versions_in}
 pub use Rattle.sql_making.specs.Bare.{IsBareBook, IsExtended}
@@ -8,7 +8,7 @@ pub use Rattle.sql_making.specs.Then.{IsMoved, IsOldBook, Stood}
 pub use Rattle.sql_rows.specs.Columns.{balance_columns, firm_line_columns}
 pub use Rattle.sql_rows.specs.Meaning.{AreKeyed, AreSound, firm_from}
 pub use Rattle.sql_rows.specs.Standing.{EmptyTablesStand, Lasts, StandsSound, firm_in, no_lists}
-pub use Rattle.sql_rows.specs.Steps.{AddBalance, AddFirmLine, AddMovement, AreMade, ExceptionGone, IsMade, NoteException, matter_steps, step_of, steps_of}
+pub use Rattle.sql_rows.specs.Steps.{AddAct, AddBalance, AddFirmLine, AddMovement, AreMade, ExceptionGone, IsMade, NoteException, matter_steps, step_of, steps_of}
 pub use Rattle.sql_schema.specs.Bare.{bare_schema}
 pub use Rattle.sql_schema.specs.Schema.{book_schema}
 pub use Rattle.sql_schema.specs.declared.layout.Layout.{Layout}

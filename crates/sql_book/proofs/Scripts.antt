@@ -1,6 +1,5 @@
 -- What a script leaves, as the steps of its statements.
 use Rattle.sql_book.proofs.Names.{List, [], ◌∷◌, map, Layout, Database, SqlStatement, Lists, lists_in, IsStep, AreSteps, Stands, AreKeyed, step_of, IsMade, AreMade, arith, ints, nat_tests}
-use Rattle.sql_tables.specs.declared.statements.SqlStatement.TheVariants as statement
 
 made_of_step : (s : SqlStatement) (a b : Lists) → IsStep s a b → IsMade (step_of s) a b
 made_of_step s a b is = grind (arith, ints, nat_tests)

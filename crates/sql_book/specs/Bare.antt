@@ -10,7 +10,7 @@ use Rattle.sql_tables.specs.Standing.{HeadsHold, SeatsHold, EntriesHold, Movemen
 use Rattle.sql_making.specs.Bare.{bare_lists}
 use Rattle.sql_rows.specs.Meaning.{AreSound, firm_from}
 
--- the firm whose rows its tables stand for; it has no acts
+-- the firm whose rows its tables stand for; it has neither acts nor dismissals
 abbrev pub firm_bare : Layout → Trees → Firm
 firm_bare l db = firm_from (bare_lists l db)
 

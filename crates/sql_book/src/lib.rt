@@ -13,10 +13,11 @@
 //! If the tables stand for the rows of a sound firm, and what was read is what had been written (of a read that answers
 //! Ok, and of a write whose change fits the firm):
 //!
-//! - `SqlBook`'s writes of a line: the change by a line that matches nothing, comes again, is the firm's own, or is a
-//!   balance. After an Ok the tables stand for the firm after that change, which is sound, and it is settled; at an
-//!   error, if the connection still serves, nothing has changed; a crash leaves what it might have left before, or the
-//!   whole change (`written`).
+//! - `SqlBook`'s writes of a line: the change by a line that matches nothing, comes again, is the firm's own, is a
+//!   balance, or is dismissed: its row of the trail is written in the transaction that takes it out of the exceptions.
+//!   After an Ok the tables stand for the firm after that change, which is sound, and it is settled; at an error, if
+//!   the connection still serves, nothing has changed; a crash leaves what it might have left before, or the whole
+//!   change (`written`).
 //! - `write_change`: the same of each change of a matter, whether a line of the bank made it or not: the head with its
 //!   totals, a seat given or taken, an entry with what is left of it and of the one that it names, what was moved, a
 //!   purge, and the act that the change is remembered by (`written`).
@@ -33,10 +34,10 @@
 //! - `SqlBook::adopt`: the book that a database holds, which serves and is settled: one of this version in its layout,
 //!   with the tables that were there; or one of version 1, whose rows were moved into the tables of this version, which
 //!   stand for the firm for which those stood; or one of this version that had no trail, with an empty one, which
-//!   stands for the firm for which its other tables stood, with no acts. It does not test whether the rows stand for a
-//!   firm; if they do, and the firm is sound, the book stands and lasts (`taken`). It writes only if the book is of
-//!   version 1 or has no trail, all of it or nothing, also over a crash (`kept`, `crash`, `crash_at_fault`); NotABook
-//!   only of a database that holds none of these (`not_a_book`).
+//!   stands for the firm for which its other tables stood, with no acts and no dismissals. It does not test whether the
+//!   rows stand for a firm; if they do, and the firm is sound, the book stands and lasts (`taken`). It writes only if
+//!   the book is of version 1 or has no trail, all of it or nothing, also over a crash (`kept`, `crash`,
+//!   `crash_at_fault`); NotABook only of a database that holds none of these (`not_a_book`).
 //! - `SqlBook::version`: the version that its tables say, if they say one and no more, else Store (`is`); nothing is
 //!   written (`kept`, `settled`, `crash`), and an answer of Store is counted (`count`).
 //! - `laws` `stops_leave_books`, `stops_are_taken`: take a book that lasts, any stop, and the files opened again. The

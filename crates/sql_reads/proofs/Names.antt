@@ -1,7 +1,8 @@
 -- The names that the proofs of this crate cite, passed on from one place. Declares nothing.
 pub use Rattle.firm_rows.specs.Countable.{AreCountable, IsRowInRange, MOST_ROWS}
-pub use Rattle.firm_rows.specs.Firm.{EntryRow, Firm, HeadRow, SeatRow, empty_firm, of, pairs, seat_pairs, with_acts}
+pub use Rattle.firm_rows.specs.Firm.{EntryRow, Firm, HeadRow, SeatRow, empty_firm, of, pairs, seat_pairs, with_acts, with_trail}
 pub use Rattle.firm_rows.specs.declared.ledger.BalanceRow.{BalanceRow}
+pub use Rattle.firm_rows.specs.declared.dismissal.Dismissal.{Dismissal}
 pub use Rattle.firm_rows.specs.declared.matter_act.MatterAct.{MatterAct}
 pub use Rattle.matter_parts.specs.Parts.{AreFigures, AreNumbered, IsPart, IsWhole, Part, entry_in, is_held, is_it, is_named, kept_in, named_part, target_by}
 pub use Rattle.matter_parts.specs.declared.figures.Figures.{Figures}
@@ -18,8 +19,8 @@ pub use Rattle.sql_rows.specs.Standing.{StandsSound, firm_in}
 pub use Rattle.sql_rows.specs.Steps.{head_at}
 pub use Rattle.sql_schema.specs.declared.layout.Layout.{Layout}
 pub use Rattle.sql_tables.proofs.Calls.{IsQuery, answers, asked_left, fails_kept, kept_either, kept_unchanged, leaves_on, leaves_then}
-pub use Rattle.sql_tables.proofs.Means.{act_scan_asks, act_scan_selects, balance_read_asks, balance_read_selects, balance_scan_asks, balance_scan_selects, entries_read_asks, entries_read_selects, entry_read_asks, entry_read_selects, exception_scan_asks, exception_scan_selects, firm_scan_asks, firm_scan_selects, head_read_asks, head_read_selects, head_scan_asks, head_scan_selects, journal_scan_asks, journal_scan_selects, next_head_asks, next_head_selects, seats_read_asks, seats_read_selects}
-pub use Rattle.sql_tables.proofs.ReadLemmas.{act_scan_answer, balance_read_answer, balance_scan_answer, entries_read_answer, entry_read_answer, exception_scan_answer, firm_scan_answer, head_read_answer, head_scan_answer, journal_scan_answer, next_head_answer, seats_read_answer}
+pub use Rattle.sql_tables.proofs.Means.{act_scan_asks, act_scan_selects, balance_read_asks, balance_read_selects, balance_scan_asks, balance_scan_selects, dismissal_scan_asks, dismissal_scan_selects, entries_read_asks, entries_read_selects, entry_read_asks, entry_read_selects, exception_scan_asks, exception_scan_selects, firm_scan_asks, firm_scan_selects, head_read_asks, head_read_selects, head_scan_asks, head_scan_selects, journal_scan_asks, journal_scan_selects, next_head_asks, next_head_selects, seats_read_asks, seats_read_selects}
+pub use Rattle.sql_tables.proofs.ReadLemmas.{act_scan_answer, balance_read_answer, balance_scan_answer, dismissal_scan_answer, entries_read_answer, entry_read_answer, exception_scan_answer, firm_scan_answer, head_read_answer, head_scan_answer, journal_scan_answer, next_head_answer, seats_read_answer}
 pub use Rattle.sql_tables.specs.Given.{head_given}
 pub use Rattle.sql_tables.specs.Lists.{Lists, lists_in}
 pub use Rattle.sql_tables.specs.Reading.{IsKept, IsSelect, LeavesAll}
@@ -60,5 +61,5 @@ pub use Rattle.trust_store.specs.Kept.{IsKeptWhole, firm_of, joined, kept_pairs,
 pub use Rattle.trust_store.specs.Named.{IsPartFor}
 pub use Rattle.sql_reads.specs.Fed.{AreCounted, IsFed}
 pub use Rattle.sql_reads.specs.Parts.{PartsAreWhole, drawn_by, figures_found, numbered_at, part_at, part_of, totals_of, with_totals_at, with_totals_from, without_matters}
-pub use Rattle.sql_reads.specs.Shown.{AreNumbersOf, act_at, balance_at, entry_rows, exception_at, firm_line_at, kept_at, movement_at, next_at, numbered_from, rows_at, seat_at, seat_rows}
+pub use Rattle.sql_reads.specs.Shown.{AreNumbersOf, act_at, balance_at, dismissal_at, entry_rows, exception_at, firm_line_at, kept_at, movement_at, next_at, numbered_from, rows_at, seat_at, seat_rows}
 pub use Rattle.sql_reads.specs.declared.matter.HeadWithTotals.{HeadWithTotals}

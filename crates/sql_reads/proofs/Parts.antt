@@ -7,7 +7,7 @@ use Rattle.sql_rows.proofs.Heads.{rows_at}
 
 module _ (m : ℕ) (a : Lists) (sound : AreSound a) where
   own_rows : rows_in m (matters_from a) ≡ of m (firm_from a)
-  own_rows = firm_rows m (matters_from a) (matters_from a) _ _ _ _ _ (firm_from a) refl sound.meant.matters.ascends refl
+  own_rows = firm_rows m (matters_from a) (matters_from a) _ _ _ _ _ _ (firm_from a) refl sound.meant.matters.ascends refl
 
   rows_are : rows_found (part_from a) (find (table.is_head (pos m)) a.heads) ≡ of m (firm_from a)
   rows_are = sym (rows_at a m sound.keyed.heads sound.meant.written.heads) ∙ own_rows

@@ -1,5 +1,5 @@
 -- What the tables hold of one matter, column by column.
-use Rattle.std.specs.Prelude.{◌≡◌, ℕ, pos, List, [], map, find, Option, Some, None, option_map}
+use Rattle.std.specs.Prelude.{ℕ, pos, List, [], map, find, Option, Some, None, option_map}
 use Rattle.matter_rows.specs.declared.seat.Seat.{Seat}
 use Rattle.matter_parts.specs.declared.figures.Figures.{Figures}
 use Rattle.matter_parts.specs.declared.kept.Kept.{Kept}

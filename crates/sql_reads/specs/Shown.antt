@@ -6,6 +6,7 @@ use Rattle.trust_base.specs.declared.line.Line.{Line}
 use Rattle.matter_rows.specs.declared.head.Head.{Head}
 use Rattle.matter_rows.specs.declared.seat.Seat.{Seat}
 use Rattle.matter_parts.specs.declared.kept.Kept.{Kept}
+use Rattle.firm_rows.specs.declared.dismissal.Dismissal.{Dismissal}
 use Rattle.firm_rows.specs.declared.matter_act.MatterAct.{MatterAct}
 use Rattle.firm_rows.specs.declared.movement.Movement.{Movement}
 use Rattle.firm_rows.specs.declared.ledger.FirmLine.{FirmLine}
@@ -15,7 +16,7 @@ use Rattle.trust_store.specs.Kept.{kept_pairs}
 use Rattle.sql_tables.specs.Lists.{Lists}
 use Rattle.sql_tables.specs.Rows as table
 use Rattle.sql_rows.specs.Meaning.{head_from, kept_from, seat_from}
-use Rattle.sql_rows.specs.Meaning.{movement_from, firm_line_from, exception_from, balance_from, act_from}
+use Rattle.sql_rows.specs.Meaning.{movement_from, firm_line_from, exception_from, balance_from, act_from, dismissal_from}
 
 -- the seat that a row of a matter shows
 abbrev pub seat_at : ℕ → Row → Seat
@@ -67,3 +68,7 @@ balance_at r = balance_from (table.balance_in (Int (pos 0) ∷ r))
 -- the act that a row of the trail shows
 abbrev pub act_at : Row → MatterAct
 act_at r = act_from (table.act_in (Int (pos 0) ∷ Null ∷ r))
+
+-- the dismissal that a row of the trail shows
+abbrev pub dismissal_at : Row → Dismissal
+dismissal_at r = dismissal_from (table.act_in (Int (pos 0) ∷ Null ∷ r))

@@ -14,12 +14,13 @@ ghost use Rattle.sql_rows.specs.Standing.{firm_in};
 ghost use Rattle.sql_reads.specs.Parts.{without_matters};
 
 use crate::lists::{
-    StoredActs, StoredBalances, StoredExceptions, StoredFirmLines, StoredMovements, each_listed,
+    StoredActs, StoredBalances, StoredDismissals, StoredExceptions, StoredFirmLines,
+    StoredMovements, each_listed,
 };
 use crate::matter::{opened_matters, whole_matter};
 use firm_rows::{
-    ActSink, BalanceRow, BalanceSink, ExceptionSink, FirmLine, FirmLineSink, MatterAct, Movement,
-    MovementSink, Owner,
+    ActSink, BalanceRow, BalanceSink, Dismissal, DismissalSink, ExceptionSink, FirmLine,
+    FirmLineSink, MatterAct, Movement, MovementSink, Owner,
 };
 use sqlite::{Alter, Connection};
 use std::alloc::{AllocError, Global};
@@ -53,7 +54,8 @@ fn all_matters<S: Alter>(
     Ok(matters)
 }
 
-// Keeps the movements, the lines of the firm's own, the exceptions, the balances and the acts that are passed to it.
+// Keeps the movements, the lines of the firm's own, the exceptions, the balances, the acts and the dismissals that are
+// passed to it.
 //
 // Contracts see it as the firm that has only these rows.
 #[derive(Drop)]
@@ -63,16 +65,17 @@ struct RowLists {
     exceptions: Vec<Line>,
     balances: Vec<BalanceRow>,
     acts: Vec<MatterAct>,
+    dismissals: Vec<Dismissal>,
 }
 
 impl Model for RowLists {
     ghost use Rattle.std.specs.Prelude.{[]};
-    ghost use Rattle.firm_rows.specs.Firm.{Firm, with_acts};
+    ghost use Rattle.firm_rows.specs.Firm.{Firm, with_trail};
     ghost use Rattle.trust_store.specs.Kept.{firm_of};
 
     ghost Value = { Firm };
 
-    ghost view = { λ l. with_acts l.acts.items
+    ghost view = { λ l. with_trail l.acts.items l.dismissals.items
         (firm_of [] l.movements.items l.firm_lines.items l.exceptions.items l.balances.items) };
 }
 
@@ -87,6 +90,7 @@ impl RowLists {
             exceptions: Vec::new(alloc),
             balances: Vec::new(alloc),
             acts: Vec::new(alloc),
+            dismissals: Vec::new(alloc),
         }
     }
 }
@@ -137,6 +141,15 @@ impl ActSink for RowLists {
     }
 }
 
+impl DismissalSink for RowLists {
+    ghost taken_out = { λ lists dismissal. record lists { dismissals = lists.dismissals ++ dismissal ∷ [] } };
+
+    fn dismissal(&mut self, dismissal: &Dismissal) -> Result<(), AllocError> {
+        self.dismissals.push(dismissal.copied()?)?;
+        Ok(())
+    }
+}
+
 // Reads the lists of the firm: all but the rows of its matters.
 fn all_others<S: Alter>(conn: &mut Connection<S>, alloc: Global) -> Result<RowLists, StoreFault>
     requires { conn.old.in_transaction ≡ false }
@@ -151,13 +164,14 @@ fn all_others<S: Alter>(conn: &mut Connection<S>, alloc: Global) -> Result<RowLi
     each_listed(conn, &StoredExceptions { alloc }, &mut lists)?;
     each_listed(conn, &StoredBalances, &mut lists)?;
     each_listed(conn, &StoredActs { alloc }, &mut lists)?;
+    each_listed(conn, &StoredDismissals { alloc }, &mut lists)?;
     Ok(lists)
 }
 
 /// Reads all rows of the firm at once: each matter that has a head with all its entries, by number; the movements, the
-/// lines of the firm's own and the acts, in order of acceptance; the exceptions and the balances, in their own order.
-/// The firm need not be sound, but each matter must be: returns `Store` for a matter that is not whole and sound, and
-/// for a row that stands for nothing.
+/// lines of the firm's own, the acts and the dismissals, in order of acceptance; the exceptions and the balances, in
+/// their own order. The firm need not be sound, but each matter must be: returns `Store` for a matter that is not whole
+/// and sound, and for a row that stands for nothing.
 pub fn all_rows<S: Alter>(conn: &mut Connection<S>, alloc: Global) -> Result<AllRows, StoreFault>
     requires { conn.old.in_transaction ≡ false }
     ensures mode { conn.new.in_transaction ≡ false }
@@ -176,5 +190,6 @@ pub fn all_rows<S: Alter>(conn: &mut Connection<S>, alloc: Global) -> Result<All
         exceptions: others.exceptions,
         balances: others.balances,
         acts: others.acts,
+        dismissals: others.dismissals,
     })
 }

@@ -1,6 +1,6 @@
 // The lists of the firm: the movements of the journal, the lines of the firm's own ledger, the bank lines that matched
-// nothing, the balances that the bank reported, and the acts. Each is passed to a sink one row at a time; the ledger is
-// also read at once, and a single balance by its kind and day.
+// nothing, the balances that the bank reported, the acts and the dismissals. Each is passed to a sink one row at a
+// time; the ledger is also read at once, and a single balance by its kind and day.
 
 ghost use Rattle.std.specs.Prelude.{◌≡◌, ◌≢◌, ℤ, false, List, [], ◌∷◌, ◌++◌, map, IfOk, IfErr, OnOk};
 ghost use Rattle.sqlite_value.specs.declared.value.Value.TheVariants.{Int};
@@ -20,10 +20,12 @@ ghost use Rattle.sql_reads.specs.Fed.{IsListOf};
 use crate::columns::{act_in, balance_in, exception_in, firm_line_in, movement_in, number_at};
 use crate::query::{RowTaking, hand_rows, rows_of};
 use firm_rows::{
-    ActSink, BalanceKind, BalanceSink, ExceptionSink, FirmLedger, FirmLine, FirmLineSink, MAX_OWN,
-    MovementSink,
+    ActSink, BalanceKind, BalanceSink, DismissalSink, ExceptionSink, FirmLedger, FirmLine,
+    FirmLineSink, MAX_OWN, MovementSink,
 };
-use sql_rows::{act_of, balance_of, exception_of, firm_line_of, kind_column, movement_of};
+use sql_rows::{
+    act_of, balance_of, dismissal_of, exception_of, firm_line_of, kind_column, movement_of,
+};
 use sqlite::{Alter, Connection, Row};
 use sqlite_value::value::ValueRef;
 use std::alloc::Global;
@@ -200,7 +202,40 @@ impl<K: ActSink> Listing<K> for StoredActs {
     ghost hands = { λ firm result old new. AreHanded K.remembered IsActInRange firm.acts result old new };
 
     fn select<S: Alter>(&self) -> &'static str {
-        "SELECT matter, entry, day, deed, caller, text, number FROM trail ORDER BY seq"
+        "SELECT matter, entry, day, deed, caller, text, number FROM trail WHERE matter <> 0 ORDER BY seq"
+    }
+}
+
+/// The dismissals, in order of acceptance: the rows of the trail that are of no matter.
+#[derive(Drop)]
+pub struct StoredDismissals {
+    pub alloc: Global,
+}
+
+impl<K: DismissalSink> RowTaking<K> for StoredDismissals {
+    ghost use Rattle.firm_rows.specs.Countable.{IsDismissalInRange};
+    ghost use Rattle.sql_reads.specs.Shown.{dismissal_at};
+
+    ghost taken = { λ _ sink row. K.taken_out sink (dismissal_at row) };
+
+    ghost fits = { λ _ row. IsDismissalInRange (dismissal_at row) };
+
+    fn take(&self, row: &Row, sink: &mut K) -> Result<(), StoreFault> {
+        let dismissal = dismissal_of(self.alloc, act_in(row)?)?;
+        sink.dismissal(&dismissal)?;
+        Ok(())
+    }
+}
+
+impl<K: DismissalSink> Listing<K> for StoredDismissals {
+    ghost use Rattle.firm_rows.specs.Countable.{IsDismissalInRange};
+    ghost use Rattle.firm_rows.specs.Handing.{AreHanded};
+
+    ghost hands = { λ firm result old new.
+        AreHanded K.taken_out IsDismissalInRange firm.dismissals result old new };
+
+    fn select<S: Alter>(&self) -> &'static str {
+        "SELECT matter, entry, day, deed, caller, text, number FROM trail WHERE matter = 0 ORDER BY seq"
     }
 }
 

@@ -1,8 +1,11 @@
--- The firm's acts, after one was added and after those of a matter are gone.
-use Rattle.sql_rows.proofs.Names.{◌≡◌, ℕ, ℤ, pos, nat_abs, ◌==◌, ◌≤◌, Bool, true, false, not, ◌&&◌, cond, List, [], ◌∷◌, ◌++◌, map, length, Option, Some, None, IfSome, refl, sym, ap, ◌∙◌, arith, append-nil, int_eq, AllByRecursion, map-append, nat_tests, delete_where, all-append, all-filter, all_weaker, Edit, Act, Caller, Deed, MatterAct, acts_without, joined_act, joined_acts, is_act_of, Lists, act_columns, act_entry_column, caller_column, deed_column, text_column, number_column, IsCaller, act_from, caller_from, entry_or_none, IsWrittenAct, IsTypedAct, AreMade, act_steps, trail_steps, ints}
+-- The firm's acts, after one was added and after those of a matter are gone; the dismissals stay.
+use Rattle.sql_rows.proofs.Names.{◌≡◌, ℕ, ℤ, pos, nat_abs, ◌==◌, ◌≤◌, Bool, true, false, not, ◌&&◌, cond, List, [], ◌∷◌, ◌++◌, map, length, Option, Some, None, IfSome, refl, sym, ap, subst, ◌∙◌, arith, append-nil, int_eq, AllByRecursion, map-append, nat_tests, delete_where, all-append, all-filter, all_weaker, Edit, Act, Caller, Deed, MatterAct, acts_without, joined_act, joined_acts, acts_among, dismissals_among, is_act_of, Lists, act_columns, act_entry_column, caller_column, deed_column, text_column, number_column, IsCaller, act_from, caller_from, entry_or_none, IsWrittenAct, IsTypedAct, AreMade, act_steps, trail_steps, ints}
 use Rattle.std.specs.Prelude.{nat_le}
 use Rattle.std.specs.List.{list_all}
 use Rattle.std.specs.Str.{bytes_eq}
+use Rattle.std.proofs.lemmas.Bool.Decides.{Decides-int_eq}
+use Rattle.std.proofs.lemmas.List.Elements.{filter-append}
+use Rattle.std.proofs.Common.{filter}
 use Rattle.trust_base.specs.Names.{cashier_text, is_person_byte, is_person_text, IsPerson}
 use Rattle.trust_base.specs.declared.limits.TheConstants.{MAX_PERSON}
 use Rattle.trust_values.specs.Limits.{IsEntryNo}
@@ -118,57 +121,135 @@ acts_gone m xs all =
     read-filter_agrees act_from (λ x. not (is_act_of (pos m) x)) (λ a. not (a.matter == m)) xs
     (all_weaker IsWrittenAct _ (λ x is. ap not (same_matter m x is)) xs all)
 
+-- Acts and dismissals are rows of one table: a row of a matter is an act, and no other.
+
+-- no matter has number 0
+of_matter : (m : ℕ) → 1 ≤ m → int_eq (pos m) (pos 0) ≡ false
+of_matter m one = int_eq-nat m 0 ∙ not_zero m one
+
+of_none : (m : ℕ) → 1 ≤ m → int_eq (pos 0) (pos m) ≡ false
+of_none m one = grind (arith, ints, nat_tests, of_matter)
+
+-- two filters, in either order
+filters_turn : {X : Type 0} (p q : X → Bool) (xs : List X) → filter p (filter q xs) ≡ filter q (filter p xs)
+filters_turn p q [] = refl
+filters_turn p q (x ∷ xs) = grind (arith, filters_turn p q xs)
+
+-- a filter that all pass whom the other lets through
+filter_passed :
+    {X : Type 0} (p q : X → Bool) → ((x : X) → p x ≡ true → q x ≡ true)
+    → (xs : List X) → filter p (filter q xs) ≡ filter p xs
+filter_passed p q all [] = refl
+filter_passed p q all (x ∷ xs) = grind (arith, all x, filter_passed p q all xs)
+
+int_same : (a b : ℤ) → int_eq a b ≡ true → a ≡ b
+int_same a b is = (Decides-int_eq a b).0 is
+
+-- such a row is one more act, and no dismissal
+among_added : (m : ℕ) (x : table.Act) (xs : List table.Act) → 1 ≤ m → x.matter ≡ pos m
+    → (acts_among (xs ++ x ∷ []) ≡ acts_among xs ++ x ∷ []) × (dismissals_among (xs ++ x ∷ []) ≡ dismissals_among xs)
+among_added m x xs one own =
+    let other : is_act_of (pos 0) x ≡ false = ap (λ z. int_eq z (pos 0)) own ∙ of_matter m one in (
+      filter-append (λ y. not (is_act_of (pos 0) y)) xs (x ∷ [])
+          ∙ ap (λ b. acts_among xs ++ cond (not b) (x ∷ []) []) other,
+      filter-append (is_act_of (pos 0)) xs (x ∷ [])
+          ∙ ap (λ b. dismissals_among xs ++ cond b (x ∷ []) []) other ∙ append-nil (dismissals_among xs),
+    )
+
+-- without the rows of a matter there are the acts without its own, and all dismissals
+among_gone : (m : ℕ) (xs : List table.Act) → 1 ≤ m
+    → (acts_among (delete_where (is_act_of (pos m)) xs) ≡ delete_where (is_act_of (pos m)) (acts_among xs))
+    × (dismissals_among (delete_where (is_act_of (pos m)) xs) ≡ dismissals_among xs)
+among_gone m xs one = (
+  filters_turn (λ x. not (is_act_of (pos 0) x)) (λ x. not (is_act_of (pos m) x)) xs,
+  filter_passed (is_act_of (pos 0)) (λ x. not (is_act_of (pos m) x))
+      (λ x own. ap not (ap (λ z. int_eq z (pos m)) (int_same x.matter (pos 0) own) ∙ of_none m one)) xs,
+)
+
+-- a row of no matter is one more dismissal, and no act
+pub own_added : (x : table.Act) (xs : List table.Act) → x.matter ≡ pos 0
+    → (acts_among (xs ++ x ∷ []) ≡ acts_among xs) × (dismissals_among (xs ++ x ∷ []) ≡ dismissals_among xs ++ x ∷ [])
+own_added x xs own =
+    let none : is_act_of (pos 0) x ≡ true = ap (λ z. int_eq z (pos 0)) own in (
+      filter-append (λ y. not (is_act_of (pos 0) y)) xs (x ∷ [])
+          ∙ ap (λ b. acts_among xs ++ cond (not b) (x ∷ []) []) none ∙ append-nil (acts_among xs),
+      filter-append (is_act_of (pos 0)) xs (x ∷ [])
+          ∙ ap (λ b. dismissals_among xs ++ cond b (x ∷ []) []) none,
+    )
+
 -- What a change makes of them.
 
--- no other table changes, and the rows stand for the acts after the change, and are what would be written for them
+-- other rows of the trail: they stand for the acts after the change, and are what would be written for them, and the
+-- dismissals are as they were
+pub record AreActsAfter (m : ℕ) (o : Option Act) (e : Edit) (old new : List table.Act) : Type 0 where
+  pub shown : map act_from (acts_among new) ≡ joined_acts m e o (map act_from (acts_among old))
+  pub written : AllByRecursion IsWrittenAct (acts_among new)
+  pub dismissed : dismissals_among new ≡ dismissals_among old
+
+-- no other table changes
 pub record AreActsMade (m : ℕ) (o : Option Act) (e : Edit) (a b : Lists) : Type 0 where
   pub acts : List table.Act
   pub same : b ≡ record a { acts = acts }
-  pub shown : map act_from acts ≡ joined_acts m e o (map act_from a.acts)
-  pub written : AllByRecursion IsWrittenAct acts
+  pub after : AreActsAfter m o e a.acts acts
 
-module _ (m : ℕ) (a b : Lists) (all : AllByRecursion IsWrittenAct a.acts) where
+module _ (m : ℕ) (a b : Lists) (one : 1 ≤ m) (all : AllByRecursion IsWrittenAct (acts_among a.acts)) where
   -- the act that the change is remembered by is added
   pub record IsActMade (o : Option Act) : Type 0 where
     pub acts : List table.Act
     pub same : b ≡ record a { acts = acts }
-    pub shown : map act_from acts ≡ map act_from a.acts ++ joined_act m o
-    pub written : AllByRecursion IsWrittenAct acts
+    pub shown : map act_from (acts_among acts) ≡ map act_from (acts_among a.acts) ++ joined_act m o
+    pub written : AllByRecursion IsWrittenAct (acts_among acts)
+    pub dismissed : dismissals_among acts ≡ dismissals_among a.acts
 
   act_made : (o : Option Act) → IsTypedAct o → AreMade (act_steps m o) a b → IsActMade o
   act_made None typed made = record {
     acts = a.acts;
     same = made;
-    shown = sym (append-nil (map act_from a.acts));
+    shown = sym (append-nil (map act_from (acts_among a.acts)));
     written = all;
+    dismissed = refl;
   }
   act_made (Some act) typed made =
       let x : MatterAct = record { matter = m; act = act } in
-      let seq : ℤ = made.1.0 in record {
-        acts = a.acts ++ record (act_columns x) { seq = seq } ∷ [];
+      let seq : ℤ = made.1.0 in
+      let row : table.Act = record (act_columns x) { seq = seq } in
+      let among = among_added m row a.acts one refl in record {
+        acts = a.acts ++ row ∷ [];
         same = made.2 ∙ made.1.1;
-        shown = acts_added x seq a.acts typed;
-        written = written_act_added x seq a.acts typed all;
+        shown = ap (map act_from) among.0 ∙ acts_added x seq (acts_among a.acts) typed;
+        written =
+            subst (AllByRecursion IsWrittenAct) (sym among.0) (written_act_added x seq (acts_among a.acts) typed all);
+        dismissed = among.1;
       }
 
   added : (o : Option Act) (e : Edit) → IsTypedAct o → AreMade (act_steps m o) a b
-      → joined_acts m e o (map act_from a.acts) ≡ map act_from a.acts ++ joined_act m o → AreActsMade m o e a b
+      → joined_acts m e o (map act_from (acts_among a.acts)) ≡ map act_from (acts_among a.acts) ++ joined_act m o
+      → AreActsMade m o e a b
   added o e typed made is =
-      let it = act_made o typed made in
-      record { acts = it.acts; same = it.same; shown = it.shown ∙ sym is; written = it.written }
+      let it = act_made o typed made in record {
+        acts = it.acts;
+        same = it.same;
+        after = record { shown = it.shown ∙ sym is; written = it.written; dismissed = it.dismissed };
+      }
 
   -- each change does so, but one of nothing, and a purge, which removes those of the matter
   pub acts_made : (o : Option Act) (e : Edit) → IsTypedAct o → AreMade (trail_steps m o e) a b → AreActsMade m o e a b
-  acts_made o edit.Nothing typed made = record { acts = a.acts; same = made; shown = refl; written = all }
+  acts_made o edit.Nothing typed made =
+      record { acts = a.acts; same = made; after = record { shown = refl; written = all; dismissed = refl } }
   acts_made o (edit.Open x) typed made = added o (edit.Open x) typed made refl
   acts_made o (edit.Seat x) typed made = added o (edit.Seat x) typed made refl
   acts_made o (edit.Unseat x) typed made = added o (edit.Unseat x) typed made refl
   acts_made o (edit.Close x) typed made = added o (edit.Close x) typed made refl
-  acts_made o (edit.Purge x) typed made = record {
-    acts = delete_where (is_act_of (pos m)) a.acts;
-    same = made.2 ∙ made.1;
-    shown = acts_gone m a.acts all;
-    written = all-filter IsWrittenAct _ a.acts all;
-  }
+  acts_made o (edit.Purge x) typed made =
+      let among = among_gone m a.acts one in record {
+        acts = delete_where (is_act_of (pos m)) a.acts;
+        same = made.2 ∙ made.1;
+        after = record {
+          shown = ap (map act_from) among.0 ∙ acts_gone m (acts_among a.acts) all;
+          written =
+              subst (AllByRecursion IsWrittenAct) (sym among.0) (all-filter IsWrittenAct _ (acts_among a.acts) all);
+          dismissed = among.1;
+        };
+      }
   acts_made o (edit.Append x) typed made = added o (edit.Append x) typed made refl
   acts_made o (edit.Exchange x) typed made = added o (edit.Exchange x) typed made refl

@@ -1,11 +1,7 @@
 -- An entry that is read back from its columns is the entry.
 use Rattle.sql_rows.proofs.Names.{◌≡◌, refl, ap, Payment, PaymentState, Deposit, DepositState, Claim, ClaimState, Against, Entry, parts_of, entry_from, EntriesReadBack, arith, ints, nat_tests}
 use Rattle.matter_rows.specs.declared.payment.Fund.{Fund}
-use Rattle.matter_rows.specs.declared.payment.Fund.TheVariants as fund
-use Rattle.matter_rows.specs.declared.payment.PaymentState.TheVariants as payment
 use Rattle.matter_rows.specs.declared.deposit.DepositState.TheVariants as deposit
-use Rattle.matter_rows.specs.declared.claim.ClaimState.TheVariants as claim
-use Rattle.matter_rows.specs.declared.claim.Against.TheVariants as against
 use Rattle.matter_rows.specs.declared.entry.Entry.TheVariants as entry
 
 deposit_back : (s : DepositState) (d : Deposit)

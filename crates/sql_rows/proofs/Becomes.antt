@@ -1,8 +1,9 @@
 -- What a change of one matter's rows makes of the firm for which the tables stand.
-use Rattle.sql_rows.proofs.Names.{◌≡◌, ℕ, ℤ, pos, List, [], ◌++◌, map, find, Option, Some, None, refl, sym, ap, subst, AllByRecursion, IsKeyedBy, all_weaker, Head, Entry, Rows, unopened, Sound, Figures, Kept, Part, IsWhole, AreKept, AreNumbered, entries_kept, no_figures, MatterChange, IsChange, changed, edited, head_after, seats_after, of, after_change, kept_movements, joined_movement, joined_acts, unopened-sound, rows_in, IsKeptAs, AreKeptWhole, put_head, is_head, seats_of, entries_of, Lists, head_columns, AreMeant, HasHeadAt, IsWrittenMovement, IsWrittenAct, act_from, firm_from, matters_from, part_from, head_from, figures_from, seat_from, kept_from, movement_from, head_at, ◌∷◌, cond_both, nat_lt, ◌==◌, IsKeptWhole, KeptMatter, sort_by, rows_kept, arith, ints, nat_tests}
+use Rattle.sql_rows.proofs.Names.{◌≡◌, ℕ, ℤ, pos, List, [], ◌++◌, map, find, Option, Some, None, refl, sym, ap, subst, ◌∙◌, AllByRecursion, IsKeyedBy, all_weaker, Head, Entry, Rows, unopened, Sound, Figures, Kept, Part, IsWhole, AreKept, AreNumbered, entries_kept, no_figures, MatterChange, IsChange, changed, edited, head_after, seats_after, of, after_change, kept_movements, joined_movement, with_dismissals, unopened-sound, rows_in, IsKeptAs, AreKeptWhole, put_head, is_head, seats_of, entries_of, Lists, head_columns, AreMeant, HasHeadAt, IsWrittenMovement, IsWrittenDismissal, dismissal_from, firm_from, matters_from, part_from, head_from, figures_from, seat_from, kept_from, movement_from, head_at, ◌∷◌, cond_both, nat_lt, ◌==◌, IsKeptWhole, KeptMatter, sort_by, rows_kept, arith, ints, nat_tests}
 use Rattle.matter_parts.specs.declared.edit.Edit.TheVariants as edit
 use Rattle.trust_store.proofs.KeptMatters.{change_in, kept-whole, written_firm}
 use Rattle.sql_tables.specs.Rows as table
+use Rattle.sql_rows.proofs.Acts.{AreActsAfter}
 use Rattle.sql_rows.proofs.HeadOrder.{key}
 use Rattle.sql_rows.proofs.Heads.{heads_put, rows_at, found_number, part_found, HasDays, written_put_head, has_put_head, still_has_head}
 use Rattle.sql_rows.proofs.KeyedRows.{none_of}
@@ -54,7 +55,7 @@ sound_in m (k ∷ ks) all = cond_both (nat_lt k.number m) (rows_in m ks) _ Sound
 pub change_at : (a : Lists) (m : ℕ) (c : MatterChange) → AreMeant a → IsChange (of m (firm_from a)) c
     → IsChange (rows_in m (matters_from a)) c
 change_at a m c meant may =
-    change_in m (matters_from a) _ _ _ _ _ (firm_from a) c meant.matters.ascends refl may
+    change_in m (matters_from a) _ _ _ _ _ _ (firm_from a) c meant.matters.ascends refl may
 
 -- The matter after a change of its head and seats.
 
@@ -102,9 +103,9 @@ with_matter a new seats entries movements = record a {
 -- what the steps of a change of a matter make of its rows: with the acts after the change they stand for the firm after
 -- it, and the exceptions and the acts stay
 pub record AreRowsMade (m : ℕ) (c : MatterChange) (a b : Lists) : Type 0 where
-  pub firm : (acts : List table.Act) → map act_from acts ≡ joined_acts m c.edit c.act (map act_from a.acts)
+  pub firm : (acts : List table.Act) → AreActsAfter m c.act c.edit a.acts acts
       → firm_from (record b { acts = acts }) ≡ after_change m c (firm_from a)
-  pub meant : (acts : List table.Act) → AllByRecursion IsWrittenAct acts → AreMeant (record b { acts = acts })
+  pub meant : (acts : List table.Act) → AreActsAfter m c.act c.edit a.acts acts → AreMeant (record b { acts = acts })
   pub exceptions : b.exceptions ≡ a.exceptions
   pub acts : b.acts ≡ a.acts
 
@@ -123,7 +124,7 @@ module _ (m : ℕ) (c : MatterChange) (a : Lists) (h : Head) (seats : List table
       → IsWhole (part_from end new) (changed c (rows_in m (matters_from a)))
       → map movement_from movements
       ≡ kept_movements m c.edit (map movement_from a.movements ++ joined_movement m c.movement)
-      → ((acts : List table.Act) → map act_from acts ≡ joined_acts m c.edit c.act (map act_from a.acts)
+      → ((acts : List table.Act) → AreActsAfter m c.act c.edit a.acts acts
       → firm_from (record end { acts = acts }) ≡ after_change m c (firm_from a))
       × AreKeptWhole (matters_from end)
   matter_becomes up meant may some placed whole moved =
@@ -140,7 +141,9 @@ module _ (m : ℕ) (c : MatterChange) (a : Lists) (h : Head) (seats : List table
         });
       } in (
         (λ acts acted.
-            written_firm m c ks (matters_from end) _ _ _ _ _ _ _ meant.matters.ascends here kept moved acted
+            ap (λ (xs : List table.Act). with_dismissals (map dismissal_from xs) (firm_from (record end { acts = acts })))
+            acted.dismissed
+            ∙ written_firm m c ks (matters_from end) _ _ _ _ _ _ _ _ meant.matters.ascends here kept moved acted.shown
             (firm_from a) some refl),
         kept-whole m (changed c (rows_in m ks)) ks (matters_from end) here.sound kept meant.matters,
       )
@@ -157,7 +160,7 @@ module _ (m : ℕ) (c : MatterChange) (a : Lists) (h : Head) (seats : List table
       let done = matter_becomes up meant may some placed whole moved in
       let here : HasHeadAt end.heads (pos m) = has_put_head new a.heads in
       let still : (k : ℤ) → HasHeadAt a.heads k → HasHeadAt end.heads k = still_has_head new a.heads in
-      let rows : (acts : List table.Act) → AllByRecursion IsWrittenAct acts → AreMeant (record end { acts = acts }) =
+      let rows : (acts : List table.Act) → AreActsAfter m c.act c.edit a.acts acts → AreMeant (record end { acts = acts }) =
       λ acts acted. record {
         written = record {
           heads = written_put_head m h c.moves.figures a.heads days meant.written.heads;
@@ -167,7 +170,8 @@ module _ (m : ℕ) (c : MatterChange) (a : Lists) (h : Head) (seats : List table
           firm_lines = meant.written.firm_lines;
           exceptions = meant.written.exceptions;
           balances = meant.written.balances;
-          acts = acted;
+          acts = acted.written;
+          dismissals = subst (AllByRecursion IsWrittenDismissal) (sym acted.dismissed) meant.written.dismissals;
         };
         matters = done.1;
         seated = placed.seats_placed.headed end.heads here

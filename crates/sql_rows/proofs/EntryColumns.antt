@@ -4,10 +4,6 @@ use Rattle.trust_base.specs.declared.refusal.StoreFault.{StoreFault}
 use Rattle.matter_rows.specs.declared.fee.Fee.{Fee}
 use Rattle.sql_rows.specs.Columns.{GivesBack}
 use Rattle.sql_rows.specs.Entries.{HasForm, IsDeposit, IsPayment, IsFee, IsClaim, HasDeposit, HasPayment, HasFee, HasClaim}
-use Rattle.matter_rows.specs.declared.deposit.DepositState.TheVariants as deposit
-use Rattle.matter_rows.specs.declared.payment.PaymentState.TheVariants as payment
-use Rattle.matter_rows.specs.declared.claim.ClaimState.TheVariants as claim
-use Rattle.matter_rows.specs.declared.claim.Against.TheVariants as against
 use Rattle.matter_rows.specs.declared.entry.Entry.TheVariants as entry
 use Rattle.sql_tables.specs.Rows as table
 

@@ -1,5 +1,5 @@
 -- The entry of a change fits among those that the matter keeps.
-use Rattle.sql_rows.proofs.Names.{◌≡◌, ◌⊎◌, List, length, arith, Rows, entry_at, TotalsAfter, Edit, Numbered, Kept, entry_put, kept_as, MatterChange, IsChange, Part, AreNumbered, IsWhole, entries_kept, ints, nat_tests}
+use Rattle.sql_rows.proofs.Names.{◌≡◌, ◌⊎◌, List, length, arith, Rows, entry_at, TotalsAfter, Numbered, Kept, entry_put, kept_as, MatterChange, IsChange, Part, AreNumbered, IsWhole, entries_kept, ints, nat_tests}
 use Rattle.matter_parts.specs.declared.edit.Edit.TheVariants as edit
 use Rattle.matter_parts.proofs.AllKept.{length-kept, numbered-at, numbered-end}
 

@@ -1,8 +1,7 @@
 -- What is found of a matter's head, what is written of one, and the matters after one was put in.
-use Rattle.sql_rows.proofs.Names.{◌≡◌, inl, inr, ℕ, ℤ, pos, ◌≤◌, true, false, List, [], ◌∷◌, map, find, Option, Some, None, option_map, sym, ap, subst, ◌∙◌, arith, int_eq, ◌==◌, IfSome, AllByRecursion, cases_Bool, nat_tests, IsKeyedBy, delete_where, all-insert_by, has_key-insert_by, has_key-delete_where, same_int, all-filter, Head, Client, Purged, Seat, Entry, Rows, IsBare, Figures, IsWhole, rows_in, matters_with, IsKeptWhole, AreKeptWhole, put_head, is_head, Lists, client_column, closed_column, head_columns, purged_column, part_from, matter_from, matters_from, head_from, holder_from, day_or_none, IsWrittenHead, HasHeadAt, head_at, all_unmap, all_weaker, cond_both, ints}
+use Rattle.sql_rows.proofs.Names.{◌≡◌, inl, inr, ℕ, ℤ, pos, ◌≤◌, true, false, List, [], ◌∷◌, map, find, Option, Some, None, option_map, sym, ap, subst, ◌∙◌, arith, int_eq, ◌==◌, IfSome, AllByRecursion, cases_Bool, nat_tests, IsKeyedBy, delete_where, all-insert_by, has_key-insert_by, has_key-delete_where, same_int, all-filter, Head, Client, Purged, Seat, Entry, IsBare, Figures, IsWhole, rows_in, matters_with, IsKeptWhole, AreKeptWhole, put_head, is_head, Lists, client_column, closed_column, head_columns, purged_column, part_from, matter_from, matters_from, head_from, holder_from, day_or_none, IsWrittenHead, HasHeadAt, head_at, all_unmap, all_weaker, cond_both, ints}
 use Rattle.std.specs.Prelude.{nat_abs}
 use Rattle.matter_rows.specs.declared.head.Holder.{Holder}
-use Rattle.matter_parts.specs.declared.edit.Edit.TheVariants as edit
 use Rattle.sql_tables.specs.Rows as table
 use Rattle.sql_rows.proofs.HeadOrder.{key, IsNumbered, made-put_head, rows_found, rows_in-made}
 use Rattle.sql_rows.proofs.KeyedRows.{has_key-put, not_zero}

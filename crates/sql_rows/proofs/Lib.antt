@@ -2,6 +2,7 @@ pub mod Acts
 pub mod Back
 pub mod Balances
 pub mod Becomes
+pub mod Dismissals
 pub mod Empty
 pub mod EntriesMade
 pub mod EntryFind
@@ -10,6 +11,7 @@ pub mod EntryLeft
 pub mod EntryOrder
 pub mod EntryWritten
 pub mod Exceptions
+pub mod Faults
 pub mod HeadFirst
 pub mod HeadOrder
 pub mod HeadSet

@@ -1,7 +1,9 @@
 -- The scripts of the changes that concern the firm's own tables alone are meant.
-use Rattle.sql_rows.proofs.Names.{◌≡◌, ℤ, List, [], ◌∷◌, ◌++◌, Option, Some, None, refl, sym, ap, ◌∙◌, subst, AllByRecursion, map-append, IsKeyedBy, all-filter, all-append, Line, BalanceKind, own_movement, after_match, with_balance_row, as_firm_line, balance_row, FirmChange, Repeated, Unmatched, OfFirm, OfBalance, matched_by, after, FitsFirm, StaysSound, Lists, movement_columns, firm_line_columns, exception_columns, balance_columns, AreKeyed, AreMeant, AreSound, IsWrittenMovement, IsWrittenFirmLine, IsWrittenException, IsWrittenBalance, firm_from, AreMade, line_steps, IsMeant, LineScriptsAreMeant, arith, ints, nat_tests}
+use Rattle.sql_rows.proofs.Names.{◌≡◌, ℕ, ℤ, List, [], ◌∷◌, ◌++◌, map, Option, Some, None, refl, sym, ap, ◌∙◌, subst, AllByRecursion, map-append, IsKeyedBy, all-filter, all-append, Line, BalanceKind, Dismissal, IsBankLine, act_from, dismissal_columns, dismissal_from, own_movement, after_match, with_dismissal, with_balance_row, as_firm_line, balance_row, FirmChange, Repeated, Unmatched, Dismissed, OfFirm, OfBalance, matched_by, after, FitsFirm, StaysSound, Lists, movement_columns, firm_line_columns, exception_columns, balance_columns, AreKeyed, AreMeant, AreSound, IsWrittenAct, IsWrittenDismissal, IsWrittenMovement, IsWrittenFirmLine, IsWrittenException, IsWrittenBalance, firm_from, AreMade, line_steps, IsMeant, LineScriptsAreMeant, arith, ints, nat_tests}
 use Rattle.sql_tables.specs.Rows as table
+use Rattle.sql_rows.proofs.Acts.{own_added}
 use Rattle.sql_rows.proofs.Balances.{balances_with, added_written}
+use Rattle.sql_rows.proofs.Dismissals.{dismissals_added, written_dismissal_added}
 use Rattle.sql_rows.proofs.Exceptions.{key, exceptions_without, exceptions_with, noted_written}
 
 -- Tables with other rows of the firm's own.
@@ -53,6 +55,40 @@ module _ (a b : Lists) (sound : AreSound a) where
       ap firm_from is ∙ (λ i. record (firm_from a) { exceptions = with i }) in
       (same, subst AreMeant (sym is) (noting a _ old (noted_written line a.exceptions noted)))
 
+  dismissed : (day : ℕ) (line : Line) (seq : ℤ) → IsBankLine line
+      → AreMade (line_steps (Some line)) (record a {
+        acts = a.acts ++ record (dismissal_columns (record { day = day; line = line })) { seq = seq } ∷ [];
+      }) b
+      → (firm_from b ≡ after (Dismissed day line) (firm_from a)) × AreMeant b
+  dismissed day line seq typed made =
+      let d : Dismissal = record { day = day; line = line } in
+      let row : table.Act = record (dismissal_columns d) { seq = seq } in
+      let among = own_added row a.acts refl in
+      let mid : Lists = record a { acts = a.acts ++ row ∷ [] } in
+      let written = old.written in
+      let meant : AreMeant mid = record {
+        written = record {
+          heads = written.heads;
+          seats = written.seats;
+          entries = written.entries;
+          movements = written.movements;
+          firm_lines = written.firm_lines;
+          exceptions = written.exceptions;
+          balances = written.balances;
+          acts = subst (AllByRecursion IsWrittenAct) (sym among.0) written.acts;
+          dismissals = subst (AllByRecursion IsWrittenDismissal) (sym among.1)
+              (written_dismissal_added d seq (table.dismissals_among a.acts) typed written.dismissals);
+        };
+        matters = old.matters;
+        seated = old.seated;
+        entered = old.entered;
+      } in
+      let more = ap (map dismissal_from) among.1 ∙ dismissals_added d seq (table.dismissals_among a.acts) typed in
+      let same : firm_from mid ≡ with_dismissal d (firm_from a) =
+      λ i. record (firm_from a) { acts = map act_from (among.0 i); dismissals = more i } in
+      let done = line_gone (Some line) mid b made sound.keyed.exceptions meant in
+      (done.0 ∙ ap (after_match line) same, done.1)
+
   of_firm : (line : Line) (seq place : ℤ)
       → AreMade (line_steps (Some line)) (record a {
         firm_lines = a.firm_lines ++ record (firm_line_columns (as_firm_line line)) { seq = seq } ∷ [];
@@ -92,6 +128,11 @@ line_scripts stays = record {
   unmatched = λ line a b sound keyed typed fits made.
       let done = unmatched a b sound line (made.2 ∙ made.1) in
       meant_after stays (Unmatched line) a b sound keyed fits done.0 done.1;
+  dismissed = λ day line a b sound keyed typed fits made.
+      let first = made.1 in
+      let done = dismissed a b sound day line first.0 typed
+      (subst (λ x. AreMade (line_steps (Some line)) x b) first.1 made.2) in
+      meant_after stays (Dismissed day line) a b sound keyed fits done.0 done.1;
   of_firm = λ line a b sound keyed typed fits made.
       let first = made.1 in
       let second = made.2.1 in

@@ -1,8 +1,8 @@
 -- What the steps of each change of a matter make: the rows and the acts stand for the firm after it.
-use Rattle.sql_rows.proofs.Names.{◌≡◌, ◌⊎◌, inl, inr, ℕ, ◌≤◌, List, map, refl, sym, ap, subst, ◌∙◌, AllByRecursion, Edit, Numbered, MatterChange, IsChange, of, acted, after_change, after_edit, joined_acts, Lists, AreKeyed, AreMeant, IsWrittenAct, act_from, firm_from, IsTypedAct, IsTypedEdit, AreMade, matter_steps, row_steps, trail_steps}
+use Rattle.sql_rows.proofs.Names.{◌≡◌, ◌⊎◌, inl, inr, ℕ, ◌≤◌, refl, sym, ap, subst, ◌∙◌, AllByRecursion, Edit, Numbered, MatterChange, IsChange, of, acted, after_change, after_edit, Lists, AreKeyed, AreMeant, IsWrittenAct, firm_from, IsTypedAct, IsTypedEdit, AreMade, matter_steps, row_steps, trail_steps}
 use Rattle.matter_parts.specs.declared.edit.Edit.TheVariants as edit
 use Rattle.sql_tables.specs.Rows as table
-use Rattle.sql_rows.proofs.Acts.{acts_made}
+use Rattle.sql_rows.proofs.Acts.{AreActsAfter, acts_made}
 use Rattle.sql_rows.proofs.Becomes.{AreRowsMade}
 use Rattle.sql_rows.proofs.EntryFits.{IsEntryChange}
 use Rattle.sql_rows.proofs.Steps.{made-append}
@@ -27,16 +27,15 @@ nothing_made m c a b none meant made =
     }
 
 -- behind the rows the acts are made
-with_acts_made : (m : ℕ) (c : MatterChange) (a mid b : Lists) → IsTypedAct c.act → AreMeant a → AreRowsMade m c a mid
-    → AreMade (trail_steps m c.act c.edit) mid b → IsMatterMade m c a b
-with_acts_made m c a mid b typed meant rows made =
-    let written : AllByRecursion IsWrittenAct mid.acts =
-    subst (AllByRecursion IsWrittenAct) (sym rows.acts) meant.written.acts in
-    let done = acts_made m mid b written c.act c.edit typed made in
-    let shown : map act_from done.acts ≡ joined_acts m c.edit c.act (map act_from a.acts) =
-    done.shown ∙ ap (λ (xs : List table.Act). joined_acts m c.edit c.act (map act_from xs)) rows.acts in record {
-      firm = ap firm_from done.same ∙ rows.firm done.acts shown;
-      meant = subst AreMeant (sym done.same) (rows.meant done.acts done.written);
+with_acts_made : (m : ℕ) (c : MatterChange) (a mid b : Lists) → 1 ≤ m → IsTypedAct c.act → AreMeant a
+    → AreRowsMade m c a mid → AreMade (trail_steps m c.act c.edit) mid b → IsMatterMade m c a b
+with_acts_made m c a mid b one typed meant rows made =
+    let written : AllByRecursion IsWrittenAct (table.acts_among mid.acts) =
+    subst (λ xs. AllByRecursion IsWrittenAct (table.acts_among xs)) (sym rows.acts) meant.written.acts in
+    let done = acts_made m mid b one written c.act c.edit typed made in
+    let after = subst (λ xs. AreActsAfter m c.act c.edit xs done.acts) rows.acts done.after in record {
+      firm = ap firm_from done.same ∙ rows.firm done.acts after;
+      meant = subst AreMeant (sym done.same) (rows.meant done.acts after);
       exceptions = ap (λ (l : Lists). l.exceptions) done.same ∙ rows.exceptions;
     }
 
@@ -55,7 +54,7 @@ pub matter_made : (m : ℕ) (c : MatterChange) (a b : Lists) → 1 ≤ m → Are
 matter_made m c a b one keyed meant typed act may made =
     let parts = made-append (row_steps m c c.edit) (trail_steps m c.act c.edit) a b made in
     let rest : AreRowsMade m c a parts.0 → IsMatterMade m c a b =
-    λ rows. with_acts_made m c a parts.0 b act meant rows parts.2 in
+    λ rows. with_acts_made m c a parts.0 b one act meant rows parts.2 in
     elim (edit_kinds c c.edit refl) [
       | inl none ↦ nothing_made m c a b none meant made
       | inr some ↦ elim some [

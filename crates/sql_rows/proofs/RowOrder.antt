@@ -1,5 +1,5 @@
 -- Rows in an order: what is found of them, how they are sorted, and what they stand for.
-use Rattle.sql_rows.proofs.Names.{◌≡◌, ◌≤◌, ◌+◌, ℤ, Bool, true, false, not, ◌||◌, List, [], ◌∷◌, ◌++◌, map, filter, find, length, Some, refl, sym, ap, ap₂, ◌∙◌, subst, arith, pos, nat_abs, int_cmp, Ordering, Less, is_lt, is_gt, is_eq, IsPermutation, IsSorted, AllByRecursion, list_any, IsTotalOrder, nat_cmp, ordering_then, ordering_reverse, ints, nat_tests, map-append, recursion_from_All, filter_passes, IsPermutation-sym, IsPermutation-cons, IsPermutation-trans, IsPermutation-middle, IsPermutation-filter_both, IsAscending, IsKeyedBy, insert_sorted, sort_by, IsPermutation-filter, all_weaker, all_both, ascending-append, ascending-filter, filter-map, HasNoTies, IsPermutation-sort_by, sorted_is-sort_by, all-filter, rules, cond_both, length_permutation, slice_get-filter, all-permutation, ascending-get_or, sorted_unique, IsPermutation-push_more, slice_get, get_or, all-slice_get, filter_same}
+use Rattle.sql_rows.proofs.Names.{◌≡◌, ◌≤◌, ℤ, Bool, true, false, not, ◌||◌, List, [], ◌∷◌, ◌++◌, map, filter, find, length, Some, refl, sym, ap, ap₂, ◌∙◌, subst, arith, pos, nat_abs, int_cmp, Ordering, Less, is_lt, is_gt, is_eq, IsPermutation, IsSorted, AllByRecursion, list_any, IsTotalOrder, nat_cmp, ordering_then, ordering_reverse, ints, nat_tests, map-append, recursion_from_All, filter_passes, IsPermutation-sym, IsPermutation-cons, IsPermutation-trans, IsPermutation-middle, IsPermutation-filter_both, IsAscending, IsKeyedBy, insert_sorted, sort_by, IsPermutation-filter, all_weaker, all_both, ascending-append, ascending-filter, filter-map, HasNoTies, IsPermutation-sort_by, sorted_is-sort_by, all-filter, rules, cond_both, length_permutation, slice_get-filter, all-permutation, ascending-get_or, sorted_unique, IsPermutation-push_more, slice_get, get_or, all-slice_get, filter_same}
 
 -- Answers of an order.
 

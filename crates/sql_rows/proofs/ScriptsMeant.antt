@@ -1,5 +1,5 @@
 -- The script of each change of the firm is meant.
-use Rattle.sql_rows.proofs.Names.{ℕ, Option, sym, ap, ◌∙◌, subst, IsKeyedBy, Line, MatterChange, OfMatter, Repeated, Unmatched, OfFirm, OfBalance, matched_by, StaysSound, IsScriptMeant, ScriptsAreMeant, line_steps, matter_steps}
+use Rattle.sql_rows.proofs.Names.{ℕ, Option, sym, ap, ◌∙◌, subst, IsKeyedBy, Line, MatterChange, OfMatter, Repeated, Unmatched, Dismissed, OfFirm, OfBalance, matched_by, StaysSound, IsScriptMeant, ScriptsAreMeant, line_steps, matter_steps}
 use Rattle.sql_rows.proofs.Exceptions.{key}
 use Rattle.sql_rows.proofs.LineScripts.{line_gone, line_scripts, meant_after}
 use Rattle.sql_rows.proofs.MatterMade.{matter_made}
@@ -20,5 +20,6 @@ pub scripts_meant : StaysSound → ScriptsAreMeant
 scripts_meant stays (OfMatter m line c) = matter_script stays m c line
 scripts_meant stays (Repeated line) = (line_scripts stays).repeated line
 scripts_meant stays (Unmatched line) = (line_scripts stays).unmatched line
+scripts_meant stays (Dismissed day line) = (line_scripts stays).dismissed day line
 scripts_meant stays (OfFirm line) = (line_scripts stays).of_firm line
 scripts_meant stays (OfBalance kind line) = (line_scripts stays).of_balance kind line

@@ -3,7 +3,6 @@ use Rattle.sql_rows.proofs.Names.{◌≡◌, ℕ, ℤ, pos, ◌<ℤ◌, false, n
 use Rattle.std.specs.Str.{bytes_eq}
 use Rattle.std.proofs.lemmas.Map.Text.{is_eq-slice_cmp}
 use Rattle.matter_rows.specs.declared.seat.Role.{Role}
-use Rattle.matter_rows.specs.declared.seat.Role.TheVariants as role
 use Rattle.matter_rows.proofs.Seating.{no-seat}
 use Rattle.sql_tables.specs.Rows as table
 use Rattle.sql_rows.proofs.KeyedRows.{filter-delete_both, filter-delete_where, int_eq-itself, none_of, off_first}

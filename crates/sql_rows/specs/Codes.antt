@@ -142,3 +142,7 @@ accepted_deed = 18
 
 abbrev pub awarded_deed : ℕ
 awarded_deed = 19
+
+-- of a dismissal, which is no deed
+abbrev pub dismissed_deed : ℕ
+dismissed_deed = 20

@@ -5,5 +5,6 @@ pub mod Steps
 pub mod Codes
 pub mod Columns
 pub mod Acts
+pub mod Dismissals
 pub mod Entries
 pub mod Heads

@@ -1,11 +1,12 @@
 -- The firm whose rows the tables stand for.
-use Rattle.std.specs.Prelude.{◌≡◌, ℕ, ℤ, pos, nat_abs, true, ◌==◌, cond, List, [], ◌∷◌, map, find, Option, Some, None, unwrap_or}
+use Rattle.std.specs.Prelude.{◌≡◌, ℕ, zero, suc, ℤ, pos, nat_abs, true, ◌==◌, cond, List, [], ◌∷◌, map, find, Option, Some, None, unwrap_or}
 use Rattle.std.specs.List.{AllByRecursion}
 use Rattle.std.specs.Ordering.{int_eq}
 use Rattle.std.specs.Str.{bytes_eq}
 use Rattle.sqlite_keyed.specs.Keyed.{IsKeyedBy, has_key}
 use Rattle.sqlite_keyed.specs.Lists.{sort_by}
 use Rattle.trust_base.specs.Names.{cashier_text}
+use Rattle.trust_base.specs.Texts.{bank_amount_of, day_of}
 use Rattle.trust_base.specs.declared.line.Line.{Line}
 use Rattle.matter_rows.specs.declared.act.Caller.{Caller}
 use Rattle.matter_rows.specs.declared.act.Caller.TheVariants.{Cashier, Person}
@@ -33,6 +34,7 @@ use Rattle.matter_rows.specs.declared.seat.Seat.{Seat}
 use Rattle.matter_parts.specs.declared.figures.Figures.{Figures}
 use Rattle.matter_parts.specs.declared.kept.Kept.{Kept}
 use Rattle.matter_parts.specs.Parts.{Part}
+use Rattle.firm_rows.specs.declared.dismissal.Dismissal.{Dismissal}
 use Rattle.firm_rows.specs.declared.matter_act.MatterAct.{MatterAct}
 use Rattle.firm_rows.specs.declared.movement.Movement.{Movement}
 use Rattle.firm_rows.specs.declared.movement.Owner.{Owner}
@@ -41,7 +43,7 @@ use Rattle.firm_rows.specs.declared.ledger.BalanceKind.{BalanceKind}
 use Rattle.firm_rows.specs.declared.ledger.BalanceKind.TheVariants.{Opening, Closing}
 use Rattle.firm_rows.specs.declared.ledger.FirmLine.{FirmLine}
 use Rattle.firm_rows.specs.declared.ledger.BalanceRow.{BalanceRow}
-use Rattle.firm_rows.specs.Firm.{Firm, with_acts}
+use Rattle.firm_rows.specs.Firm.{Firm, with_trail}
 use Rattle.firm_rows.specs.FirmSound.{FirmSound}
 use Rattle.trust_store.specs.declared.plain.KeptMatter.{KeptMatter}
 use Rattle.trust_store.specs.Kept.{AreKeptWhole, firm_of}
@@ -52,6 +54,7 @@ use Rattle.sql_rows.specs.Codes.{deposit_returned, payment_declined, payment_iss
 use Rattle.sql_rows.specs.Codes.{claim_offered, claim_settled, fee_fund, claim_fund, lawyer_role, closing_balance}
 use Rattle.sql_rows.specs.Acts.{act_columns, deed_column}
 use Rattle.sql_rows.specs.Columns.{balance_columns, movement_columns, firm_line_columns, exception_columns, seat_columns}
+use Rattle.sql_rows.specs.Dismissals.{after_tab, before_tab, dismissal_columns}
 use Rattle.sql_rows.specs.Entries.{Parts, entry_columns}
 use Rattle.sql_rows.specs.Heads.{HasHead}
 
@@ -220,6 +223,26 @@ act_from a = record {
   };
 }
 
+-- A dismissal.
+
+-- what is behind so many tabs
+abbrev pub behind : ℕ → List ℕ → List ℕ
+behind zero text = text
+behind (suc k) text = behind k (after_tab text)
+
+-- the line whose fields the text has, each up to its tab
+abbrev pub line_from : List ℕ → Line
+line_from text = record {
+  date = unwrap_or (day_of (before_tab text)) 0;
+  reference = before_tab (behind 1 text);
+  bank_ref = before_tab (behind 2 text);
+  amount = unwrap_or (bank_amount_of (before_tab (behind 3 text))) (pos 0);
+  text = behind 4 text;
+}
+
+abbrev pub dismissal_from : table.Act → Dismissal
+dismissal_from a = record { day = nat_abs a.day; line = line_from a.text }
+
 -- The firm's own rows. Matter 0 means the firm.
 
 abbrev pub owner_from : table.Movement → Owner
@@ -263,11 +286,11 @@ matter_from a h = record { number = nat_abs h.no; matter = part_from a h }
 abbrev pub matters_from : Lists → List KeptMatter
 matters_from a = map (matter_from a) a.heads
 
--- matters by number, movements, the firm's lines and acts in order of acceptance, exceptions and balances in their own
--- order
+-- matters by number, movements, the firm's lines, acts and dismissals in order of acceptance, exceptions and balances
+-- in their own order
 abbrev pub firm_from : Lists → Firm
 firm_from a =
-    with_acts (map act_from a.acts)
+    with_trail (map act_from (table.acts_among a.acts)) (map dismissal_from (table.dismissals_among a.acts))
     (firm_of (matters_from a) (map movement_from a.movements) (map firm_line_from a.firm_lines)
     (map exception_from (sort_by table.exception_cmp a.exceptions))
     (map balance_from (sort_by table.balance_cmp a.balances)))
@@ -300,6 +323,9 @@ IsWrittenBalance b = record b { id = pos 0 } ≡ balance_columns (balance_from b
 abbrev pub IsWrittenAct : table.Act → Type 0
 IsWrittenAct a = record a { seq = pos 0 } ≡ act_columns (act_from a)
 
+abbrev pub IsWrittenDismissal : table.Act → Type 0
+IsWrittenDismissal a = record a { seq = pos 0 } ≡ dismissal_columns (dismissal_from a)
+
 -- this holds of each row of each table
 pub record AreWritten (a : Lists) : Type 0 where
   pub heads : AllByRecursion IsWrittenHead a.heads
@@ -309,7 +335,8 @@ pub record AreWritten (a : Lists) : Type 0 where
   pub firm_lines : AllByRecursion IsWrittenFirmLine a.firm_lines
   pub exceptions : AllByRecursion IsWrittenException a.exceptions
   pub balances : AllByRecursion IsWrittenBalance a.balances
-  pub acts : AllByRecursion IsWrittenAct a.acts
+  pub acts : AllByRecursion IsWrittenAct (table.acts_among a.acts)
+  pub dismissals : AllByRecursion IsWrittenDismissal (table.dismissals_among a.acts)
 
 -- a head has this number
 abbrev pub HasHeadAt : List table.Head → ℤ → Type 0

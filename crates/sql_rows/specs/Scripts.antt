@@ -1,18 +1,19 @@
 -- What the scripts of changes mean: the tables after a script stand for the firm after its change.
-use Rattle.std.specs.Prelude.{◌≡◌, ◌≤◌, Option, Some, None, IfSome}
+use Rattle.std.specs.Prelude.{◌≡◌, ℕ, ◌≤◌, Option, Some, None, IfSome}
 use Rattle.trust_base.specs.declared.line.Line.{Line}
 use Rattle.matter_rows.specs.declared.act.Act.{Act}
 use Rattle.matter_parts.specs.declared.edit.Edit.{Edit}
 use Rattle.matter_parts.specs.declared.edit.Edit.TheVariants as edit
 use Rattle.firm_rows.specs.declared.ledger.BalanceKind.{BalanceKind}
-use Rattle.firm_rows.specs.FirmChange.{FirmChange, OfMatter, Repeated, Unmatched, OfFirm, OfBalance, after, FitsFirm}
+use Rattle.firm_rows.specs.FirmChange.{FirmChange, OfMatter, Repeated, Unmatched, Dismissed, OfFirm, OfBalance, after, FitsFirm}
 use Rattle.sql_tables.specs.Lists.{Lists}
 use Rattle.sql_rows.specs.Acts.{IsCaller}
+use Rattle.sql_rows.specs.Columns.{IsBankLine}
 use Rattle.sql_rows.specs.Meaning.{AreKeyed, AreSound, firm_from}
 use Rattle.sql_rows.specs.Steps.{steps_of, AreMade}
 
 -- What the types guarantee of a change's values, as much as the tables need: a column uses 0 for no day, matter 0 for
--- the firm, entry 0 for none, and the name `cashier` for the cashier.
+-- the firm, entry 0 for none, the name `cashier` for the cashier, and a tab for the end of a field of a dismissed line.
 
 -- the days of an edit whose columns use 0 for no day: the day of closing, also when a matter is opened, and that of a
 -- purge
@@ -35,6 +36,7 @@ abbrev pub IsTyped : FirmChange → Type 0
 IsTyped (OfMatter m line c) = (1 ≤ m) × IsTypedEdit c.edit × IsTypedAct c.act
 IsTyped (Repeated line) = Unit {0}
 IsTyped (Unmatched line) = Unit {0}
+IsTyped (Dismissed day line) = IsBankLine line
 IsTyped (OfFirm line) = Unit {0}
 IsTyped (OfBalance kind line) = Unit {0}
 
@@ -59,5 +61,6 @@ ScriptsAreMeant = (change : FirmChange) → IsScriptMeant change
 pub record LineScriptsAreMeant : Type 0 where
   pub repeated : (line : Line) → IsScriptMeant (Repeated line)
   pub unmatched : (line : Line) → IsScriptMeant (Unmatched line)
+  pub dismissed : (day : ℕ) (line : Line) → IsScriptMeant (Dismissed day line)
   pub of_firm : (line : Line) → IsScriptMeant (OfFirm line)
   pub of_balance : (kind : BalanceKind) (line : Line) → IsScriptMeant (OfBalance kind line)

@@ -4,12 +4,14 @@ use Rattle.sqlite_trees.specs.Tree.{Trees}
 use Rattle.sqlite.specs.Effect.{Database, IsDatabase}
 use Rattle.sqlite.specs.State.{State}
 use Rattle.matter_rows.specs.declared.entry.Entry.{Entry}
+use Rattle.firm_rows.specs.declared.dismissal.Dismissal.{Dismissal}
 use Rattle.firm_rows.specs.Firm.{Firm, empty_firm}
 use Rattle.sql_schema.specs.declared.layout.Layout.{Layout}
 use Rattle.sql_tables.specs.Lists.{Lists, lists_in}
 use Rattle.sql_tables.specs.Standing.{Stands}
 use Rattle.sql_rows.specs.Entries.{entry_columns}
-use Rattle.sql_rows.specs.Meaning.{AreSound, firm_from, kept_from}
+use Rattle.sql_rows.specs.Dismissals.{IsDismissal, dismissal_columns}
+use Rattle.sql_rows.specs.Meaning.{AreSound, dismissal_from, firm_from, kept_from}
 
 -- the firm whose rows the tables of a layout stand for
 abbrev pub firm_in : Layout → Trees → Firm
@@ -58,3 +60,7 @@ abbrev pub EntriesReadBack : Type 0
 EntriesReadBack =
     (m n left : ℕ) (e : Entry)
     → kept_from (entry_columns m n left e) ≡ record { number = n; left = left; entry = e }
+
+-- a dismissal read back from its columns is the one that was written: the text of its line has one reading
+abbrev pub DismissalsReadBack : Type 0
+DismissalsReadBack = (d : Dismissal) → IsDismissal d → dismissal_from (dismissal_columns d) ≡ d

@@ -12,7 +12,7 @@ use Rattle.matter_parts.specs.declared.edit.Edit.TheVariants as edit
 use Rattle.matter_parts.specs.declared.edit.Numbered.{Numbered}
 use Rattle.matter_parts.specs.Changes.{MatterChange}
 use Rattle.firm_rows.specs.Firm.{joined_act, joined_movement, own_movement}
-use Rattle.firm_rows.specs.FirmChange.{FirmChange, OfMatter, Repeated, Unmatched, OfFirm, OfBalance}
+use Rattle.firm_rows.specs.FirmChange.{FirmChange, OfMatter, Repeated, Unmatched, Dismissed, OfFirm, OfBalance}
 use Rattle.firm_rows.specs.FirmLines.{as_firm_line, balance_row}
 use Rattle.sql_tables.specs.declared.columns.TotalsColumns.{TotalsColumns}
 use Rattle.sql_tables.specs.declared.statements.SqlStatement.{SqlStatement}
@@ -22,6 +22,7 @@ use Rattle.sql_tables.specs.Lists.{Lists}
 use Rattle.sql_tables.specs.Rows as table
 use Rattle.sql_rows.specs.Acts.{act_columns}
 use Rattle.sql_rows.specs.Columns.{balance_columns, movement_columns, firm_line_columns, exception_columns, seat_columns}
+use Rattle.sql_rows.specs.Dismissals.{dismissal_columns}
 use Rattle.sql_rows.specs.Entries.{entry_columns}
 use Rattle.sql_rows.specs.Heads.{head_columns, totals_columns}
 use Rattle.sql_rows.specs.Meaning.{head_from}
@@ -175,6 +176,8 @@ abbrev pub steps_of : FirmChange → List Step
 steps_of (OfMatter m line c) = matter_steps m c c.edit ++ line_steps line
 steps_of (Repeated line) = line_steps (Some line)
 steps_of (Unmatched line) = NoteException (exception_columns line) ∷ []
+steps_of (Dismissed day line) =
+    AddAct (dismissal_columns (record { day = day; line = line })) ∷ line_steps (Some line)
 steps_of (OfFirm line) =
     AddFirmLine (firm_line_columns (as_firm_line line))
     ∷ AddMovement (movement_columns (own_movement (as_firm_line line))) ∷ line_steps (Some line)

@@ -73,14 +73,16 @@ fn deed_column(deed: &Deed) -> i64
     }
 }
 
-// The person whom a deed names, or nothing.
-fn text_column(deed: &Deed) -> &[u8]
-    ensures { result.now ≡ text_column deed.now }
+// The person whom a deed names, or nothing; and the code of a seat's role, or the part that was offered in cents, or 0.
+fn named_by(deed: &Deed) -> (&[u8], i64)
+    ensures text { result.0.now ≡ text_column deed.now }
+    ensures number { result.1 ≡ number_column deed.now }
 {
     match deed {
-        Deed::Opened(lawyer) => lawyer.as_slice(),
-        Deed::Seated(seat) => seat.person.as_slice(),
-        Deed::Unseated(person) => person.as_slice(),
+        Deed::Opened(lawyer) => (lawyer.as_slice(), 0),
+        Deed::Seated(seat) => (seat.person.as_slice(), role_column(seat.role)),
+        Deed::Unseated(person) => (person.as_slice(), 0),
+        Deed::Offered(part) => (b"", part.get() as i64),
         Deed::Closed
         | Deed::Deposited
         | Deed::Cancelled
@@ -94,36 +96,8 @@ fn text_column(deed: &Deed) -> &[u8]
         | Deed::Earned
         | Deed::Disputed
         | Deed::Claimed
-        | Deed::Offered(_)
         | Deed::Accepted
-        | Deed::Awarded => b"",
-    }
-}
-
-// The code of a seat's role, or the part that was offered, in cents, or 0.
-fn number_column(deed: &Deed) -> i64
-    ensures { result ≡ number_column deed.now }
-{
-    match deed {
-        Deed::Seated(seat) => role_column(seat.role),
-        Deed::Offered(part) => part.get() as i64,
-        Deed::Opened(_)
-        | Deed::Unseated(_)
-        | Deed::Closed
-        | Deed::Deposited
-        | Deed::Cancelled
-        | Deed::Cleared
-        | Deed::Returned
-        | Deed::Proposed
-        | Deed::Approved
-        | Deed::Declined
-        | Deed::Withdrawn
-        | Deed::Voided
-        | Deed::Earned
-        | Deed::Disputed
-        | Deed::Claimed
-        | Deed::Accepted
-        | Deed::Awarded => 0,
+        | Deed::Awarded => (b"", 0),
     }
 }
 
@@ -133,14 +107,15 @@ fn number_column(deed: &Deed) -> i64
 pub fn act_columns(matter: MatterNo, act: &Act) -> ActColumns<'_>
     ensures { act_given result ≡ act_columns (record { matter = matter; act = act.now }) }
 {
+    let (text, number) = named_by(&act.deed);
     ActColumns {
         matter: matter.get() as i64,
         entry: act_entry_column(act.entry),
         day: act.day.get() as i64,
         deed: deed_column(&act.deed),
         caller: caller_column(&act.caller),
-        text: text_column(&act.deed),
-        number: number_column(&act.deed),
+        text,
+        number,
     }
 }
 
@@ -220,7 +195,8 @@ fn deed_in(alloc: Global, code: i64, text: &[u8], number: i64) -> Result<Deed, S
 {
     let deed = deed_by(alloc, code, text, number)?;
     // What such a deed does not use is empty.
-    if text_column(&deed) != text || number_column(&deed) != number {
+    let (named, counted) = named_by(&deed);
+    if named != text || counted != number {
         return Err(StoreFault::Store);
     }
     Ok(deed)

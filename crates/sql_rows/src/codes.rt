@@ -92,3 +92,6 @@ pub(crate) const OFFERED_DEED: i64 = 17;
 pub(crate) const ACCEPTED_DEED: i64 = 18;
 
 pub(crate) const AWARDED_DEED: i64 = 19;
+
+// Of a dismissal, which is no deed.
+pub(crate) const DISMISSED_DEED: i64 = 20;

@@ -89,6 +89,7 @@ pub(crate) fn part_in(column: i64) -> Result<CentsOrZero, StoreFault>
 /// Reads a short text of the bank. Returns `Store` for invalid bytes, and `Memory` if memory runs out for valid ones.
 pub(crate) fn bank_text_in(alloc: Global, column: &[u8]) -> Result<BankText, StoreFault>
     ensures ok { IfOk result (λ t. t ≡ column.now) }
+    ensures form { IfOk result IsBankText }
     ensures err { IfErr result (λ e. e ≡ StoreFault.Memory ↔ IsBankText column.now) }
 {
     let text = BankText::read(alloc, column)?;

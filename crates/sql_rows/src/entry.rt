@@ -87,6 +87,7 @@ fn clearing_columns(c: &Clearing) -> (i64, &[u8])
     (c.bank_day.get() as i64, c.bank_ref.as_slice())
 }
 
+// The columns of a deposit, given what is left of it in cents.
 fn deposit_columns<'a>(matter: MatterNo, no: EntryNo, d: &'a Deposit, left: u64) -> EntryColumns<'a>
     requires { left ≤ MAX_TOTAL }
     ensures { entry_given result ≡ entry_columns matter no left (Entry.Deposit d.now) }
@@ -124,6 +125,7 @@ fn fund_columns(fund: &Fund) -> (i64, i64)
     }
 }
 
+// The columns of a payment, given what is left of it in cents.
 fn payment_columns<'a>(matter: MatterNo, no: EntryNo, p: &'a Payment, left: u64) -> EntryColumns<'a>
     requires { left ≤ MAX_TOTAL }
     ensures { entry_given result ≡ entry_columns matter no left (Entry.Payment p.now) }
@@ -153,6 +155,7 @@ fn payment_columns<'a>(matter: MatterNo, no: EntryNo, p: &'a Payment, left: u64)
     columns
 }
 
+// The columns of a claim, given what is left of it in cents.
 fn claim_columns<'a>(matter: MatterNo, no: EntryNo, c: &'a Claim, left: u64) -> EntryColumns<'a>
     requires { left ≤ MAX_TOTAL }
     ensures { entry_given result ≡ entry_columns matter no left (Entry.Claim c.now) }
@@ -244,6 +247,7 @@ fn deposit_state_in(alloc: Global, columns: EntryColumns<'_>) -> Result<DepositS
     }
 }
 
+// Reads a deposit of a day and an amount from the other columns, copying its texts.
 fn deposit_in(
     alloc: Global,
     book: Day,
@@ -313,6 +317,7 @@ fn payment_state_in(alloc: Global, columns: EntryColumns<'_>) -> Result<PaymentS
     }
 }
 
+// Reads a payment of a day and an amount from the other columns, copying its texts.
 fn payment_in(
     alloc: Global,
     book: Day,
@@ -344,6 +349,7 @@ fn against_in(alloc: Global, columns: EntryColumns<'_>) -> Result<Against, Store
     }
 }
 
+// Reads the state of a claim. Returns `Store` for columns of none.
 fn claim_state_in(columns: EntryColumns<'_>) -> Result<ClaimState, StoreFault>
     ensures back { (s : ClaimedState) → IsClaimState s → HasClaimState s (entry_given columns.entry)
         → result ≡ Ok s }
@@ -361,6 +367,7 @@ fn claim_state_in(columns: EntryColumns<'_>) -> Result<ClaimState, StoreFault>
     }
 }
 
+// Reads a claim of a day and an amount from the other columns, copying its texts.
 fn claim_in(
     alloc: Global,
     book: Day,
@@ -379,6 +386,7 @@ fn claim_in(
     }))
 }
 
+// Reads a fee of a day and an amount from the other columns, copying its texts.
 fn fee_in(
     alloc: Global,
     book: Day,

@@ -1,7 +1,7 @@
 //! Laws over the definitions. Each is the contract of a function that does nothing.
 
 ghost use Rattle.sql_rows.specs.Scripts.{LineScriptsAreMeant, ScriptsAreMeant};
-ghost use Rattle.sql_rows.specs.Standing.{EmptyTablesStand, EntriesReadBack};
+ghost use Rattle.sql_rows.specs.Standing.{DismissalsReadBack, EmptyTablesStand, EntriesReadBack};
 
 use firm_rows::laws::firm_stays_sound;
 
@@ -17,8 +17,15 @@ pub fn entries_read_back()
     ensures { EntriesReadBack }
 {}
 
-/// The script for a bank line that is repeated or matches nothing, for a line of the firm's own, and for a balance
-/// leaves tables that stand for the firm after the change, which is sound.
+/// A dismissal read back from its columns is the one that was written, its day and its whole line: no two lines have
+/// the same text.
+#[tactic(auto, using(crate::proofs::Dismissals::dismissals_back))]
+pub fn dismissals_read_back()
+    ensures { DismissalsReadBack }
+{}
+
+/// The script for a bank line that is repeated, matches nothing or is dismissed, for a line of the firm's own, and for
+/// a balance leaves tables that stand for the firm after the change, which is sound.
 #[tactic(auto, using(crate::proofs::LineScripts::line_scripts))]
 pub fn line_scripts_are_meant()
     ensures { LineScriptsAreMeant }

@@ -122,6 +122,7 @@ pub fn exception_of(alloc: Global, columns: ExceptionColumns<'_>) -> Result<Line
     })
 }
 
+// The number of the matter, or 0 for the firm's own.
 fn matter_column(owner: Owner) -> i64
     ensures { result ≡ matter_column owner }
 {
@@ -131,6 +132,7 @@ fn matter_column(owner: Owner) -> i64
     }
 }
 
+// The number of the entry, or 0 for the firm's own.
 fn entry_column(owner: Owner) -> i64
     ensures { result ≡ entry_column owner }
 {

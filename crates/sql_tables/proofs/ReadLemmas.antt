@@ -1,8 +1,10 @@
 -- What the queries mean over the lists.
 use Rattle.sql_tables.proofs.Names.{◌≡◌, ℤ, true, false, List, [], ◌∷◌, map, filter, take, map-id, refl, sym, ap, ◌∙◌, on, int_cmp, Int, Row, value_cmp-Int, value_cmp-Text, Eq, Gt, IsAnswer, overlay, sort_by, at_end, last_table, answer_by_keys, answer_sorted, no_tie, no_tie_after, at_ints, then_term, last_term, then_key, last_key, Database, Layout, matter_tree, seat_tree, entry_tree, journal_tree, firm_line_tree, exception_tree, balance_tree, head_read_query, next_head_query, head_scan_query, seats_read_query, entry_read_query, entries_read_query, balance_read_query, journal_scan_query, firm_scan_query, exception_scan_query, balance_scan_query, text_cmp, Head, head_row, head_shown, next_shown, no_shown, heads_in, is_head, is_past, Seat, seat_row, seat_cmp, seat_shown, seats_in, seats_of, is_seat_of, Entry, entry_row, entry_cmp, numbered_shown, entries_in, entries_of, is_entry_of, is_entry_at, Movement, movement_row, movement_values, movements_in, FirmLine, firm_line_row, firm_line_values, firm_lines_in, Exception, exception_row, exception_cmp, exception_values, exceptions_in, Balance, balance_row, balance_cmp, balance_shown, balance_values, balances_in, is_balance_at, Stands}
+use Rattle.std.specs.Prelude.{not, pos}
+use Rattle.sqlite_sql.specs.declared.ops.CompareOp.TheVariants.{Ne}
 use Rattle.sql_schema.specs.Schema.{act_tree}
-use Rattle.sql_tables.specs.Rows.{Act, act_row, act_values, acts_in}
-use Rattle.sql_tables.specs.Texts.{act_scan_query}
+use Rattle.sql_tables.specs.Rows.{Act, act_row, act_values, acts_among, acts_in, dismissals_among, is_act_of}
+use Rattle.sql_tables.specs.Texts.{act_scan_query, dismissal_scan_query}
 use Rattle.sql_tables.proofs.Calls.{no_lets}
 use Rattle.sql_tables.proofs.Kept.{all_kept}
 
@@ -53,10 +55,15 @@ firm_scan_answer l now s rows answer =
     let source = last_table (overlay now.trees []) (firm_line_tree l) firm_line_row (λ (x : FirmLine). x.seq) (firm_lines_in l now.trees) (no_lets now.trees _ ∙ s.firm_lines.stored) s.firm_lines.rise (at_end (overlay now.trees [])) in
     sym (map-id rows) ∙ answer_by_keys (firm_scan_query l) (overlay now.trees []) [] source (λ _. true) (λ x. refl) (λ (r : Row). r) firm_line_values (λ x. refl) refl refl (λ a b. last_key (value_cmp-Int a.seq b.seq)) rows answer ∙ ap (map firm_line_values) (all_kept (firm_lines_in l now.trees))
 
-pub act_scan_answer : (l : Layout) (now : Database) → Stands l now → (rows : List Row) → IsAnswer (act_scan_query l) (overlay now.trees []) [] rows → rows ≡ map act_values (acts_in l now.trees)
+pub act_scan_answer : (l : Layout) (now : Database) → Stands l now → (rows : List Row) → IsAnswer (act_scan_query l) (overlay now.trees []) [] rows → rows ≡ map act_values (acts_among (acts_in l now.trees))
 act_scan_answer l now s rows answer =
     let source = last_table (overlay now.trees []) (act_tree l) act_row (λ (x : Act). x.seq) (acts_in l now.trees) (no_lets now.trees _ ∙ s.acts.stored) s.acts.rise (at_end (overlay now.trees [])) in
-    sym (map-id rows) ∙ answer_by_keys (act_scan_query l) (overlay now.trees []) [] source (λ _. true) (λ x. refl) (λ (r : Row). r) act_values (λ x. refl) refl refl (λ a b. last_key (value_cmp-Int a.seq b.seq)) rows answer ∙ ap (map act_values) (all_kept (acts_in l now.trees))
+    sym (map-id rows) ∙ answer_by_keys (act_scan_query l) (overlay now.trees []) [] source (λ x. not (is_act_of (pos 0) x)) (λ x. last_term (at_ints false Ne x.matter (pos 0))) (λ (r : Row). r) act_values (λ x. refl) refl refl (λ a b. last_key (value_cmp-Int a.seq b.seq)) rows answer
+
+pub dismissal_scan_answer : (l : Layout) (now : Database) → Stands l now → (rows : List Row) → IsAnswer (dismissal_scan_query l) (overlay now.trees []) [] rows → rows ≡ map act_values (dismissals_among (acts_in l now.trees))
+dismissal_scan_answer l now s rows answer =
+    let source = last_table (overlay now.trees []) (act_tree l) act_row (λ (x : Act). x.seq) (acts_in l now.trees) (no_lets now.trees _ ∙ s.acts.stored) s.acts.rise (at_end (overlay now.trees [])) in
+    sym (map-id rows) ∙ answer_by_keys (dismissal_scan_query l) (overlay now.trees []) [] source (is_act_of (pos 0)) (λ x. last_term (at_ints false Eq x.matter (pos 0))) (λ (r : Row). r) act_values (λ x. refl) refl refl (λ a b. last_key (value_cmp-Int a.seq b.seq)) rows answer
 
 pub exception_scan_answer : (l : Layout) (now : Database) → Stands l now → (rows : List Row) → IsAnswer (exception_scan_query l) (overlay now.trees []) [] rows → rows ≡ map exception_values (sort_by exception_cmp (exceptions_in l now.trees))
 exception_scan_answer l now s rows answer =

@@ -1,5 +1,5 @@
 -- The rows of the tables as records, in rowid order.
-use Rattle.std.specs.Prelude.{ℕ, ℤ, Bool, List, [], ◌∷◌, ◌++◌, map, filter, if◌then◌else◌, ◌&&◌, int_lt}
+use Rattle.std.specs.Prelude.{ℕ, ℤ, Bool, List, [], ◌∷◌, ◌++◌, map, filter, if◌then◌else◌, ◌&&◌, int_lt, not, pos}
 use Rattle.std.specs.declared.cmp.Ordering.{Ordering}
 use Rattle.std.specs.Ordering.{on, then_cmp, int_cmp, int_eq, nat_cmp, is_eq}
 use Rattle.std.specs.Cmp.Lexicographic.{slice_cmp}
@@ -288,7 +288,7 @@ movements_in l db = map movement_in (db (journal_tree l))
 abbrev pub is_movement_of : ℤ → Movement → Bool
 is_movement_of matter m = int_eq m.matter matter
 
--- ---- an act of a matter
+-- ---- an act of a matter, or a dismissal, which is of no matter: it has matter 0
 
 pub record Act : Type 0 where
   pub seq : ℤ
@@ -323,6 +323,13 @@ acts_in l db = map act_in (db (act_tree l))
 
 abbrev pub is_act_of : ℤ → Act → Bool
 is_act_of matter a = int_eq a.matter matter
+
+-- the acts of matters, and the dismissals
+abbrev pub acts_among : List Act → List Act
+acts_among acts = filter (λ a. not (is_act_of (pos 0) a)) acts
+
+abbrev pub dismissals_among : List Act → List Act
+dismissals_among acts = filter (is_act_of (pos 0)) acts
 
 -- ---- a line of the firm's own ledger
 

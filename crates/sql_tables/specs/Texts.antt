@@ -3,7 +3,7 @@ use Rattle.std.specs.Prelude.{ℕ, false, [], ◌∷◌, ◌++◌, List, None, c
 use Rattle.sqlite_value.specs.declared.value.Value.TheVariants.{Null, Int, Text}
 use Rattle.sqlite_value.specs.declared.keys.Collation.TheVariants.{Binary}
 use Rattle.sqlite_sql.specs.declared.ops.BinaryOp.TheVariants.{Compare}
-use Rattle.sqlite_sql.specs.declared.ops.CompareOp.TheVariants.{Eq, Gt}
+use Rattle.sqlite_sql.specs.declared.ops.CompareOp.TheVariants.{Eq, Gt, Ne}
 use Rattle.sqlite_sql.specs.Query.{Query, inner, end}
 use Rattle.sqlite_sql.specs.Term.{Term, col, lit, op2}
 use Rattle.sqlite_schema.specs.declared.command.Conflict.TheVariants.{Ignore, Replace}
@@ -504,12 +504,12 @@ abbrev pub purge_journal_command : Layout → Command
 purge_journal_command l = Delete (journal_place l) (record { lets = []; body = purge_journal_query l })
 
 abbrev pub act_scan_text : List ℕ
-act_scan_text = codes "SELECT matter, entry, day, deed, caller, text, number FROM trail ORDER BY seq"
+act_scan_text = codes "SELECT matter, entry, day, deed, caller, text, number FROM trail WHERE matter <> 0 ORDER BY seq"
 
 abbrev pub act_scan_query : Layout → Query
 act_scan_query l = record {
   from = inner (act_tree l) end;
-  filter = [];
+  filter = op2 (Compare Ne Binary) (col 1 2) (lit (Int (pos 0))) ∷ [];
   group = None;
   project = col 1 2 ∷ col 1 3 ∷ col 1 4 ∷ col 1 5 ∷ col 1 6 ∷ col 1 7 ∷ col 1 8 ∷ [];
   distinct = false;
@@ -521,6 +521,27 @@ act_scan_query l = record {
 
 abbrev pub act_scan_names : List (List ℕ)
 act_scan_names = codes "matter" ∷ codes "entry" ∷ codes "day" ∷ codes "deed" ∷ codes "caller" ∷ codes "text" ∷
+    codes "number" ∷ []
+
+abbrev pub dismissal_scan_text : List ℕ
+dismissal_scan_text =
+    codes "SELECT matter, entry, day, deed, caller, text, number FROM trail WHERE matter = 0 ORDER BY seq"
+
+abbrev pub dismissal_scan_query : Layout → Query
+dismissal_scan_query l = record {
+  from = inner (act_tree l) end;
+  filter = op2 (Compare Eq Binary) (col 1 2) (lit (Int (pos 0))) ∷ [];
+  group = None;
+  project = col 1 2 ∷ col 1 3 ∷ col 1 4 ∷ col 1 5 ∷ col 1 6 ∷ col 1 7 ∷ col 1 8 ∷ [];
+  distinct = false;
+  collations = [];
+  order = (col 1 0, record { collation = Binary; descending = false }) ∷ [];
+  limit = lit (Int (negsuc 0));
+  offset = lit (Int (pos 0));
+}
+
+abbrev pub dismissal_scan_names : List (List ℕ)
+dismissal_scan_names = codes "matter" ∷ codes "entry" ∷ codes "day" ∷ codes "deed" ∷ codes "caller" ∷ codes "text" ∷
     codes "number" ∷ []
 
 abbrev pub act_insert_text : List ℕ

@@ -3,6 +3,7 @@ use Rattle.trust_desk.proofs.Names.{◌≡◌, ℕ, List, [], ◌∷◌, Option,
 use Rattle.trust_matter.specs.declared.line_verdict.LineEffect.TheVariants as told
 use Rattle.firm_rows.specs.declared.ledger.BalanceKind.TheVariants as kind
 use Rattle.firm_rows.proofs.FirmChanges.{change-stays-sound}
+use Rattle.firm_rows.proofs.Dismissals.{dismissed-sound}
 use Rattle.firm_rows.proofs.Lines.{match-sound, stray-stays-sound}
 use Rattle.firm_rows.specs.Firm.{joined_acts}
 use Rattle.statement_csv.specs.declared.item.Item.TheVariants as item
@@ -61,14 +62,14 @@ always-sound day firm (it ∷ items) sound = (sound, always-sound day (after_ite
 
 -- Steps.
 
-sound-dismissed : (o : Option Refusal) (line : Line) (firm : Firm) → FirmSound firm → FirmSound (dismissed_unless o line firm)
-sound-dismissed None line firm sound = match-sound line firm sound
-sound-dismissed (Some r) line firm sound = sound
+sound-dismissed : (day : ℕ) (o : Option Refusal) (line : Line) (firm : Firm) → FirmSound firm → FirmSound (dismissed_unless day o line firm)
+sound-dismissed day None line firm sound = dismissed-sound day line firm sound
+sound-dismissed day (Some r) line firm sound = sound
 
 sound-kind_step : (day : ℕ) (firm : Firm) (k : Kind) → KindHasAmounts k → FirmSound firm → FirmSound (kind_step day firm k).firm
 sound-kind_step day firm (OfMatter m caller ask) amount sound = sound-after_ask m (asked_on day caller ask) firm amount sound
 sound-kind_step day firm (OfItems refused items) amount sound = sound-after_items day firm items sound
-sound-kind_step day firm (Dismisses caller line) amount sound = sound-dismissed (dismiss_refusal caller line firm) line firm sound
+sound-kind_step day firm (Dismisses caller line) amount sound = sound-dismissed day (dismiss_refusal caller line firm) line firm sound
 sound-kind_step day firm _ amount sound = sound
 
 pub sound-firm_step : (day : ℕ) (firm : Firm) (h : Heard) → HasAmounts h → FirmSound firm → FirmSound (firm_step day firm h).firm

@@ -1,17 +1,10 @@
 -- The acts of one matter among all.
 use Rattle.std.proofs.Common.{◌≡◌, ℕ, Bool, true, false, cond, List, [], ◌∷◌, ◌++◌, refl, sym, ap, ◌∙◌, append-nil, append_assoc, fold, map}
-use Rattle.std.specs.List.{filter}
 use Rattle.std.specs.Prelude.{◌==◌}
-use Rattle.matter_rows.specs.declared.act.Act.{Act}
+use Rattle.firm_audit.specs.Trails.{acts_among, acts_in}
 use Rattle.firm_rows.specs.declared.matter_act.MatterAct.{MatterAct}
 use Rattle.firm_rows.specs.Firm.{Firm, acts_of}
 use Rattle.trust_desk.specs.Acts.{ActsKept, none_kept, with_act_of}
-
-abbrev of_matter : ℕ → List MatterAct → List MatterAct
-of_matter m acts = filter (λ (a : MatterAct). a.matter == m) acts
-
-abbrev acts_among : ℕ → List MatterAct → List Act
-acts_among m acts = map (λ (a : MatterAct). a.act) (of_matter m acts)
 
 acts-put : (s : ActsKept) (acts : List MatterAct) → (fold with_act_of s acts).acts ≡ s.acts ++ acts_among s.matter acts
 acts-put s [] = sym (append-nil s.acts)
@@ -19,7 +12,7 @@ acts-put s (a ∷ acts) =
     acts-put (with_act_of s a) acts
     ∙ (append_assoc s.acts (cond (a.matter == s.matter) (a.act ∷ []) []) (acts_among s.matter acts) ∙ ap (λ xs. s.acts ++ xs) (cases (a.matter == s.matter)))
   where
-    cases : (b : Bool) → cond b (a.act ∷ []) [] ++ acts_among s.matter acts ≡ map (λ (x : MatterAct). x.act) (cond b (a ∷ of_matter s.matter acts) (of_matter s.matter acts))
+    cases : (b : Bool) → cond b (a.act ∷ []) [] ++ acts_among s.matter acts ≡ map (λ (x : MatterAct). x.act) (cond b (a ∷ acts_in s.matter acts) (acts_in s.matter acts))
     cases true = refl
     cases false = refl
 

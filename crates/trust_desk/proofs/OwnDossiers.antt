@@ -119,9 +119,9 @@ own-items m day firm (it ∷ items) =
 
 -- A step.
 
-dismissed-none : (m : ℕ) (o : Option Refusal) (line : Line) (firm : Firm) → dossier_of m (dismissed_unless o line firm) ≡ dossier_of m firm
-dismissed-none m None line firm = refl
-dismissed-none m (Some r) line firm = refl
+dismissed-none : (m day : ℕ) (o : Option Refusal) (line : Line) (firm : Firm) → dossier_of m (dismissed_unless day o line firm) ≡ dossier_of m firm
+dismissed-none m day None line firm = refl
+dismissed-none m day (Some r) line firm = refl
 
 -- what is only asked for, and what is refused, leave it
 left-none : (b : Bool) (own : Own) (p : Dossier) → own_dossier p own ≡ p → p ≡ solo_dossier p (own_if b own)
@@ -137,7 +137,7 @@ kind-dossier m day firm (OfMatter n caller ask) =
     (λ other. other-asked (refusal (of n firm) a) m n a firm (λ same. eqb-false n m other (sym same)))
 kind-dossier m day firm (OfActs n caller) = left-none (n == m) (OwnActs caller day) (dossier_of m firm) refl
 kind-dossier m day firm (OfItems refused items) = own-items m day firm items
-kind-dossier m day firm (Dismisses caller line) = dismissed-none m (dismiss_refusal caller line firm) line firm
+kind-dossier m day firm (Dismisses caller line) = dismissed-none m day (dismiss_refusal caller line firm) line firm
 kind-dossier m day firm (OnlyTold text) = refl
 kind-dossier m day firm (OnlyShown json) = refl
 kind-dossier m day firm (NotRead named r) = left-none (is_the m named) (OwnRefusal r) (dossier_of m firm) refl

@@ -17,8 +17,8 @@ of_other-after_asked (Some r) n m a firm apart = refl
 -- A step.
 
 -- dismissing a line leaves the rows of every matter
-dismissed-rows : (m : ℕ) (o : Option Refusal) (line : Line) (firm : Firm) → of m (dismissed_unless o line firm) ≡ of m firm
-dismissed-rows m o line firm = grind (arith, ints, nat_tests)
+dismissed-rows : (m day : ℕ) (o : Option Refusal) (line : Line) (firm : Firm) → of m (dismissed_unless day o line firm) ≡ of m firm
+dismissed-rows m day o line firm = grind (arith, ints, nat_tests)
 
 -- what is only asked for leaves the rows
 unmoved : (b : Bool) (own : Own) (rows : Rows) → own_rows rows own ≡ rows → rows ≡ solo_rows rows (own_if b own)
@@ -33,7 +33,7 @@ kind-rows m day firm (OfMatter n caller ask) =
     (λ other. of_other-after_asked (refusal (of n firm) a) m n a firm (λ same. eqb-false n m other (sym same)))
 kind-rows m day firm (OfActs n caller) = unmoved (n == m) (OwnActs caller day) (of m firm) refl
 kind-rows m day firm (OfItems refused items) = of-after_items m day firm items
-kind-rows m day firm (Dismisses caller line) = dismissed-rows m (dismiss_refusal caller line firm) line firm
+kind-rows m day firm (Dismisses caller line) = dismissed-rows m day (dismiss_refusal caller line firm) line firm
 kind-rows m day firm (OnlyTold text) = refl
 kind-rows m day firm (OnlyShown json) = refl
 kind-rows m day firm (NotRead n r) = grind (arith, ints, nat_tests, cond_both, is_the, of, solo_rows)

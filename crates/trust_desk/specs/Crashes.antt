@@ -77,7 +77,7 @@ abbrev pub KindIsMade : ℕ → Firm → Kind → Firm → Type 0
 KindIsMade day firm (OfMatter m caller ask) found = found ≡ after_ask m (asked_on day caller ask) firm
 KindIsMade day firm (OfActs m caller) found = found ≡ firm
 KindIsMade day firm (OfItems refused items) found = (rest : List Item) × IsAfterFront day firm items rest found
-KindIsMade day firm (Dismisses caller line) found = found ≡ after_dismissing caller line firm
+KindIsMade day firm (Dismisses caller line) found = found ≡ after_dismissing day caller line firm
 KindIsMade day firm (OnlyTold text) found = found ≡ firm
 KindIsMade day firm (OnlyShown json) found = found ≡ firm
 KindIsMade day firm (NotRead named r) found = found ≡ firm

@@ -1,5 +1,5 @@
 -- Dismissing a line from the exceptions.
-use Rattle.std.specs.Prelude.{◌≡◌, ◌⊎◌, Bool, true, not, List, [], ◌∷◌, Option, Some, None, Result, Ok, Err, codes}
+use Rattle.std.specs.Prelude.{◌≡◌, ◌⊎◌, ℕ, Bool, true, not, List, [], ◌∷◌, Option, Some, None, Result, Ok, Err, codes}
 use Rattle.std.specs.List.{list_any}
 use Rattle.trust_base.specs.LineOrder.{is_same_line}
 use Rattle.trust_base.specs.Refusals.{is_fault}
@@ -9,7 +9,7 @@ use Rattle.trust_base.specs.declared.refusal.Refusal.{Refusal}
 use Rattle.trust_base.specs.declared.refusal.Refusal.TheVariants as refusals
 use Rattle.matter_rows.specs.declared.act.Caller.{Caller}
 use Rattle.trust_matter.specs.Step.{first}
-use Rattle.firm_rows.specs.Firm.{Firm, after_match}
+use Rattle.firm_rows.specs.Firm.{Firm, after_dismissal}
 use Rattle.trust_desk.specs.declared.requests.Body.TheVariants.{Json}
 use Rattle.trust_desk.specs.declared.requests.Reply.{Reply}
 use Rattle.trust_desk.specs.ImportStep.{is_not_of_firm}
@@ -30,13 +30,14 @@ dismiss_conditions caller line firm =
 abbrev pub dismiss_refusal : Caller → Line → Firm → Option Refusal
 dismiss_refusal caller line firm = first (dismiss_conditions caller line firm)
 
--- the line is not an exception any more, and nothing else changes; if it is refused, nothing changes
-abbrev pub dismissed_unless : Option Refusal → Line → Firm → Firm
-dismissed_unless None line firm = after_match line firm
-dismissed_unless (Some r) line firm = firm
+-- the line is not an exception any more, and is kept among the dismissals with the day; nothing else changes. If it is
+-- refused, nothing changes
+abbrev pub dismissed_unless : ℕ → Option Refusal → Line → Firm → Firm
+dismissed_unless day None line firm = after_dismissal day line firm
+dismissed_unless day (Some r) line firm = firm
 
-abbrev pub after_dismissing : Caller → Line → Firm → Firm
-after_dismissing caller line firm = dismissed_unless (dismiss_refusal caller line firm) line firm
+abbrev pub after_dismissing : ℕ → Caller → Line → Firm → Firm
+after_dismissing day caller line firm = dismissed_unless day (dismiss_refusal caller line firm) line firm
 
 -- the reply to a dismissal that was refused or done
 abbrev pub dismiss_reply : Option Refusal → Reply
@@ -46,8 +47,8 @@ dismiss_reply (Some r) = refused r
 -- How a dismissal ends.
 
 -- the line was dismissed; or it was refused, or the store or memory stopped it, and nothing changed
-abbrev pub EndsDismiss : Caller → Line → Firm → Firm → Result Reply Refusal → Type 0
-EndsDismiss caller line firm new (Ok reply) =
-    (dismiss_refusal caller line firm ≡ None) × (reply ≡ dismiss_reply None) × (new ≡ after_match line firm)
-EndsDismiss caller line firm new (Err r) =
+abbrev pub EndsDismiss : ℕ → Caller → Line → Firm → Firm → Result Reply Refusal → Type 0
+EndsDismiss day caller line firm new (Ok reply) =
+    (dismiss_refusal caller line firm ≡ None) × (reply ≡ dismiss_reply None) × (new ≡ after_dismissal day line firm)
+EndsDismiss day caller line firm new (Err r) =
     ((is_fault r ≡ true) ⊎ (dismiss_refusal caller line firm ≡ Some r)) × (new ≡ firm)

@@ -43,7 +43,7 @@ kind_step day firm (OfItems refused items) = record {
   reply = import_reply refused (counts_after day firm items none_counted);
 }
 kind_step day firm (Dismisses caller line) = record {
-  firm = after_dismissing caller line firm;
+  firm = after_dismissing day caller line firm;
   reply = dismiss_reply (dismiss_refusal caller line firm);
 }
 kind_step day firm (OnlyTold text) = record { firm = firm; reply = text_reply (text day firm) }

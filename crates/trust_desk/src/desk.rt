@@ -211,7 +211,7 @@ impl<B: Book> Desk<B> {
             Request::Import { caller, statement } => {
                 self.answer_import(alloc, day, caller, statement.as_slice())
             }
-            Request::Dismiss { caller, line } => self.answer_dismiss(alloc, caller, line),
+            Request::Dismiss { caller, line } => self.answer_dismiss(alloc, day, caller, line),
             Request::Match {
                 caller,
                 statement,
@@ -370,13 +370,14 @@ impl<B: Book> Desk<B> {
     fn answer_dismiss(
         &mut self,
         alloc: Global,
+        day: Day,
         caller: &Caller,
         line: &Line,
     ) -> Result<Reply, Refusal>
-        ensures { (day : ℕ) (h : Heard) → kind_of h ≡ Dismisses caller.now line.now
+        ensures { (h : Heard) → kind_of h ≡ Dismisses caller.now line.now
             → IsAnswered day h result (B.seen self.old) (B.seen self.new) }
     {
-        dismiss(alloc, &mut self.book, caller, line)
+        dismiss(alloc, &mut self.book, day, caller, line)
     }
 
     // Imports a statement.

@@ -12,7 +12,7 @@ ghost use Rattle.trust_desk.specs.Crashes.{MayLeaveChange, is_fault_end};
 use crate::requests::{Body, Reply, is_not_of_firm};
 use firm_rows::ExceptionSink;
 use std::alloc::{AllocError, Global};
-use trust_base::{Line, OwnedBytes, Refusal, Rule, StoreFault};
+use trust_base::{Day, Line, OwnedBytes, Refusal, Rule, StoreFault};
 use trust_matter::Caller;
 use trust_store::Book;
 
@@ -46,23 +46,25 @@ fn is_exception<B: Book>(book: &mut B, line: &Line) -> Result<bool, StoreFault>
     Ok(search.is_found)
 }
 
-/// Dismisses a line from the exceptions of a book: it is not an exception any more. Nothing else changes.
+/// Dismisses a line from the exceptions of a book on a business day: it is not an exception any more, and is kept among
+/// the dismissals, with the day. Nothing else changes.
 ///
 /// Refuses a caller who is not the cashier (`NotAllowed`), and a line that is not an exception (`NoEntry`). Returns
 /// `Store` or `Memory` if the book failed or memory ran out. On an error nothing has changed.
 pub(crate) fn dismiss<B: Book>(
     alloc: Global,
     book: &mut B,
+    day: Day,
     caller: &Caller,
     line: &Line,
 ) -> Result<Reply, Refusal>
     ensures end { (B.seen book.new).clean → (B.seen book.old).stands
-        → EndsDismiss caller.now line.now (B.seen book.old).firm (B.seen book.new).firm result }
+        → EndsDismiss day caller.now line.now (B.seen book.old).firm (B.seen book.new).firm result }
     ensures ok { IfOk result (λ reply. is_fault_reply reply ≡ false) }
     ensures kept { KeepsBook (Counts (counted_end result)) (B.seen book.old) (B.seen book.new) }
     ensures crash { (B.seen book.new).sure → (B.seen book.old).stands → MayLeaveChange
         (is_fault_end result ≡ false) (B.seen book.old).firm
-        (after_dismissing caller.now line.now (B.seen book.old).firm) (B.seen book.old) (B.seen book.new) }
+        (after_dismissing day caller.now line.now (B.seen book.old).firm) (B.seen book.old) (B.seen book.new) }
 {
     if is_not_of_firm(caller) {
         return Err(Refusal::NotAllowed(Rule::Firm));
@@ -71,7 +73,7 @@ pub(crate) fn dismiss<B: Book>(
         return Err(Refusal::NoEntry);
     }
     let text = Vec::from_slice(alloc, b"{\"dismissed\":1}")?;
-    book.dismiss(alloc, line)?;
+    book.dismiss(alloc, day, line)?;
     Ok(Reply {
         status: 200,
         body: Body::Json(OwnedBytes::new(text)),

@@ -60,7 +60,9 @@
 //!   the definition, of the firm's rows. Nothing changes, and these requests name no matter (by the same clauses).
 //!
 //! A firm's acts are part of its rows: an accepted ask that changes a matter, and an applied line that names an entry,
-//! leave the act that they are remembered by, and a purge takes those of its matter (`after_ask`, `after_told`).
+//! leave the act that they are remembered by, and a purge takes those of its matter (`after_ask`, `after_told`). So are
+//! its dismissals: a line that is dismissed is kept behind those that are there, with the business day
+//! (`after_dismissing`).
 //!
 //! The laws of its runs are in the crate `desk_laws`, and those of the acts in `desk_trail`.
 #![tactic(auto)]

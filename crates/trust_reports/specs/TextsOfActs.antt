@@ -3,15 +3,18 @@ use Rattle.std.specs.Prelude.{ℕ, cond, List, [], ◌∷◌, ◌++◌, codes, f
 use Rattle.trust_base.specs.Periods.{Span}
 use Rattle.trust_base.specs.Texts.{amount_text, day_text, matter_text}
 use Rattle.matter_rows.specs.declared.act.Caller.{Caller}
+use Rattle.matter_rows.specs.declared.act.Caller.TheVariants as caller
 use Rattle.matter_rows.specs.declared.act.Deed.{Deed}
 use Rattle.matter_rows.specs.declared.act.Deed.TheVariants as deed
 use Rattle.matter_rows.specs.declared.seat.Role.{Role}
 use Rattle.matter_rows.specs.declared.seat.Role.TheVariants as role
 use Rattle.trail_laws.specs.Signed.{begins_with_opening}
+use Rattle.firm_rows.specs.declared.dismissal.Dismissal.{Dismissal}
 use Rattle.firm_rows.specs.declared.matter_act.MatterAct.{MatterAct}
 use Rattle.firm_periods.specs.declared.approvals_sink.IssuedPayment.{IssuedPayment}
-use Rattle.trust_reports.specs.Texts.{caller_text, heading, line, place_text, reference_text}
+use Rattle.trust_reports.specs.Texts.{caller_text, further, heading, line, place_text, reference_text}
 use Rattle.trust_reports.specs.TextsOfLedgers.{end_fields, payment_names}
+use Rattle.trust_reports.specs.TextsOfLists.{exception_line}
 use Rattle.trust_reports.specs.TextsOfPeriods.{period_heading}
 
 -- An act.
@@ -48,10 +51,20 @@ act_line a =
     line (day_text a.act.day)
     (place_text a.matter a.act.entry ∷ caller_text a.act.caller ∷ deed_fields a.act.deed)
 
--- The trail: acts in the order of acceptance.
+-- A dismissal.
 
-abbrev pub trail_text : ℕ → List MatterAct → List ℕ
-trail_text today acts = heading (codes "TRAIL") today ++ flat_map act_line acts
+-- its business day, a dash where an act has its place, the cashier, what was done, and the line as the exceptions have it
+abbrev pub dismissal_line : Dismissal → List ℕ
+dismissal_line d =
+    day_text d.day
+    ++ (flat_map further (codes "-" ∷ caller_text caller.Cashier ∷ codes "DISMISSED" ∷ [])
+    ++ further (exception_line d.line))
+
+-- The trail: the acts in the order of acceptance, and behind them the dismissals in theirs.
+
+abbrev pub trail_text : ℕ → List MatterAct → List Dismissal → List ℕ
+trail_text today acts dismissals =
+    heading (codes "TRAIL") today ++ (flat_map act_line acts ++ flat_map dismissal_line dismissals)
 
 -- The trail of a matter.
 

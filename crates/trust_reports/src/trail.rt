@@ -1,18 +1,19 @@
-// The trail: who did what.
+// The trail: who did what, and which exceptions were dismissed.
 
 ghost use Rattle.std.specs.Prelude.{◌≡◌, [], ◌∷◌, ◌++◌, OnOk, OnErr, flat_map, map};
 ghost use Rattle.trail_laws.specs.Signed.{begins_with_opening};
 ghost use Rattle.firm_rows.specs.declared.matter_act.MatterAct.{MatterAct};
 ghost use Rattle.trust_reports.specs.Texts.{further};
-ghost use Rattle.trust_reports.specs.TextsOfActs.{act_line, deed_fields, earlier_text, matter_trail_text, role_text, trail_text};
+ghost use Rattle.trust_reports.specs.TextsOfActs.{act_line, deed_fields, dismissal_line, earlier_text, matter_trail_text};
+ghost use Rattle.trust_reports.specs.TextsOfActs.{role_text, trail_text};
 
 use crate::page::{
-    List, Page, Piece, Printed, append, push_day, push_fields, push_line, push_word,
+    Page, Piece, Printed, append, push_day, push_fields, push_heading, push_line, push_word,
 };
-use firm_rows::MatterAct;
+use firm_rows::{Dismissal, MatterAct};
 use std::alloc::AllocError;
 use trust_base::{Day, MatterNo, PersonId};
-use trust_matter::{Deed, Role, Seat};
+use trust_matter::{Caller, Deed, Role, Seat};
 
 // A role as it is printed.
 fn role_word(role: Role) -> &'static str
@@ -88,6 +89,25 @@ impl Printed for MatterAct {
     }
 }
 
+impl Printed for Dismissal {
+    ghost printed = { dismissal_line };
+
+    fn push_to(&self, page: &mut Page) -> Result<(), AllocError> {
+        let cashier = Caller::Cashier;
+        push_day(page, self.day)?;
+        push_fields(
+            page,
+            &[
+                Piece::Word("-"),
+                Piece::Caller(&cashier),
+                Piece::Word("DISMISSED"),
+            ],
+        )?;
+        page.push(b" ")?;
+        self.line.push_to(page)
+    }
+}
+
 // Whether the first act is the opening of the matter.
 fn begins_with_opening(acts: &[MatterAct]) -> bool
     ensures { result ≡ begins_with_opening (map (λ (a : MatterAct). a.act) acts.now) }
@@ -127,16 +147,46 @@ impl Printed for MatterTrail<'_> {
     }
 }
 
-/// Appends the trail on a business day: for each of these acts, in their order, its business day, the matter or the
-/// entry, who did it and what was done, with the person whose seat it is, or the client's part.
+#[derive(Drop)]
+struct Trail<'a> {
+    today: Day,
+    acts: &'a [MatterAct],
+    dismissals: &'a [Dismissal],
+}
+
+impl Printed for Trail<'_> {
+    ghost printed = { λ t. trail_text t.today t.acts.now t.dismissals.now };
+
+    fn push_to(&self, page: &mut Page) -> Result<(), AllocError> {
+        push_heading(page, "TRAIL", self.today)?;
+        page.push_lines(self.acts)?;
+        page.push_lines(self.dismissals)
+    }
+}
+
+/// Appends the trail on a business day. For each of these acts, in their order, it has its business day, the matter or
+/// the entry, who did it and what was done, with the person whose seat it is, or the client's part. Then, for each of
+/// these dismissals, in their order, it has its business day, `-`, the cashier, and the bank line as it was in the
+/// report of the exceptions.
 ///
 /// The only error is out of memory; `out` is then unchanged.
-pub fn trail_text(today: Day, lines: &[MatterAct], out: &mut Vec<u8>) -> Result<(), AllocError>
-    ensures ok { OnOk result (out.new.items ≡ out.old.items ++ trail_text today lines.now) }
+pub fn trail_text(
+    today: Day,
+    acts: &[MatterAct],
+    dismissals: &[Dismissal],
+    out: &mut Vec<u8>,
+) -> Result<(), AllocError>
+    ensures ok { OnOk result (out.new.items ≡ out.old.items ++ trail_text today acts.now dismissals.now) }
     ensures err { OnErr result (out.new.items ≡ out.old.items) }
 {
-    let name = "TRAIL";
-    append(out, &List { name, today, lines })
+    append(
+        out,
+        &Trail {
+            today,
+            acts,
+            dismissals,
+        },
+    )
 }
 
 /// Appends the line of one act, as it is in the trail.
@@ -147,6 +197,16 @@ pub fn act_line(act: &MatterAct, out: &mut Vec<u8>) -> Result<(), AllocError>
     ensures err { OnErr result (out.new.items ≡ out.old.items) }
 {
     append(out, act)
+}
+
+/// Appends the line of one dismissal, as it is in the trail.
+///
+/// The only error is out of memory; `out` is then unchanged.
+pub fn dismissal_line(dismissal: &Dismissal, out: &mut Vec<u8>) -> Result<(), AllocError>
+    ensures ok { OnOk result (out.new.items ≡ out.old.items ++ dismissal_line dismissal.now) }
+    ensures err { OnErr result (out.new.items ≡ out.old.items) }
+{
+    append(out, dismissal)
 }
 
 /// Appends the trail of a matter, of which these are the acts, on a business day. A line says so if they do not begin

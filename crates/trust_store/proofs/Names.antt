@@ -1,12 +1,13 @@
 -- The names that the proofs of this crate cite, passed on from one place. Declares nothing.
 pub use Rattle.firm_rows.proofs.Ordered.{absent-at, all-append, found-at, rises}
 pub use Rattle.firm_rows.specs.Countable.{IsRowInRange, MOST_ROWS}
-pub use Rattle.firm_rows.specs.Firm.{EntryRow, Firm, HeadRow, Row, SeatRow, acted, after_change, among, empty_firm, entry_pairs, head_pairs, headed, joined_acts, joined_movement, kept_movements, moved_by, moved_without, of, own_movement, pairs, put, rows_of, seat_pairs, with_acts, with_line, without_line}
+pub use Rattle.firm_rows.specs.Firm.{EntryRow, Firm, HeadRow, Row, SeatRow, acted, after_change, among, empty_firm, entry_pairs, head_pairs, headed, joined_acts, joined_movement, kept_movements, moved_by, moved_without, of, own_movement, pairs, put, rows_of, seat_pairs, with_line, with_trail, without_line}
 pub use Rattle.firm_rows.specs.FirmChange.{FirmChange, OfMatter}
 pub use Rattle.firm_rows.specs.FirmLines.{IsOwnBalance, as_firm_line, balance_cmp, balance_of, kept_balance, with_balance}
 pub use Rattle.firm_rows.specs.FirmSound.{FirmSound}
 pub use Rattle.firm_rows.specs.declared.ledger.FirmLine.{FirmLine}
 pub use Rattle.firm_rows.specs.declared.ledger.BalanceRow.{BalanceRow}
+pub use Rattle.firm_rows.specs.declared.dismissal.Dismissal.{Dismissal}
 pub use Rattle.firm_rows.specs.declared.matter_act.MatterAct.{MatterAct}
 pub use Rattle.firm_rows.specs.declared.movement.Movement.{Movement}
 pub use Rattle.matter_parts.specs.Changes.{IsChange, MatterChange, changed}

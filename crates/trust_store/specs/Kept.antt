@@ -9,7 +9,7 @@ use Rattle.matter_parts.specs.Parts.{Part, IsWhole, entries_kept}
 use Rattle.firm_rows.specs.declared.movement.Movement.{Movement}
 use Rattle.firm_rows.specs.declared.ledger.FirmLine.{FirmLine}
 use Rattle.firm_rows.specs.declared.ledger.BalanceRow.{BalanceRow}
-use Rattle.firm_rows.specs.Firm.{Row, EntryRow, Firm, pairs, with_line, without_line, with_acts}
+use Rattle.firm_rows.specs.Firm.{Row, EntryRow, Firm, pairs, with_line, without_line, with_trail}
 use Rattle.firm_rows.specs.FirmSound.{FirmSound}
 use Rattle.trust_store.specs.declared.all_rows.AllRows.{AllRows}
 use Rattle.trust_store.specs.declared.plain.KeptMatter.{KeptMatter}
@@ -50,7 +50,7 @@ pub record AreKeptWhole (ks : List KeptMatter) : Type 0 where
   pub ascends : Ascends ks
   pub whole : AllByRecursion IsKeptWhole ks
 
--- the firm that has these matters, movements, lines of its own, exceptions and balances, and no acts
+-- the firm that has these matters, movements, lines of its own, exceptions and balances, and no trail
 abbrev pub firm_of : List KeptMatter → List Movement → List FirmLine → List Line → List BalanceRow → Firm
 firm_of ks movements own lines balances = record {
   rows = joined ks;
@@ -59,12 +59,13 @@ firm_of ks movements own lines balances = record {
   exceptions = lines;
   balances = balances;
   acts = [];
+  dismissals = [];
 }
 
 -- the firm that has all the rows that were read
 abbrev pub firm_of_all : AllRows → Firm
 firm_of_all rows =
-    with_acts rows.acts.items
+    with_trail rows.acts.items rows.dismissals.items
     (firm_of rows.matters.items rows.movements.items rows.firm_lines.items rows.exceptions.items rows.balances.items)
 
 -- sound matters with all their entries; together with the other rows they make a sound firm

@@ -3,7 +3,7 @@
 ghost use Rattle.std.specs.Prelude.{◌≡◌, IfOk};
 
 use crate::plain::KeptMatter;
-use firm_rows::{BalanceRow, FirmLine, MatterAct, Movement};
+use firm_rows::{BalanceRow, Dismissal, FirmLine, MatterAct, Movement};
 use matter_parts::Matter;
 use std::alloc::{AllocError, Global};
 use trust_base::Line;
@@ -23,6 +23,8 @@ pub struct AllRows {
     pub balances: Vec<BalanceRow>,
     /// The acts, in the order of acceptance.
     pub acts: Vec<MatterAct>,
+    /// The dismissals, in the order of acceptance.
+    pub dismissals: Vec<Dismissal>,
 }
 
 // A row that is copied where there is memory.
@@ -49,6 +51,12 @@ impl CopiedRow for KeptMatter {
 
 impl CopiedRow for MatterAct {
     fn copied_row(&self, _alloc: Global) -> Result<MatterAct, AllocError> {
+        self.copied()
+    }
+}
+
+impl CopiedRow for Dismissal {
+    fn copied_row(&self, _alloc: Global) -> Result<Dismissal, AllocError> {
         self.copied()
     }
 }

@@ -3,9 +3,9 @@
 ghost use Rattle.std.specs.Prelude.{◌≡◌, ℕ, None, IfOk, IsOk};
 ghost use Rattle.matter_parts.specs.declared.edit.Edit.TheVariants.{Nothing};
 ghost use Rattle.matter_parts.specs.Parts.{IsWhole};
-ghost use Rattle.firm_rows.specs.Countable.{IsRowInRange, IsMovementInRange, IsFirmLineInRange, IsLineInRange, IsBalanceInRange, IsActInRange};
+ghost use Rattle.firm_rows.specs.Countable.{IsRowInRange, IsMovementInRange, IsFirmLineInRange, IsLineInRange, IsBalanceInRange, IsActInRange, IsDismissalInRange};
 ghost use Rattle.firm_rows.specs.Firm.{Firm, of, opened_matters};
-ghost use Rattle.firm_rows.specs.FirmChange.{OfMatter, Repeated, Unmatched, FitsFirm, by_line, by_firm_line, by_balance};
+ghost use Rattle.firm_rows.specs.FirmChange.{OfMatter, Unmatched, Dismissed, FitsFirm, by_line, by_firm_line, by_balance};
 ghost use Rattle.firm_rows.specs.FirmLines.{kept_balance};
 ghost use Rattle.firm_rows.specs.FirmSound.{IsVerdictOn, IsFirmVerdict, IsBalanceVerdict};
 ghost use Rattle.firm_rows.specs.Handing.{AreHanded};
@@ -15,8 +15,8 @@ ghost use Rattle.trust_store.specs.Named.{IsPartFor};
 
 use crate::all_rows::AllRows;
 use firm_rows::{
-    ActSink, BalanceKind, BalanceSink, ExceptionSink, FirmLedger, FirmLineSink, MovementSink,
-    RowSink, Verdict,
+    ActSink, BalanceKind, BalanceSink, DismissalSink, ExceptionSink, FirmLedger, FirmLineSink,
+    MovementSink, RowSink, Verdict,
 };
 use std::alloc::Global;
 use trust_base::{Day, EntryNo, Line, MatterNo, StoreFault};
@@ -33,7 +33,7 @@ use trust_matter::{BankLine, Change, LineVerdict, Matter};
 ///     let mut book = PlainBook::new(alloc);
 ///     book.write_stray(alloc, &line)?;    // it is an exception
 ///     book.each_exception(&mut list)?;    // and the list is handed it
-///     book.dismiss(alloc, &line)?;        // now it is none
+///     book.dismiss(alloc, day, &line)?;   // now it is none, and is among the dismissals
 pub trait Book {
     ghost use Rattle.trust_store.specs.Seen.{Seen};
 
@@ -124,6 +124,12 @@ pub trait Book {
             → AreHanded S.remembered IsActInRange (seen self.old).firm.acts result sink.old sink.new }
         ensures read { IsRead result (seen self.old) (seen self.new) };
 
+    /// Passes each dismissal to the sink, in the order of acceptance. Stops if the sink runs out of memory.
+    fn each_dismissal<S: DismissalSink>(&mut self, sink: &mut S) -> Result<(), StoreFault>
+        ensures handed { (seen self.new).clean → (seen self.old).stands
+            → AreHanded S.taken_out IsDismissalInRange (seen self.old).firm.dismissals result sink.old sink.new }
+        ensures read { IsRead result (seen self.old) (seen self.new) };
+
     /// Makes one change of a matter, with the act that it is remembered by, or none if it is refused. It must be a
     /// change of the matter's rows as they are now. A change of nothing is never refused.
     fn write_change(
@@ -175,8 +181,8 @@ pub trait Book {
     fn write_stray(&mut self, alloc: Global, line: &Line) -> Result<(), StoreFault>
         ensures written { IsWrite (Unmatched line.now) result (seen self.old) (seen self.new) };
 
-    /// Removes a whole line from the exceptions, and changes nothing else. If it is not there, nothing changes. This is
-    /// one write.
-    fn dismiss(&mut self, alloc: Global, line: &Line) -> Result<(), StoreFault>
-        ensures written { IsWrite (Repeated line.now) result (seen self.old) (seen self.new) };
+    /// Removes a whole line from the exceptions, and adds it to the dismissals with the business day, whether or not it
+    /// was an exception. Nothing else changes. This is one write.
+    fn dismiss(&mut self, alloc: Global, day: Day, line: &Line) -> Result<(), StoreFault>
+        ensures written { IsWrite (Dismissed day line.now) result (seen self.old) (seen self.new) };
 }

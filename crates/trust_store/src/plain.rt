@@ -5,7 +5,7 @@ ghost use Rattle.matter_parts.specs.declared.edit.Edit.TheVariants.{Nothing};
 ghost use Rattle.matter_parts.specs.Parts.{IsWhole, AreNumbered};
 ghost use Rattle.matter_parts.specs.Changes.{IsChange, changed};
 ghost use Rattle.firm_rows.specs.Countable.{IsRowInRange, MOST_ROWS};
-ghost use Rattle.firm_rows.specs.Firm.{empty_firm, headed, of, acts_left, acts_without, joined_act, joined_movement, kept_movements, moved_without, is_of_matter, pairs, head_pairs, seat_pairs, after_change, after_stray, after_match, own_movement, with_firm_line, with_balance_row};
+ghost use Rattle.firm_rows.specs.Firm.{empty_firm, headed, of, acts_left, acts_without, joined_act, joined_movement, kept_movements, moved_without, is_of_matter, pairs, head_pairs, seat_pairs, after_change, after_stray, after_match, own_movement, with_dismissal, with_firm_line, with_balance_row};
 ghost use Rattle.firm_rows.specs.FirmLines.{IsOwnBalance, balance_of, as_firm_line, balance_row, kept_balance};
 ghost use Rattle.firm_rows.specs.FirmSound.{FirmSound};
 ghost use Rattle.firm_rows.specs.Handing.{AreHanded, FoldsFront};
@@ -18,9 +18,10 @@ use crate::balances::{add_balance, balance_kept};
 use crate::exceptions::{add_line, remove_line};
 use firm_rows::laws::{firm_stays_sound, verdicts_fit};
 use firm_rows::{
-    ActSink, BalanceKind, BalanceRow, BalanceSink, ExceptionSink, FirmLedger, FirmLine,
-    FirmLineSink, MAX_OWN, MatterAct, Movement, MovementSink, Owner, RowSink, Verdict, hand_acts,
-    hand_balances, hand_firm_lines, hand_lines, hand_movements,
+    ActSink, BalanceKind, BalanceRow, BalanceSink, Dismissal, DismissalSink, ExceptionSink,
+    FirmLedger, FirmLine, FirmLineSink, MAX_OWN, MatterAct, Movement, MovementSink, Owner, RowSink,
+    Verdict, hand_acts, hand_balances, hand_dismissals, hand_firm_lines, hand_lines,
+    hand_movements,
 };
 use std::alloc::{AllocError, Global};
 use std::marker::Model;
@@ -35,7 +36,7 @@ pub struct KeptMatter {
 }
 
 /// Stores everything in lists: whole matters by number, the movements, the firm's own ledger, the exceptions and the
-/// balances, both sorted, and the acts.
+/// balances, both sorted, the acts and the dismissals.
 ///
 /// It never returns `Store`, and promises nothing about a crash.
 #[derive(Drop)]
@@ -46,16 +47,17 @@ pub struct PlainBook {
     exceptions: Vec<Line>,
     balances: Vec<BalanceRow>,
     acts: Vec<MatterAct>,
+    dismissals: Vec<Dismissal>,
 }
 
 impl Model for PlainBook {
-    ghost use Rattle.firm_rows.specs.Firm.{Firm, with_acts};
+    ghost use Rattle.firm_rows.specs.Firm.{Firm, with_trail};
 
     ghost Value = { Firm };
 
     ghost use Rattle.trust_store.specs.Kept.{firm_of, AreKept};
 
-    ghost view = { λ b. with_acts b.acts.items
+    ghost view = { λ b. with_trail b.acts.items b.dismissals.items
         (firm_of b.matters.items b.movements.items b.own b.exceptions.items b.balances.items) };
 
     ghost invariant = { λ b. AreKept b.matters.items b.movements.items b.own b.exceptions.items b.balances.items };
@@ -76,6 +78,7 @@ impl PlainBook {
             exceptions: Vec::new(alloc),
             balances: Vec::new(alloc),
             acts: Vec::new(alloc),
+            dismissals: Vec::new(alloc),
         }
     }
 
@@ -141,6 +144,16 @@ impl PlainBook {
         Ok(())
     }
 
+    // Adds a line to the dismissals, with the day.
+    fn keep_dismissed(&mut self, day: Day, line: &Line) -> Result<(), AllocError>
+        ensures ok { OnOk result (self.new ≡ with_dismissal (record { day = day; line = line.now }) self.old) }
+        ensures err { OnErr result (self.new ≡ self.old) }
+    {
+        let line = line.copied()?;
+        self.dismissals.push(Dismissal { day, line })?;
+        Ok(())
+    }
+
     // Removes a line from the exceptions. Allocates nothing.
     fn settle(&mut self, line: &Line)
         ensures { self.new ≡ after_match line.now self.old }
@@ -197,6 +210,7 @@ impl Book for PlainBook {
             exceptions: copies(alloc, &self.exceptions)?,
             balances: Vec::from_slice(alloc, &self.balances)?,
             acts: copies(alloc, &self.acts)?,
+            dismissals: copies(alloc, &self.dismissals)?,
         })
     }
 
@@ -222,6 +236,10 @@ impl Book for PlainBook {
 
     fn each_act<S: ActSink>(&mut self, sink: &mut S) -> Result<(), StoreFault> {
         Ok(hand_acts(&self.acts, sink)?)
+    }
+
+    fn each_dismissal<S: DismissalSink>(&mut self, sink: &mut S) -> Result<(), StoreFault> {
+        Ok(hand_dismissals(&self.dismissals, sink)?)
     }
 
     fn write_change(
@@ -297,8 +315,9 @@ impl Book for PlainBook {
         Ok(())
     }
 
-    fn dismiss(&mut self, _alloc: Global, line: &Line) -> Result<(), StoreFault> {
+    fn dismiss(&mut self, _alloc: Global, day: Day, line: &Line) -> Result<(), StoreFault> {
         self.is_sound();
+        self.keep_dismissed(day, line)?;
         self.settle(line);
         self.is_sound();
         Ok(())

@@ -4,8 +4,8 @@ ghost use Rattle.std.specs.Prelude.{◌≡◌, ◌==◌, ◌-◌};
 ghost use Rattle.trust_store.specs.Books.{counted_fault};
 
 use firm_rows::{
-    ActSink, BalanceKind, BalanceSink, ExceptionSink, FirmLedger, FirmLineSink, MovementSink,
-    RowSink, Verdict,
+    ActSink, BalanceKind, BalanceSink, DismissalSink, ExceptionSink, FirmLedger, FirmLineSink,
+    MovementSink, RowSink, Verdict,
 };
 use std::alloc::Global;
 use trust_base::{Day, EntryNo, Line, MatterNo, StoreFault};
@@ -138,6 +138,13 @@ impl<B: Book> Book for RefusingBook<B> {
         }
     }
 
+    fn each_dismissal<S: DismissalSink>(&mut self, sink: &mut S) -> Result<(), StoreFault> {
+        match self.inner.each_dismissal(sink) {
+            Ok(()) => Ok(()),
+            Err(fault) => Err(told(&mut self.refusals, fault)),
+        }
+    }
+
     fn write_change(
         &mut self,
         alloc: Global,
@@ -212,11 +219,11 @@ impl<B: Book> Book for RefusingBook<B> {
         }
     }
 
-    fn dismiss(&mut self, alloc: Global, line: &Line) -> Result<(), StoreFault> {
+    fn dismiss(&mut self, alloc: Global, day: Day, line: &Line) -> Result<(), StoreFault> {
         if is_refused(&mut self.writes_left) {
             return Err(told(&mut self.refusals, StoreFault::Store));
         }
-        match self.inner.dismiss(alloc, line) {
+        match self.inner.dismiss(alloc, day, line) {
             Ok(()) => Ok(()),
             Err(fault) => Err(told(&mut self.refusals, fault)),
         }

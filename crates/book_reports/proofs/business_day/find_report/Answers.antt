@@ -1,5 +1,5 @@
-use Rattle.book_reports.proofs.Names.{◌≡◌, fold, ap, rules, ◌∙◌, Firm, no_journal, trial_kept, with_moved, with_trial_own, with_trial_row, none_retained, with_row_retained, own_card_text, exception_line, exceptions_text, journal_text, retention_text, trial_text, own_card_report, arith, ints, nat_tests}
-use Rattle.trust_reports.specs.TextsOfActs.{act_line, trail_text}
+use Rattle.book_reports.proofs.Names.{◌≡◌, ◌++◌, fold, ap, rules, ◌∙◌, Firm, no_journal, trial_kept, with_moved, with_trial_own, with_trial_row, none_retained, with_row_retained, own_card_text, exception_line, exceptions_text, journal_text, retention_text, trial_text, own_card_report, arith, ints, nat_tests}
+use Rattle.trust_reports.specs.TextsOfActs.{act_line}
 use Rattle.book_reports.proofs.ReportTexts.{exceptions-told, handed-before, journal-told, retention-told, trail-told, trial-told}
 use Rattle.book_reports.proofs.business_day.find_report.Goals as goal
 
@@ -40,6 +40,16 @@ pub returns-in_ok-own_card_text-in-OwnLedger-clause-told : goal.returns-in_ok-ow
 unfolding own_card_report
 returns-in_ok-own_card_text-in-OwnLedger-clause-told g c = grind (arith, ints, nat_tests, own_card_text)
 
-pub returns-in_ok-each_act-in-Trail-clause-told : goal.returns-in_ok-each_act-in-Trail-clause-told
-returns-in_ok-each_act-in-Trail-clause-told g c =
-    grind (arith, ints, nat_tests, fold, act_line, trail_text, trail-told)
+pub returns-in_ok-each_dismissal-in-Trail-clause-told : goal.returns-in_ok-each_dismissal-in-Trail-clause-told
+returns-in_ok-each_dismissal-in-Trail-clause-told g c =
+    λ clean stands.
+    let B = g.B.Book in
+    let firm : Firm = (B.seen c.args.book.now).firm in
+    let first = c.in_ok-each_act-in-Trail.ensures in
+    let second = c.in_ok-each_dismissal-in-Trail.ensures in
+    let served = second.read.was_clean clean in
+    let acts = first.handed served stands in
+    let dismissals = handed-before (λ (f : Firm). f.dismissals) (first.read.same served stands) (second.handed clean (first.read.still_stands served stands)) in
+    let begun = ap (λ s. fold (λ text act. text ++ act_line act) s firm.acts) c.in_ok-trail-in-Trail.ensures in
+    let told = trail-told c.args.today firm c.each_act.new.sink c.each_dismissal.new.sink (acts.all ∙ begun) dismissals.all in
+    rw c.in-Trail.is (c.finish-in-Trail.ensures ∙ told)

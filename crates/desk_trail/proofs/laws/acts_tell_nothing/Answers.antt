@@ -1,5 +1,6 @@
-use Rattle.desk_trail.proofs.Replies.{acts-tell_nothing, runs-tell_nothing}
+use Rattle.desk_trail.proofs.Alike.{TheActs}
+use Rattle.desk_trail.proofs.Replies.{runs-tell_nothing, steps-tell_nothing}
 use Rattle.desk_trail.proofs.laws.acts_tell_nothing.Goals as goal
 
 pub returns : goal.returns
-returns c = record { steps = acts-tell_nothing; runs = runs-tell_nothing }
+returns c = record { steps = steps-tell_nothing TheActs; runs = runs-tell_nothing TheActs }

@@ -1,12 +1,25 @@
-use Rattle.sql_making.proofs.Names.{◌≡◌, inl, inr, Some, sym, subst, ◌∙◌, rules, state, book_schema, version_now, IsBook, arith, ints, nat_tests}
-use Rattle.sqlite.specs.State.{HasCleanDisk}
+use Rattle.sql_making.proofs.Names.{◌≡◌, ◌⊎◌, inl, inr, Some, sym, subst, ◌∙◌, rules, state, book_schema, version_now, IsBook, arith, ints, nat_tests}
+use Rattle.sqlite.specs.State.{HasCleanDisk, State, Survives}
 use Rattle.sqlite.specs.Effect.{Database}
 use Rattle.sqlite.proofs.StateLemmas.{survives_then}
 use Rattle.sql_making.specs.Bare.{IsBareBook, AreExtended}
-use Rattle.sql_making.specs.Then.{IsLook}
+use Rattle.sql_making.specs.Scripts.{MayMake}
+use Rattle.sql_making.specs.Then.{AreMoved, IsLook, IsOldBook}
+use Rattle.sql_making.specs.declared.scripts.Script.TheVariants.{Extend}
+use Rattle.sql_schema.specs.declared.layout.Layout.{Layout}
 use Rattle.sql_schema.specs.Bare.{bare_schema}
 use Rattle.sql_schema.proofs.Apart.{never_both, bare_or_now}
 use Rattle.sql_making.proofs.taking.adopt.Goals as goal
+
+-- what a crash leaves of a book without the trail, found bare and then given one: what was there, or the book with it
+left_in_extending : (l : Layout) (was mid new : State) → (HasCleanDisk new → IsBareBook l was.now)
+    → (HasCleanDisk new → mid.now ≡ was.now) → Survives was mid (λ _. ⊥) → Survives mid new (MayMake Extend mid.now)
+    → Survives was new (λ trees. (IsOldBook was.now × AreMoved was.now trees)
+    ⊎ ((l : Layout) × IsBareBook l was.now × AreExtended l was.now trees))
+left_in_extending l was mid new bare same looked ran =
+    survives_then was mid new _ _ _ (λ _ db none. absurd none)
+    (λ clean db may. inr (l, bare clean, subst (λ (d : Database). AreExtended l d db) (same clean) (may l (subst (IsBareBook l) (sym (same clean)) (bare clean)))))
+    looked ran
 
 pub returns-in-Ok-clause-taken : goal.returns-in-Ok-clause-taken
 returns-in-Ok-clause-taken g c clean =
@@ -57,11 +70,8 @@ returns-in-Ok-run-2-clause-crash g c =
     let new = state g.S.Store c.run-in-Ok-true-is_bare_book.new.conn in
     let is = c.is_bare_book.ensures.is l in
     let looked : HasCleanDisk mid → IsLook c.is_bare_book.result was mid = λ clean. c.is_bare_book.ensures.look clean (inr (inr (l, has))) in
-    let bare : HasCleanDisk new → IsBareBook l was.now = λ clean. search rules in
-    let same : HasCleanDisk new → mid.now ≡ was.now = λ clean. search rules in
-    survives_then was mid new _ _ _ (λ _ db none. absurd none)
-    (λ clean db may. inr (l, bare clean, subst (λ (d : Database). AreExtended l d db) (same clean) (may l (subst (IsBareBook l) (sym (same clean)) (bare clean)))))
-    c.is_bare_book.ensures.crash c.run-in-Ok-true-is_bare_book.ensures.crash
+    left_in_extending l was mid new (λ clean. search rules) (λ clean. search rules) c.is_bare_book.ensures.crash
+    c.run-in-Ok-true-is_bare_book.ensures.crash
 
 pub returns-in-Err-run-2-clause-store : goal.returns-in-Err-run-2-clause-store
 returns-in-Err-run-2-clause-store g c clean none bare told =
@@ -80,11 +90,8 @@ returns-in-Err-run-2-clause-crash g c =
     let new = state g.S.Store c.run-in-Ok-true-is_bare_book.new.conn in
     let is = c.is_bare_book.ensures.is l in
     let looked : HasCleanDisk mid → IsLook c.is_bare_book.result was mid = λ clean. c.is_bare_book.ensures.look clean (inr (inr (l, has))) in
-    let bare : HasCleanDisk new → IsBareBook l was.now = λ clean. search rules in
-    let same : HasCleanDisk new → mid.now ≡ was.now = λ clean. search rules in
-    survives_then was mid new _ _ _ (λ _ db none. absurd none)
-    (λ clean db may. inr (l, bare clean, subst (λ (d : Database). AreExtended l d db) (same clean) (may l (subst (IsBareBook l) (sym (same clean)) (bare clean)))))
-    c.is_bare_book.ensures.crash c.run-in-Ok-true-is_bare_book.ensures.crash
+    left_in_extending l was mid new (λ clean. search rules) (λ clean. search rules) c.is_bare_book.ensures.crash
+    c.run-in-Ok-true-is_bare_book.ensures.crash
 
 pub returns-in-Err-is_bare_book-clause-store : goal.returns-in-Err-is_bare_book-clause-store
 returns-in-Err-is_bare_book-clause-store g c clean none bare told =

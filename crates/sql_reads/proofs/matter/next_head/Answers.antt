@@ -1,4 +1,4 @@
-use Rattle.sql_reads.proofs.Names.{rules, ◌≡◌, pos, ◌∷◌, Some, IsOk, option_map, option_copied, slice_get, refl, sym, ap, subst, ◌∙◌, to_z, w64, Int, Null, head_given, head_in, leaves_on, next_head_selects, numbered_from}
+use Rattle.sql_reads.proofs.Names.{rules, ◌≡◌, pos, ◌∷◌, Some, option_map, option_copied, slice_get, refl, sym, ap, ◌∙◌, to_z, w64, Int, Null, head_given, head_in, next_head_selects, numbered_from}
 use Rattle.sql_reads.proofs.Shown.{next, no_next, numbered_back}
 use Rattle.sql_reads.proofs.matter.next_head.Goals as goal
 

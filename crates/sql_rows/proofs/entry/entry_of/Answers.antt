@@ -1,9 +1,8 @@
-use Rattle.sql_rows.proofs.Names.{◌≡◌, pos, arith, ints, rules, Result, IfErr, sym, ◌∙◌, nat_tests}
+use Rattle.sql_rows.proofs.Names.{◌≡◌, pos, arith, ints, rules, sym, ◌∙◌, nat_tests}
 use Rattle.std.proofs.lemmas.Grind.{common_steps}
 use Rattle.sql_tables.specs.Given.{entry_given}
-use Rattle.trust_base.specs.declared.refusal.StoreFault.{StoreFault}
-use Rattle.trust_base.specs.declared.refusal.StoreFault.TheVariants.{Memory}
 use Rattle.sql_rows.proofs.EntryColumns.{kept_has, same_columns, same_kept}
+use Rattle.sql_rows.proofs.Faults.{at_any_error}
 use Rattle.sql_rows.proofs.entry.entry_of.Goals as goal
 
 pub returns-in_err-entry-clause-back : goal.returns-in_err-entry-clause-back
@@ -25,9 +24,6 @@ returns-then-not-are_same-clause-back c k kept is =
     let lefts : pos c.in_ok-left.left ≡ c.args.columns.left_now = grind (arith, common_steps) in
     let same = c.in_ok-entry.ensures k.entry kept.form has in
     grind (arith, ints, nat_tests, same_columns)
-
-at_any_error : {T P : Type 0} (r : Result T StoreFault) → P → IfErr r (λ e. e ≡ Memory → P)
-at_any_error r p = grind (arith, ints, nat_tests)
 
 pub returns-in_err-entry-clause-memory : goal.returns-in_err-entry-clause-memory
 returns-in_err-entry-clause-memory c =

@@ -23,7 +23,7 @@ returns g c =
           (w.answer_ask-answered.ensures h (kind w.in-Matter.is)))
       | in-Import w ↦ rw (w.self-is, w.answered-is)
           (w.answer_import-answered.ensures h (kind w.in-Import.is ∙ (λ i. OfItems (import_refusal w.in-Import.caller (sym w.as_slice.ensures i)) (imported w.in-Import.caller (sym w.as_slice.ensures i)))))
-      | in-Dismiss w ↦ rw (w.self-is, w.answered-is) (w.answer_dismiss-answered.ensures day h (kind w.in-Dismiss.is))
+      | in-Dismiss w ↦ rw (w.self-is, w.answered-is) (w.answer_dismiss-answered.ensures h (kind w.in-Dismiss.is))
       | in-Match w ↦ rw (w.self-is, w.answered-is) (w.answer_match-answered.ensures h (kind w.in-Match.is))
       | in-Report w ↦ rw (w.self-is, w.answered-is) (w.answer_report-answered.ensures h (kind w.in-Report.is))
       | in-Reconcile w ↦ rw (w.self-is, w.answered-is) (w.answer_reconciliation-answered.ensures day h (kind w.in-Reconcile.is))

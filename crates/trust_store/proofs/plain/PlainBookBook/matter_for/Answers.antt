@@ -4,4 +4,4 @@ use Rattle.trust_store.proofs.plain.PlainBookBook.matter_for.Goals as goal
 
 pub returns-clause-found : goal.returns-clause-found
 returns-clause-found c =
-    λ _ _. subst (λ (rows : Rows). IsPartFor rows c.args.entry c.args.other c.in_ok-part_of.field-0) (firm_rows c.args.matter c.deref.result.now c.self.inside.matters.items c.self.inside.movements.items c.self.inside.own c.self.inside.exceptions.items c.self.inside.balances.items c.self.inside.acts.items c.args.self.now c.deref.ensures.value c.self.invariant.matters.ascends c.self.view_is) c.in_ok-part_of.ensures
+    λ _ _. subst (λ (rows : Rows). IsPartFor rows c.args.entry c.args.other c.in_ok-part_of.field-0) (firm_rows c.args.matter c.deref.result.now c.self.inside.matters.items c.self.inside.movements.items c.self.inside.own c.self.inside.exceptions.items c.self.inside.balances.items c.self.inside.acts.items c.self.inside.dismissals.items c.args.self.now c.deref.ensures.value c.self.invariant.matters.ascends c.self.view_is) c.in_ok-part_of.ensures
