@@ -44,16 +44,21 @@ export function unanswered(page) {
 
 const pause = (milliseconds) => new Promise((end) => setTimeout(end, milliseconds));
 
+// What a front end answers in the place of the desk says nothing of an earlier sending.
+const isOfDesk = ({ isDone, body }) => isDone || Boolean(body?.refusal);
+
 // Sent again, twice, where the desk was closed or its disk failed. Not behind 504: what the front end gave up still
-// waits its turn at the desk, and a second one would only wait behind it.
-async function send(page, ask) {
+// waits its turn at the desk, and a second one would only wait behind it. `isOpen`: an earlier one was not answered.
+async function send(page, ask, isOpen) {
     let answer = await page.desk.post(ask.path, ask.body);
+    let wasSent = isOpen;
     for (const wait of [500, 1000]) {
         if (![502, 503].includes(answer.status)) break;
+        wasSent = true;
         await pause(wait);
         answer = await page.desk.post(ask.path, ask.body);
     }
-    return answer;
+    return { ...answer, isUnknown: answer.isUnknown || (wasSent && !isOfDesk(answer)) };
 }
 
 // 201 is booked now. 200 was in the book already: mostly by the first sending, but another cashier may have booked the
@@ -78,9 +83,10 @@ async function otherEntry(page, ask, next, place) {
 
 // Books a new entry. `place` is where a refusal is told, beside the form; null where there is no form any more.
 export async function book(page, ask, place) {
+    const isOpen = page.shelf.read(ASKS).some((each) => isSame(each, ask));
     keep(page, ask);
     page.say('Sending');
-    const answer = await send(page, ask);
+    const answer = await send(page, ask, isOpen);
     page.say('');
     if (answer.isUnknown) return tell(page, place, answer, place && sendAgain(page, ask, place));
     forget(page, ask);

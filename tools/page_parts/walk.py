@@ -1,4 +1,5 @@
 """A firm of three matters, played from its first day by five browsers: two cashiers, two lawyers, a client."""
+import json
 import pathlib
 
 from .browser import PHONE, Browser
@@ -501,10 +502,40 @@ def tell_doubts(walk: Walk) -> None:
     walk.has(cashier, "leee has access as client.")
 
 
+def be_turned_away(walk: Walk) -> None:
+    """What may have been booked is kept until the desk itself answers; what a front end refuses at once is not."""
+    cashier, relay = walk.cashier, walk.firm.relay
+    for status, told in ((429, "Too much was asked at once."), (403, "The front end refused this.")):
+        cashier.to("#/m/000003/deposit")
+        cashier.fill(amount=f"{status}", source="Cleo Marsh", description="turned away")
+        relay.fail("POST .*/deposit", Fault("told", status, "{}"))
+        cashier.press("Book it")
+        walk.has(cashier, told)
+        cashier.to("#/m/000003")
+        walk.lacks(cashier, "Sent, and not answered")
+        cashier.to("#/m/000003/deposit")
+        cashier.fill(amount=f"{status}", source="Cleo Marsh", description="turned away")
+        relay.fail("POST .*/deposit", Fault("lost"))
+        relay.fail("POST .*/deposit", Fault("told", status, "{}"), times=2)
+        cashier.press("Book it")
+        walk.has(cashier, told)
+        cashier.press("Send again")
+        walk.has(cashier, told)
+        cashier.to("#/m/000003")
+        walk.has(cashier, "Sent, and not answered", f"deposit of {status}.00")
+        cashier.press("Send again")
+        walk.has(cashier, f"This was in the book already, and is there once: deposit of {status}.00")
+        walk.lacks(cashier, "Sent, and not answered")
+    entries = json.loads(walk.firm.desk.ask("cashier", "GET", "/matters/000003/entries")[1])["entries"]
+    walk.checks.same("the deposits that were turned away first",
+                     [each["amount"] for each in entries if each.get("description") == "turned away"],
+                     ["429.00", "403.00"])
+
+
 CHAPTERS = (open_matters, book_deposits, approve_too_early, bring_statements, dispute_a_fee, accept_an_offer,
             pay_from_funds, two_at_once, lose_an_answer, find_the_desk_closed, be_answered_late, keep_nothing,
             write_spiteful_labels, read_and_close, take_back, state_the_account, sign_on_as_another, tell_doubts,
-            lose_a_seat)
+            be_turned_away, lose_a_seat)
 
 
 def play(program: str, folder: pathlib.Path, checks: Checks) -> None:
