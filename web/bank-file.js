@@ -43,9 +43,10 @@ export class BankFile {
         return file ? new BankFile(shelf, file.name, file.text) : null;
     }
 
-    // A file's text is kept in the place of another one. Taken again, it still has what was decided of its lines.
+    // A file's text is kept in the place of another one, which goes first: there may be no room for the new one. Taken
+    // again, it still has what was decided of its lines.
     static taken(shelf, name, text) {
-        if (shelf.read(FILE)[0]?.text !== text) forgetDecided(shelf);
+        if (shelf.read(FILE)[0]?.text !== text) forgetKept(shelf);
         shelf.write(FILE, [{ name, text }]);
         return new BankFile(shelf, name, text);
     }
@@ -138,6 +139,6 @@ export class BankFile {
     }
 }
 
-function forgetDecided(shelf) {
-    for (const name of [TYPED, PARTS, LEFT]) shelf.write(name, []);
+function forgetKept(shelf) {
+    for (const name of [FILE, TYPED, PARTS, LEFT]) shelf.write(name, []);
 }

@@ -222,6 +222,26 @@ def bring_in_as_it_is(bank: Bank) -> None:
     bank.put_away()
 
 
+FULL = """const set = Storage.prototype.setItem;
+Storage.prototype.setItem = function (name, text) {
+    if (name.endsWith('.file')) throw new Error('full');
+    set.call(this, name, text);
+};"""
+
+
+def have_no_room(bank: Bank) -> None:
+    """A file that the browser has no room for leaves none, and above all not the one before it."""
+    bank.choose("raw.csv", NONE_LEFT)
+    bank.browser.run(FULL)
+    bank.choose("larger.csv", HEAD + "2026-03-14,,Z1,18000.00,DEPOSIT\n")
+    bank.type(r1="FIRM")
+    bank.browser.press("Match again")
+    bank.has("larger.csv", "the firm's own money would be")
+    bank.browser.open("#/statement")
+    bank.browser.settle()
+    bank.lacks("raw.csv", "larger.csv", "is kept in this browser")
+
+
 SLIPS = HEAD + """2026-03-14,M000030-0001,S1,7.00,DEPOSIT
 2026-03-14,,S2,8.00,
 2026-03-14,A SLIP,S3,9.00,x
@@ -393,7 +413,7 @@ def see_long_files(bank: Bank) -> None:
 
 
 CHAPTERS = (match_and_import, type_what_is_left, import_what_is_left, change_the_book_meanwhile, name_a_wrong_entry,
-            bring_in_as_it_is, see_exceptions, take_a_slip_back, see_spiteful_words, advise,
+            bring_in_as_it_is, have_no_room, see_exceptions, take_a_slip_back, see_spiteful_words, advise,
             explain, see_long_files)
 
 # What the page says of an answer to either route, and whether it keeps the file.
