@@ -90,7 +90,9 @@ class Reader {
     plain(text) {
         return text.replace(ENTITY, (entity, decimal, hexadecimal, name) => {
             if (!entity.endsWith(';')) return this.fail('an ampersand without its end');
-            if (name !== undefined) return NAMED[name] ?? this.fail(`the entity ${entity} is not known`);
+            if (name !== undefined) {
+                return Object.hasOwn(NAMED, name) ? NAMED[name] : this.fail(`the entity ${entity} is not known`);
+            }
             const code = decimal ? parseInt(decimal, 10) : parseInt(hexadecimal, 16);
             return isCharacter(code) ? String.fromCodePoint(code) : this.fail(`${entity} is no character`);
         });
