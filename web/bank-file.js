@@ -2,10 +2,9 @@
 // line was split over, or that it is left. All of it is kept in the browser until the file is imported or put away. The
 // file itself is never changed: what is sent is the file with what was decided.
 
+import { NAMES } from './bank/statement.js';
 import { bytesOf, recordsOf, wordsOf } from './csv.js';
 import { FILE, LEFT, PARTS, TYPED } from './shelf.js';
-
-export const NAMES = ['date', 'reference', 'bank_ref', 'amount', 'text'];
 
 // A record of a statement: its number behind the header, its fields by their names where it has five, and all of it.
 function lineOf(fields, number) {

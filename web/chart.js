@@ -3,14 +3,13 @@
 import { amountOf, grouped } from './amounts.js';
 import { greatestOf, sumText } from './balance.js';
 import { drawn, el, money, p } from './elements.js';
+import { dayNumber } from './names.js';
 import { column, table } from './tables.js';
 
 const ROWS = 100;
 const TOP = '16';
 const HEIGHT = '150';
 const BOTTOM = '185';
-
-const dayNumber = (day) => Date.parse(`${day}T00:00:00Z`) / 86400000;
 
 // Between the lines across: 1, 2 or 5 times a power of ten, in cents, so that there are three to six lines.
 function stepBelow(most) {

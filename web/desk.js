@@ -3,6 +3,9 @@
 // The desk hears one request after another, so more than a few that wait gain nothing.
 const AT_ONCE = 4;
 
+// A statement, or a file of records, has at most so many bytes.
+export const GREATEST = 4194304;
+
 // Thrown where a view can't be shown, since the desk refused what it reads.
 export class Refused extends Error {
     constructor(answer) {

@@ -1,6 +1,7 @@
 // What the desk tells of a bank's file: the statement that an import takes, and what is left of it.
 
-import { linesOf, NAMES } from './bank-file.js';
+import { NAMES } from './bank/statement.js';
+import { linesOf } from './bank-file.js';
 import { textOf } from './csv.js';
 
 const MATCH = '/firm/statements/match';

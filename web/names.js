@@ -41,7 +41,7 @@ export function dayBefore(day) {
     return date.toISOString().slice(0, 10);
 }
 
-const dayNumber = (day) => Date.parse(`${day}T00:00:00Z`) / 86400000;
+export const dayNumber = (day) => Date.parse(`${day}T00:00:00Z`) / 86400000;
 export const daysBetween = (one, other) => Math.abs(dayNumber(one) - dayNumber(other));
 
 // The first and the last day of the five years up to a day. No matter that was closed in them can be purged yet.

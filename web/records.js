@@ -1,5 +1,6 @@
 // A file of records, as a day sheet has them: each record is a request to the desk.
 
+import { NAMES } from './bank/statement.js';
 import { recordsOf, textOf, wordsOf } from './csv.js';
 import { entryPath, matterPath } from './desk.js';
 
@@ -21,7 +22,7 @@ const VERBS = {
     award: { fields: ['to_client'], path: ofEntry('award') },
     entry: { fields: [], path: ({ matter, entry }) => entryPath(matter, entry), isRead: true },
     show: { fields: [], path: ({ matter }) => matterPath(matter), isRead: true },
-    dismiss: { fields: ['date', 'reference', 'bank_ref', 'amount', 'text'], path: () => '/firm/exceptions/dismiss' },
+    dismiss: { fields: NAMES, path: () => '/firm/exceptions/dismiss' },
 };
 const WITHOUT_ENTRY = new Set(['open', 'seat', 'drop', 'close', 'purge', 'show', 'dismiss']);
 

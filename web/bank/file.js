@@ -1,10 +1,10 @@
 // A bank's file: what it is, and the statement in it.
 
-import { NAMES } from '../bank-file.js';
 import { recordsOf, textOf } from '../csv.js';
 import { readCamt } from './camt.js';
 import { readCsv } from './columns.js';
 import { readOfx } from './ofx.js';
+import { NAMES } from './statement.js';
 import { NotUnderstood } from './values.js';
 
 const isStatement = (text) => {

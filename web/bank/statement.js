@@ -3,6 +3,9 @@
 
 import { NotUnderstood, amountText, quoted } from './values.js';
 
+// What stands in its first line.
+export const NAMES = ['date', 'reference', 'bank_ref', 'amount', 'text'];
+
 // The lines in the order of their days, without those of 0.00. No two of them may look alike.
 export function checked(lines) {
     const kept = lines.filter(({ cents }) => cents !== 0n)
@@ -37,7 +40,7 @@ const balanceRow = (reference, words, balance) =>
 // The text of a statement.
 export function csvOf({ lines, opening, closing }) {
     const rows = [
-        ['date', 'reference', 'bank_ref', 'amount', 'text'],
+        NAMES,
         balanceRow('OPEN', 'Opening balance', opening),
         ...lines.map(({ day, bankRef, cents, text }) => [day, '', bankRef, amountText(cents), text]),
         balanceRow('CLOSE', 'Closing balance', closing),

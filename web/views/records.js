@@ -2,12 +2,12 @@
 // twice.
 
 import { doneBox, failedBox, noteBox, warningBox } from '../boxes.js';
+import { GREATEST } from '../desk.js';
 import { button, el, label, link, p, strong } from '../elements.js';
 import { UNDONE_BY_NOTHING, readRecords, sendRecord } from '../records.js';
 import { wordsOf } from '../refusals.js';
 import { column, longTable } from '../tables.js';
 
-const GREATEST = 4194304;
 const FIRST = 100;
 
 const HINT = 'A day sheet: a record in each line, such as deposit,000001,0001,500.00,Ada Chen,retainer. '

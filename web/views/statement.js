@@ -7,6 +7,7 @@ import { BankFile } from '../bank-file.js';
 import { doneBox, failedBox, noteBox, tellRefusal, warningBox } from '../boxes.js';
 import { listedIn } from '../candidates.js';
 import { textOf } from '../csv.js';
+import { GREATEST } from '../desk.js';
 import { button, el, facts, link, p, referenceLink } from '../elements.js';
 import { movementOf, readByMovement } from '../exceptions.js';
 import { areInBook, isSameAs, matchFile } from '../matched.js';
@@ -18,7 +19,6 @@ import { LeftLines } from './left.js';
 import { BELOW_ZERO, countWrong, matchedBox, writtenTable } from './matched.js';
 import { Taking } from './taking.js';
 
-const GREATEST = 4194304;
 const LINES_A_MINUTE = 3600; // on a busy disk
 const OFTEN = 5000; // milliseconds between two words on a long import
 
