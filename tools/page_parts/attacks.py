@@ -6,9 +6,11 @@ import pathlib
 import re
 import threading
 
+from shared import free_port
+
 from .browser import Browser
 from .checks import Checks
-from .firm import Answer, Change, Desk, Firm, FrontEnd, free_port
+from .firm import Answer, Change, Desk, Firm, FrontEnd
 
 DAY = "2024-01-10"
 

@@ -1,4 +1,5 @@
 """Counts what was looked at."""
+import typing
 
 
 class Checks:
@@ -15,6 +16,16 @@ class Checks:
             return
         self.failed += 1
         print(f"NOT SO: {what} | {str(seen)[-900:]}", flush=True)
+
+    def has(self, where: str, text: str, words: typing.Iterable[str]) -> None:
+        """Counts a check for each of the words: they stand in the text."""
+        for each in words:
+            self.so(f"{where} {each!r}", each in text, text)
+
+    def lacks(self, where: str, text: str, words: typing.Iterable[str]) -> None:
+        """Counts a check for each of the words: they do not stand in the text."""
+        for each in words:
+            self.so(f"{where} {each!r}", each not in text, text)
 
     def same(self, what: str, seen: object, wanted: object) -> None:
         """Counts one check: the two are equal."""

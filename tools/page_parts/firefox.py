@@ -11,9 +11,11 @@ import subprocess
 import time
 import typing
 
+from shared import free_port, wait_for
+
 from . import firms
 from .checks import Checks
-from .firm import Desk, Firm, free_port, password, wait_for
+from .firm import Desk, Firm, password
 from .month import DAY, HEADINGS, SHOWN, SPITEFUL
 from .reports import ADDRESSES
 from .views import LOOKS, NARROW, WIDE
@@ -56,7 +58,7 @@ class Firefox:
         self.process = subprocess.Popen(words, stdout=subprocess.DEVNULL, stderr=subprocess.DEVNULL,
                                         env={**os.environ, "HOME": str(folder), "MOZ_DISABLE_CONTENT_SANDBOX": "1"})
         try:
-            wait_for(port, STARTED, self.process)
+            wait_for(port, self.process, STARTED)
             self.line = socket.create_connection(("127.0.0.1", port), timeout=STARTED)
             self.told = self.line.makefile("rb")
             self.answer()
@@ -262,8 +264,7 @@ def be_a_client(browser: Firefox, checks: Checks) -> None:
 def see_month(firm: Firm, browser: Firefox, folder: pathlib.Path, checks: Checks) -> None:
     browser.to(f"#/month/{DAY}")
     text = browser.text()
-    for each in SHOWN:
-        checks.so(f"month's end has {each!r} in Firefox", each in text, text)
+    checks.has("month's end in Firefox has", text, SHOWN)
     packet = firm.desk.ask("cashier", "GET", f"/firm/month/{DAY}")[1].encode()
     digits = hashlib.sha256(packet).hexdigest()
     checks.so("and the sum", digits in text, text)

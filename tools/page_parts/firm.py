@@ -1,14 +1,11 @@
 """A firm to try the page on: `serve` over a book, the relay, and nginx with the repository's configuration."""
 import base64
-import contextlib
 import email.message
 import http.client
 import http.server
 import os
 import pathlib
-import random
 import re
-import socket
 import socketserver
 import subprocess
 import threading
@@ -16,6 +13,8 @@ import time
 import typing
 import urllib.error
 import urllib.request
+
+from shared import free_port, wait_for
 
 ROOT = pathlib.Path(__file__).resolve().parent.parent.parent
 CONFIGURATION = ROOT / "examples" / "operations" / "nginx.conf"
@@ -27,25 +26,6 @@ HEAD = "date,reference,bank_ref,amount,text\n"  # the first line of a statement
 
 Answer = tuple[int, str, dict[str, str]]
 Change = typing.Callable[[str], str]  # of the configuration's text
-
-
-def free_port() -> int:
-    """A port of 127.0.0.1 that nobody has, and that the system gives to nobody who asks for any."""
-    while True:
-        port = random.randrange(10_000, 32_000)
-        with contextlib.suppress(OSError), socket.socket() as held:
-            held.bind(("127.0.0.1", port))
-            return port
-
-
-def wait_for(port: int, seconds: float, process: subprocess.Popen[bytes]) -> None:
-    """Until the process listens on the port. It is not connected to: that would be one of the connections served."""
-    wanted = f"0100007F:{port:04X} 00000000:0000 0A"
-    end = time.monotonic() + seconds
-    while wanted not in pathlib.Path("/proc/net/tcp").read_text(encoding="ascii"):
-        if time.monotonic() > end or process.poll() is not None:
-            raise TimeoutError(f"nothing listens on port {port}: {process.args}")
-        time.sleep(0.05)
 
 
 def password(person: str) -> str:
@@ -74,7 +54,7 @@ class Desk:
     def begin(self) -> None:
         command = [self.program, "--db", str(self.book), "--today", self.day, "serve", str(self.port), "1000000"]
         self.process = subprocess.Popen(command, stdout=subprocess.DEVNULL)
-        wait_for(self.port, STARTED, self.process)
+        wait_for(self.port, self.process, STARTED)
 
     def end(self) -> None:
         if self.process:
@@ -185,7 +165,7 @@ class FrontEnd:
         (folder / "files" / "page").symlink_to(ROOT / "web")
         self.write(behind, change)
         self.process = subprocess.Popen(["nginx", "-p", str(folder), "-e", "nginx.err", "-c", "nginx.conf"])
-        wait_for(self.port, 60, self.process)
+        wait_for(self.port, self.process)
 
     def write(self, behind: int, change: Change) -> None:
         text = CONFIGURATION.read_text(encoding="utf-8")

@@ -113,9 +113,7 @@ class Look:
         self.checks.same(f"{what} of {self.person} at {self.width} px", seen, wanted)
 
     def has(self, *words: str) -> None:
-        text = self.browser.run(TEXT)
-        for each in words:
-            self.checks.so(f"{self.person} at {self.width} px sees {each!r}", each in text, text)
+        self.checks.has(f"{self.person} at {self.width} px sees", self.browser.run(TEXT), words)
 
 
 def open_it(look: Look) -> None:

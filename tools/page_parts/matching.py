@@ -57,14 +57,10 @@ class Bank:
         self.firm, self.folder, self.checks, self.browser = firm, folder, checks, browser
 
     def has(self, *words: str) -> None:
-        text = self.browser.text()
-        for each in words:
-            self.checks.so(f"{self.browser.person} sees {each!r}", each in text, text)
+        self.checks.has(f"{self.browser.person} sees", self.browser.text(), words)
 
     def lacks(self, *words: str) -> None:
-        text = self.browser.text()
-        for each in words:
-            self.checks.so(f"{self.browser.person} does not see {each!r}", each not in text, text)
+        self.checks.lacks(f"{self.browser.person} does not see", self.browser.text(), words)
 
     def choose(self, name: str, text: str | bytes, button: str = "Match") -> None:
         """Chooses a file of the bank's in a view that is drawn anew, and presses a button."""
@@ -296,9 +292,7 @@ def take_a_slip_back(bank: Bank) -> None:
     trail = Browser("cashier", bank.firm.origin)
     trail.to("#/report/trail")
     trail.settle()
-    text = trail.text()
-    for words in ("cashier dismissed the exception", "- cashier DISMISSED"):
-        bank.checks.so(f"the trail has {words!r}", words in text, text)
+    bank.checks.has("the trail has", trail.text(), ("cashier dismissed the exception", "- cashier DISMISSED"))
     trail.quit()
 
 

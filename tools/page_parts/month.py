@@ -41,9 +41,7 @@ HEADINGS = (f"Reconciliation of {DAY}", f"Clients as of {DAY}", f"Outstanding it
 
 
 def has(checks: Checks, browser: Browser, at: str, words: typing.Iterable[str]) -> None:
-    text = browser.text()
-    for each in words:
-        checks.so(f"{at} has {each!r}", each in text, text)
+    checks.has(f"{at} has", browser.text(), words)
 
 
 def kept(browser: Browser, folder: pathlib.Path) -> bytes:

@@ -29,9 +29,7 @@ class Moving:
                        stdout=subprocess.DEVNULL, check=True)
 
     def has(self, browser: Browser, *words: str) -> None:
-        text = browser.text()
-        for each in words:
-            self.checks.so(f"{browser.person} sees {each!r}", each in text, text)
+        self.checks.has(f"{browser.person} sees", browser.text(), words)
 
     def moved(self, name: str) -> str:
         return (self.folder / "moved" / name).read_text(encoding="utf-8")

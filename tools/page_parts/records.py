@@ -23,9 +23,7 @@ def choose(browser: Browser, folder: pathlib.Path, text: str) -> None:
 
 
 def has(checks: Checks, browser: Browser, *words: str) -> None:
-    text = browser.text()
-    for each in words:
-        checks.so(f"the page says {each!r}", each in text, text)
+    checks.has("the page says", browser.text(), words)
 
 
 def play(program: str, folder: pathlib.Path, checks: Checks) -> None:

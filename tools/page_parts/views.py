@@ -119,9 +119,7 @@ def read_with_names(firm: Firm, checks: Checks) -> None:
             ("#/m/000001/propose/fee/0009", ("Nothing is left to be paid of fee 0009.",))):
         browser.to(view)
         browser.settle()
-        text = browser.text()
-        for each in words:
-            checks.so(f"{view} has {each!r}", each in text, text)
+        checks.has(f"{view} has", browser.text(), words)
     browser.quit()
 
 
@@ -138,8 +136,7 @@ def read_acts(firm: Firm, checks: Checks) -> None:
             browser.to(view)
             browser.settle()
             text = browser.text()
-            for each in words:
-                checks.so(f"{view} of {person} has {each!r}", each in text, text)
+            checks.has(f"{view} of {person} has", text, words)
             if view.endswith("trail"):
                 checks.same(f"whether {view} of {person} has the text", "TRAIL 000001" in text, has_text)
         browser.to("#/m/000002/trail")
@@ -156,9 +153,7 @@ def read_without_acts(firm: Firm, checks: Checks) -> None:
         firm.relay.fail("GET /matters/000001/trail", Fault("told", 503, '{"name":"Store","refusal":29}'))
         browser.to(view)
         browser.settle()
-        text = browser.text()
-        for each in (words, "Who did what could not be read."):
-            checks.so(f"{view} without acts has {each!r}", each in text, text)
+        checks.has(f"{view} without acts has", browser.text(), (words, "Who did what could not be read."))
     browser.quit()
 
 

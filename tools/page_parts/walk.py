@@ -28,14 +28,10 @@ class Walk:
                                                        for person in ("cashier", "lee", "sato", "ada"))
 
     def has(self, browser: Browser, *words: str) -> None:
-        text = browser.text()
-        for each in words:
-            self.checks.so(f"{browser.person} sees {each!r}", each in text, text)
+        self.checks.has(f"{browser.person} sees", browser.text(), words)
 
     def lacks(self, browser: Browser, *words: str) -> None:
-        text = browser.text()
-        for each in words:
-            self.checks.so(f"{browser.person} does not see {each!r}", each not in text, text)
+        self.checks.lacks(f"{browser.person} does not see", browser.text(), words)
 
     def focus(self, browser: Browser, name: str) -> None:
         self.checks.same(f"the focus of {browser.person}", browser.focused().get_attribute("name"), name)
