@@ -112,7 +112,7 @@ export async function change(page, { path, fields, done, then, place }) {
     const answer = await page.desk.post(path, fields && JSON.stringify(fields));
     page.say('');
     if (answer.isDone) return page.go(then, doneBox(done));
-    if (answer.isUnknown || answer.body?.name === 'WrongState') {
+    if (answer.isUnknown || ['NoEntry', 'WrongState'].includes(answer.body?.name)) {
         return page.go(location.hash, refusedBox(answer, page.person));
     }
     return tell(page, place, answer, null);

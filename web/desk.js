@@ -37,11 +37,12 @@ class Turns {
     }
 }
 
-// `isUnknown`: nobody can say whether what was asked was done. `body` is the object of a JSON answer, `bytes` are those
-// of any answer.
-function answerOf(reply, bytes) {
+// `path` is what was asked. `isUnknown`: nobody can say whether it was done. `body` is the object of a JSON answer,
+// `bytes` are those of any answer.
+function answerOf(path, reply, bytes) {
     const text = new TextDecoder().decode(bytes);
     return {
+        path,
         status: reply.status,
         isDone: reply.ok,
         isUnknown: reply.status >= 500 || reply.status === 408,
@@ -52,8 +53,8 @@ function answerOf(reply, bytes) {
     };
 }
 
-const NO_ANSWER =
-    { status: 0, isDone: false, isUnknown: true, person: null, body: null, text: '', bytes: new Uint8Array() };
+const NO_ANSWER = { path: '', status: 0, isDone: false, isUnknown: true, person: null, body: null, text: '',
+    bytes: new Uint8Array() };
 
 // An address that was opened with a password in it can't be a base for paths, hence the origin.
 async function ask(method, path, body, signal) {
@@ -61,7 +62,7 @@ async function ask(method, path, body, signal) {
         const headers = body === undefined ? {} : { 'content-type': 'text/plain' };
         const options = { method, body, headers, signal, cache: 'no-store', redirect: 'error' };
         const reply = await fetch(location.origin + path, options);
-        return answerOf(reply, new Uint8Array(await reply.arrayBuffer()));
+        return answerOf(path, reply, new Uint8Array(await reply.arrayBuffer()));
     } catch {
         return NO_ANSWER;
     }

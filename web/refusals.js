@@ -33,7 +33,7 @@ const RULES = {
     propose: 'Only a lawyer of the matter or the cashier proposes a payment, or withdraws it.',
     sign: 'Only a lawyer of the matter approves, declines and voids payments, earns fees and makes offers.',
     office: 'Only the cashier does that.',
-    firm: "Only the cashier reads the firm's reports and imports statements.",
+    firm: "Only the cashier reads the firm's reports, imports statements and dismisses exceptions.",
 };
 
 const LOAD_AGAIN = 'Load the page again. If it stays, tell the operator.';
@@ -42,7 +42,14 @@ const SEND_AGAIN = 'Send it again: what was booked is booked once. Tell the oper
 const IN_PARTS = 'Import the statement in parts, each with the first line.';
 const STATEMENT_TOO_LARGE = 'That is too large: a statement has at most 4,194,304 bytes.';
 
-// Of each refusal of docs/REFUSALS.md what it means, and what to do next. `told` is the refusal's object.
+// What is asked before its time, by its verb.
+const NOT_YET = {
+    propose: ['The claim is not settled yet.', 'Have it awarded, or an offer accepted, first.'],
+    purge: ['The matter is not closed.', 'Close it first.'],
+};
+
+// Of each refusal of docs/REFUSALS.md what it means, and what to do next. `told` is the refusal's object, with the verb
+// and the entry of what was asked.
 const REFUSALS = {
     BadMessage: () => ['The desk did not understand the request.', LOAD_AGAIN],
     LengthRequired: () => ['The desk was not told how long the request is.', LOAD_AGAIN],
@@ -61,12 +68,22 @@ const REFUSALS = {
     Closed: () => ['The matter is closed. It can be read.', 'What comes later needs a new matter.'],
     DateBackwards: (told) => [`The business day is before the last change of this matter (${told.last}).`,
         'The operator has to begin the desk with the right day.'],
-    WrongNumber: (told) => ['Somebody booked another entry under this number in the meantime.', told.next
-        ? `Nothing of yours was booked. Look at that entry; if yours is another one, book it as ${told.next}.`
-        : 'The matter is full (9,999 entries): open a new one.'],
-    NoEntry: () => ['There is no such entry.', LOOK_AT_NUMBER],
+    WrongNumber({ next, entry }) {
+        if (next && entry > next) {
+            return [`The number leaves a gap: the next free one is ${next}.`,
+                'Nothing was booked. If something before it was refused, mend and send that first.'];
+        }
+        return ['Another entry has this number.', next
+            ? `Nothing of yours was booked. Look at that entry; if yours is another one, book it as ${next}.`
+            : 'The matter is full (9,999 entries): open a new one.'];
+    },
+    NoEntry: ({ verb }) => (verb === 'dismiss'
+        ? ['The list of exceptions has no such line.',
+            'It was dismissed or found its place meanwhile, or one of its five fields is another.']
+        : ['There is no such entry.', LOOK_AT_NUMBER]),
     WrongKind: () => ['The entry is of another kind.', 'Look at the entry.'],
-    WrongState: () => ['It is past that: somebody was quicker, or the bank was.', 'What it is now is shown below.'],
+    WrongState: ({ verb }) => NOT_YET[verb]
+        ?? ['It is past that: somebody was quicker, or the bank was.', 'Look at the entry: it says what became of it.'],
     PayeeIsCash: () => ['Nobody is paid in cash from a trust account.', 'Name the payee.'],
     WrongPayee: () => ['What the payment is drawn on does not pay this payee.',
         'A fee pays FIRM alone, a settled claim its claimant alone, the general fund never FIRM: earn a fee first.'],
@@ -105,6 +122,9 @@ const STATUSES = {
     504: ['The desk is busy and did not answer in time.', 'Wait a moment, and send it again: it is booked once.'],
 };
 
+// The verb and the entry of a path; the entry is empty where the path has none.
+const askedBy = (path) => ({ verb: path.split('/').at(-1), entry: /\/entries\/(\d{4})\//.exec(path)?.[1] ?? '' });
+
 // What the answer means, what to do next, and its status and name.
 export function wordsOf(answer, person) {
     const told = answer.body;
@@ -113,7 +133,8 @@ export function wordsOf(answer, person) {
         return { what, next: 'Nothing was sent. Load the page again.', name: '' };
     }
     if (told?.refusal) {
-        const [what, next] = REFUSALS[told.name]?.(told, person) ?? ['The desk refused this.', 'Tell the operator.'];
+        const [what, next] = REFUSALS[told.name]?.({ ...told, ...askedBy(answer.path) }, person)
+            ?? ['The desk refused this.', 'Tell the operator.'];
         return { what, next, name: `${answer.status} ${told.name}` };
     }
     const [what, next] = STATUSES[answer.status] ?? ['The answer was not understood.', 'Tell the operator.'];

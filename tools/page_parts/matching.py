@@ -280,12 +280,19 @@ def take_a_slip_back(bank: Bank) -> None:
     bank.has("Only where the bank does not have this line.")
     bank.browser.press("Keep it")
     bank.lacks("Only where the bank does not have this line.")
-    for name in ("Dismiss M000030-0001", "Dismiss the line of 8.00", "Dismiss the line of 9.00",
-                 "Dismiss M000004-0003"):
+    for name in ("Dismiss M000030-0001", "Dismiss the line of 8.00", "Dismiss the line of 9.00"):
         bank.browser.press(name)
         bank.browser.press("The bank does not have it: dismiss it")
         bank.has("The line is no exception any more.")
         bank.lacks(name)
+    # Another cashier dismisses the last one meanwhile.
+    bank.browser.press("Dismiss M000004-0003")
+    line = {"date": "2026-03-14", "reference": "M000004-0003", "bank_ref": "S4", "amount": "13.00",
+            "text": 'two, "marks" more'}
+    bank.firm.desk.ask("cashier", "POST", "/firm/exceptions/dismiss", json.dumps(line))
+    bank.browser.press("The bank does not have it: dismiss it")
+    bank.has("The list of exceptions has no such line.", "404 NoEntry")
+    bank.lacks("Dismiss M000004-0003")
     left = bank.firm.desk.ask("cashier", "GET", "/firm/exceptions")[1]
     slips = [slip for slip in ("S1", "S2", "S3", "S4") if f" {slip} " in left]
     bank.checks.same("the slips that are left", slips, [])

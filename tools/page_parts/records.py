@@ -5,12 +5,21 @@ import pathlib
 
 from .browser import Browser
 from .checks import Checks
-from .firm import Desk, Fault, Firm
+from .firm import HEAD, Desk, Fault, Firm
 from .views import look
 
 DAY = "2026-03-16"
 SHEET = "".join(f"open,{each:06},,Client {each},lee\ndeposit,{each:06},0001,{each}00.00,Client {each},retainer\n"
                 for each in range(1, 9)) + 'propose,000001,0002,10.00,general,,"Clerk, Court",filing fee,1001\n'
+# A claim, and what is refused by one name of a refusal for several reasons.
+REFUSED = """claim,000001,0003,5.00,Bay Clinic,bills
+deposit,000001,0001,5.00,a,b
+propose,000001,0004,5.00,claim,0003,Bay Clinic,bills,1002
+cancel,000001,0001
+purge,000001
+cancel,000001,0009
+dismiss,,,2026-03-01,,X1,5.00,none
+"""
 WRONG = "refund,000001,0002\ndeposit,1,0001,5.00,a,b\ndeposit,000001,,5.00,a,b\ndeposit,000001,0001,5.00,a\n"
 
 
@@ -48,7 +57,8 @@ def play(program: str, folder: pathlib.Path, checks: Checks) -> None:
         checks.same("the entries of a matter whose answer was lost", (told["entries"], told["held"]), (1, "500.00"))
         choose(browser, folder, SHEET + "deposit,000001,0009,5.00,a,b\n")
         browser.press("Send these 18")
-        has(checks, browser, "18 of 18 records were answered, 9 refused.", "409 WrongNumber", "409 AlreadyOpen")
+        has(checks, browser, "18 of 18 records were answered, 9 refused.", "409 AlreadyOpen", "409 WrongNumber",
+            "The number leaves a gap: the next free one is 0003.")
         told = json.loads(firm.desk.ask("cashier", "GET", "/matters/000001")[1])
         checks.same("the entries of a matter that was sent twice", told["entries"], 2)
         choose(browser, folder, "withdraw,000001,0002\n")
@@ -57,6 +67,12 @@ def play(program: str, folder: pathlib.Path, checks: Checks) -> None:
         has(checks, browser, "1 of 1 records were answered, 0 refused.")
         told = json.loads(firm.desk.ask("cashier", "GET", "/matters/000001/entries/0002")[1])
         checks.same("the payment that was withdrawn", told["state"], "declined")
+        firm.desk.ask("cashier", "POST", "/firm/statements", HEAD + f"{DAY},M000001-0001,B1,100.00,DEPOSIT\n")
+        choose(browser, folder, REFUSED)
+        browser.press("Send these 7")
+        has(checks, browser, "7 of 7 records were answered, 6 refused.", "Another entry has this number.",
+            "The claim is not settled yet.", "It is past that", "The matter is not closed.", "There is no such entry.",
+            "The list of exceptions has no such line.")
         checks.same("the browser's log", browser.faults(), [])
     finally:
         browser.quit()

@@ -266,7 +266,7 @@ def two_at_once(walk: Walk) -> None:
               purpose="appraisal of the house", instrument="1006")
     cashier.fill(amount="650", payee="Sunrise Reporting, LLC", purpose="transcript", instrument="1007")
     cashier.press("Propose it")
-    walk.has(cashier, "Somebody booked another entry under this number", "Ortiz Appraisals, Inc.", "Book mine as 0004")
+    walk.has(cashier, "Another entry has this number.", "Ortiz Appraisals, Inc.", "Book mine as 0004")
     cashier.press("Book mine as 0004")
     walk.has(cashier, f"Booked on {DAY}: payment of 650.00 to Sunrise Reporting, LLC, entry 0004")
     lee.to("#/m/000003/e/0003")
