@@ -1,5 +1,6 @@
 """Every view by every role: that it is drawn, can be read and used by everybody, and fits a phone and a sheet."""
 import base64
+import json
 import pathlib
 import subprocess
 import typing
@@ -157,6 +158,24 @@ def read_without_acts(firm: Firm, checks: Checks) -> None:
     browser.quit()
 
 
+def read_later_acts(firm: Firm, checks: Checks) -> None:
+    """Of an entry that is older than its acts nobody is named who did not make it."""
+    browser = Browser("lee", firm.origin)
+    act = {"caller": "lee", "day": "2026-03-16", "deed": "approved", "entry": "0002", "person": None, "role": None,
+           "to_client": None}
+    body = json.dumps({"acts": [act], "earlier": True})
+    for view, words in (("#/m/000001", "not recorded, lee"), ("#/m/000001/e/0002", "lee approved the payment")):
+        firm.relay.fail("GET /matters/000001/trail", Fault("told", 200, body))
+        browser.to(view)
+        browser.settle()
+        checks.has(f"{view} with later acts has", browser.text(), (words, "Earlier acts are not recorded."))
+    browser.to("#/m/000001")
+    browser.settle()
+    checks.lacks("a matter with all its acts does not have", browser.text(),
+                 ("not recorded, lee", "Earlier acts are not recorded."))
+    browser.quit()
+
+
 def read_tables_on_a_phone(firm: Firm, checks: Checks) -> None:
     browser = Browser("ada", firm.origin, PHONE)
     browser.to("#/m/000001")
@@ -274,6 +293,7 @@ def play(program: str, folder: pathlib.Path, checks: Checks) -> None:
         read_with_names(month, checks)
         read_acts(month, checks)
         read_without_acts(month, checks)
+        read_later_acts(month, checks)
         read_tables_on_a_phone(month, checks)
         propose_by_keys(month, checks)
         print_views(month, folder, checks)

@@ -138,7 +138,7 @@ function claimDecision(asked) {
 const DECISIONS = { deposit: depositDecision, payment: paymentDecision, fee: feeDecision, claim: claimDecision };
 
 export async function showEntry(page, no, number) {
-    const [{ body: matter }, { body: entry }, acts] = await Promise.all([
+    const [{ body: matter }, { body: entry }, told] = await Promise.all([
         page.desk.get(matterPath(no)), page.desk.get(entryPath(no, number)), readActs(page, no)]);
     const place = el('div', {});
     const decisions = new Decisions(page, no, number, place);
@@ -148,7 +148,7 @@ export async function showEntry(page, no, number) {
     const isUndoing = entry.state === 'issued' || entry.state === 'held';
     const parts = [
         entryFacts(entry),
-        doneTable(acts, number),
+        doneTable(told?.acts, number),
         place,
         isUndoing ? null : decided,
         backTo(no),

@@ -13,7 +13,7 @@ import { shown } from '../names.js';
 import { column, longTable } from '../tables.js';
 import { BALANCES, KINDS, meansOf, textsOf } from '../words.js';
 import { entryLink, stateOf, waitingTables } from './lists.js';
-import { doersOf, readActs, unreadNote } from './trail.js';
+import { actsNote, doersOf, readActs } from './trail.js';
 
 const NEWEST = 100;
 
@@ -114,7 +114,7 @@ async function purgingOf(page, no) {
 }
 
 export async function showMatter(page, no) {
-    const [{ matter, entries }, acts] = await Promise.all([readMatterWhole(page, no), readActs(page, no)]);
+    const [{ matter, entries }, told] = await Promise.all([readMatterWhole(page, no), readActs(page, no)]);
     const place = el('div', {});
     const isCashier = page.person === 'cashier';
     const seats = matter.seats.map(({ person, role }) => `${person} (${role})`).join(', ');
@@ -124,8 +124,8 @@ export async function showMatter(page, no) {
         place,
         waitingTables(waitingOf(matter, entries), true),
         chart('The ledger by day, held deposits included', balanceOfMatter(matter, entries), page.desk.day),
-        entriesTable(matter, entries, acts),
-        unreadNote(acts),
+        entriesTable(matter, entries, told?.acts),
+        actsNote(told),
         facts([['Opened', matter.opened], ['Closed', matter.closed], ['Who has access', seats]]),
         readAgain(page),
         isCashier && !matter.closed && closing(page, no, matter.client, place),

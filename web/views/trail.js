@@ -19,30 +19,35 @@ const MAKING = ['deposited', 'proposed', 'earned', 'disputed', 'claimed'];
 
 const COLUMNS = [column('Day', 'tight'), column('Entry', 'tight'), column('Who', 'tight'), column('What')];
 
-// A matter's acts. Where they can't be had, what else a view has is shown all the same.
+// A matter's acts, and whether there were earlier ones. Where they can't be had, what else a view has is shown all the
+// same.
 export async function readActs(page, matter) {
     const answer = await page.desk.read(actsPath(matter));
-    return answer.isDone ? answer.body.acts : null;
+    return answer.isDone ? answer.body : null;
 }
 
 const ofEntry = (acts, no) => acts.filter(({ entry }) => entry === no);
+
+// An entry that is older than the trail has no act by which it was made.
+const isCut = (items) => !items.some(({ deed }) => MAKING.includes(deed));
 
 // A line of the bank is imported by the cashier, who decides nothing by it.
 const isOfBank = ({ deed }) => deed === 'cleared' || deed === 'returned';
 
 // Those who made an entry what it is, each once, in the order in which they came; a dash if no act says so.
 export function doersOf(acts, no) {
-    const doers = ofEntry(acts ?? [], no).filter((act) => !isOfBank(act)).map(({ caller }) => caller);
-    return [...new Set(doers)].join(', ') || '-';
+    const items = ofEntry(acts ?? [], no);
+    const doers = [...new Set(items.filter((act) => !isOfBank(act)).map(({ caller }) => caller))];
+    if (!doers.length) return '-';
+    return (isCut(items) ? ['not recorded', ...doers] : doers).join(', ');
 }
 
-// Who did what to an entry. An entry that is older than the trail has no act by which it was made.
+// Who did what to an entry.
 export function doneTable(acts, no) {
     if (!acts) return p(UNREAD);
     const items = ofEntry(acts, no);
-    const isCut = !items.some(({ deed }) => MAKING.includes(deed));
     return [
-        isCut && p(CUT),
+        isCut(items) && p(CUT),
         longTable({
             caption: DONE,
             columns: COLUMNS.filter(({ name }) => name !== 'Entry'),
@@ -53,7 +58,8 @@ export function doneTable(acts, no) {
     ];
 }
 
-export const unreadNote = (acts) => !acts && p(UNREAD);
+// What the names beside a matter's entries leave out.
+export const actsNote = (told) => (told ? told.earlier && p(CUT) : p(UNREAD));
 
 // What the cashier prints is the text, which the firm files; all others print the table.
 async function toPrint(page, matter, table) {
