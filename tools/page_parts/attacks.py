@@ -203,7 +203,7 @@ def try_fields(firm: Firm, checks: Checks) -> None:
 
 def limit(text: str) -> str:
     """The configuration with limits that a slow machine reaches too."""
-    return re.sub(r"burst=(400|1000|2000)", "burst=5", re.sub(r"rate=[0-9]+r/s", "rate=1r/m", text))
+    return re.sub(r"burst=(1000|2000)", "burst=5", re.sub(r"rate=[0-9]+r/s", "rate=1r/m", text))
 
 
 def try_limits(firm: Firm, folder: pathlib.Path, checks: Checks) -> None:
@@ -211,6 +211,8 @@ def try_limits(firm: Firm, folder: pathlib.Path, checks: Checks) -> None:
     front = FrontEnd(folder / "limits", firm.desk.port, limit)
     statuses = [front.ask("ada" if at % 2 else "", "GET", "/")[0] for at in range(10)]
     checks.same("the statuses at the limit", statuses, [401, 200] * 3 + [429] * 4)
+    for path in ("/", "/page/page.js", "/page/firm.txt", "/matters", "/firm/statements"):
+        checks.same(f"the status of {path} of another person there", front.ask("lee", "GET", path)[0], 429)
     front.end()
 
 
