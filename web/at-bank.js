@@ -22,7 +22,7 @@ const atBankOf = ({ matter, client }, entries) => entries.filter(isAtBank).map((
 // All of it in these matters.
 export async function readUnshown(page, matters) {
     const found = await Promise.all(matters.map(async (each) =>
-        atBankOf(each, (await page.desk.get(entriesPath(each.matter))).body.entries)));
+        atBankOf(each, (await page.desk.getPatiently(entriesPath(each.matter))).body.entries)));
     return found.flat();
 }
 

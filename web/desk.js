@@ -3,6 +3,9 @@
 // The desk hears one request after another, so more than a few that wait gain nothing.
 const AT_ONCE = 4;
 
+const TOO_MUCH = 429;
+const second = () => new Promise((go) => setTimeout(go, 1000));
+
 // A statement, or a file of records, has at most so many bytes.
 export const GREATEST = 4194304;
 
@@ -108,6 +111,18 @@ export class Desk {
     // What a view needs: the answer, or the view is the refusal.
     async get(path) {
         const answer = await this.read(path);
+        if (!answer.isDone) throw new Refused(answer);
+        return answer;
+    }
+
+    // What a view needs of each of many matters. The front end bounds how often a person asks in a second: a firm of
+    // thousands of matters is read over some seconds.
+    async getPatiently(path) {
+        let answer = await this.read(path);
+        while (answer.status === TOO_MUCH) {
+            await second();
+            answer = await this.read(path);
+        }
         if (!answer.isDone) throw new Refused(answer);
         return answer;
     }

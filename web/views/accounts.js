@@ -2,7 +2,7 @@
 // a month's end.
 
 import { isNothing } from '../amounts.js';
-import { Refused, accountPath } from '../desk.js';
+import { accountPath } from '../desk.js';
 import { button, el, label, link, number, p, quiet } from '../elements.js';
 import { readMatters } from '../lists.js';
 import { readAccount } from '../reports.js';
@@ -15,24 +15,10 @@ const wasOpen = ({ opened, closed }, from, to) => opened <= to && (!closed || cl
 
 const isEmpty = ({ opening, movements }) => isNothing(opening) && movements.length === 0;
 
-const TOO_MUCH = 429;
-const second = () => new Promise((go) => setTimeout(go, 1000));
-
-// The front end bounds how often a person asks in a second: a firm of thousands of matters is read over some seconds.
-async function readPatiently(page, path) {
-    let answer = await page.desk.read(path);
-    while (answer.status === TOO_MUCH) {
-        await second();
-        answer = await page.desk.read(path);
-    }
-    if (!answer.isDone) throw new Refused(answer);
-    return answer.text;
-}
-
 async function readAll(page, matters, from, to) {
     let count = 0;
     return Promise.all(matters.map(async (each) => {
-        const text = await readPatiently(page, accountPath(each.matter, from, to));
+        const { text } = await page.desk.getPatiently(accountPath(each.matter, from, to));
         count += 1;
         page.say(`Read ${count} of ${matters.length}`);
         return { ...each, account: readAccount(text) };
