@@ -2,7 +2,7 @@
 use Rattle.std.proofs.Common.{inl, inr, ◌≡◌, [], Option, None, sym, subst}
 use Rattle.std.specs.Prelude.{◌↔◌, IfSome}
 use Rattle.std.proofs.lemmas.Option.{IfSome_then}
-use Rattle.firm_rows.proofs.Dismissals.{sound-trail}
+use Rattle.firm_rows.proofs.Trail.{sound-trail}
 use Rattle.firm_rows.specs.Firm.{Firm}
 use Rattle.firm_rows.specs.FirmSound.{FirmSound}
 use Rattle.trust_store.specs.declared.all_rows.AllRows.{AllRows}

@@ -1,7 +1,8 @@
 -- One read of a book after another.
-use Rattle.std.specs.Prelude.{Result, Ok, Err}
+use Rattle.std.specs.Prelude.{◌≡◌, List, Result, Ok, Err}
+use Rattle.std.proofs.Common.{subst}
 use Rattle.trust_base.specs.declared.refusal.StoreFault.TheVariants as faults
-use Rattle.book_reports.proofs.Names.{Seen, StoreFault, IsRead, arith, counted, ints, nat_tests}
+use Rattle.book_reports.proofs.Names.{AreHanded, Firm, Seen, StoreFault, IsRead, arith, counted, ints, nat_tests}
 use Rattle.book_reports.specs.Checking.{AreReads}
 
 -- a read is a series of reads
@@ -19,3 +20,20 @@ pub read-short : {T U : Type 0} {x : T} {old new : Seen}
     → IsRead (Ok x) old new
     → IsRead {T = U} (Err faults.Memory) old new
 read-short r = grind (arith, ints, nat_tests)
+
+-- What a later read hands over is of the rows that were there before the first.
+
+pub handed-before : {S A T : Type 0} {step : S → A → S} {IsInRange : A → Type 0} {result : Result T StoreFault} {s t : S} {now old : Firm} (part : Firm → List A)
+    → now ≡ old → AreHanded step IsInRange (part now) result s t → AreHanded step IsInRange (part old) result s t
+handed-before {step} {IsInRange} {result} {s} {t} part same handed = subst (λ (f : Firm). AreHanded step IsInRange (part f) result s t) same handed
+
+-- so what two reads hand over is of one state
+pub both-handed : {S U A C T V : Type 0} {step : S → A → S} {next : U → C → U} {IsFirst : A → Type 0} {IsSecond : C → Type 0}
+    {x : T} {y : V} {s t : S} {u v : U} {old now new : Seen} (part : Firm → List A) (other : Firm → List C)
+    → IsRead (Ok x) old now → (now.clean → old.stands → AreHanded {E = StoreFault} step IsFirst (part old.firm) (Ok x) s t)
+    → IsRead (Ok y) now new → (new.clean → now.stands → AreHanded {E = StoreFault} next IsSecond (other now.firm) (Ok y) u v)
+    → new.clean → old.stands
+    → AreHanded {E = StoreFault} step IsFirst (part old.firm) (Ok x) s t × AreHanded {E = StoreFault} next IsSecond (other old.firm) (Ok y) u v
+both-handed part other first handed second behind clean stands =
+    let served = second.was_clean clean in
+    (handed served stands, handed-before other (first.same served stands) (behind clean (first.still_stands served stands)))

@@ -9,7 +9,7 @@ use Rattle.firm_figures.specs.Reconciliations.{nothing_kept, with_balance_noted,
 use Rattle.figure_laws.proofs.ReconciliationRows.{reconciliation-kept}
 use Rattle.book_reports.specs.declared.day_reports.Limits.{Limits}
 use Rattle.book_reports.specs.DayReports.{IsAppended}
-use Rattle.book_reports.proofs.ReportTexts.{handed-before}
+use Rattle.book_reports.proofs.ReadCalls.{handed-before}
 
 none-map : {A C : Type 0} (f : A → C) (o : Option A) → is_none (option_map f o) ≡ is_none o
 none-map f o = grind (arith, ints, nat_tests)

@@ -1,5 +1,5 @@
 -- The texts of what the sinks kept are the reports.
-use Rattle.book_reports.proofs.Names.{◌≡◌, ℕ, Result, StoreFault, AreHanded, subst, List, [], ◌∷◌, ◌++◌, fold, sym, ap, ◌∙◌, append_assoc, append-nil, codes, Firm, FirmSound, JournalKept, TrialKept, no_journal, trial_kept, trial_of, trial_sum, with_moved, Retained, none_retained, with_row_retained, exception_line, exceptions_text, journal_text, retention_text, trial_text, exceptions_report, journal_report, retention_report, trial_report, sound-covered, ClientsKept, clients_of, clients_sum, clients_text, clients_report, no_clients, with_client_own, with_client_row, arith, ints, nat_tests, AreCountable, IsFirmLineInRange, IsMovementInRange, IsRowInRange}
+use Rattle.book_reports.proofs.Names.{◌≡◌, ℕ, List, [], ◌∷◌, ◌++◌, fold, sym, ap, ◌∙◌, append_assoc, append-nil, codes, Firm, FirmSound, JournalKept, TrialKept, no_journal, trial_kept, trial_of, trial_sum, with_moved, Retained, none_retained, with_row_retained, exception_line, exceptions_text, journal_text, retention_text, trial_text, exceptions_report, journal_report, retention_report, trial_report, sound-covered, ClientsKept, clients_of, clients_sum, clients_text, clients_report, no_clients, with_client_own, with_client_row, arith, ints, nat_tests, AreCountable, IsFirmLineInRange, IsMovementInRange, IsRowInRange}
 use Rattle.std.proofs.Common.{flat_map}
 use Rattle.figure_laws.proofs.ClientRows.{clients-kept}
 use Rattle.figure_laws.proofs.ClientTotal as client_total
@@ -75,8 +75,3 @@ acts-put s (a ∷ acts) =
 
 pub acts-listed : (m : ℕ) (firm : Firm) (kept : ActsKept) → kept ≡ fold with_act_of (no_acts m) firm.acts → kept.acts ≡ acts_in m firm.acts
 acts-listed m firm kept is = ap (λ (s : ActsKept). s.acts) is ∙ acts-put (no_acts m) firm.acts
-
--- what a later read hands over is of the rows that were there before the first
-pub handed-before : {S A T : Type 0} {step : S → A → S} {IsInRange : A → Type 0} {result : Result T StoreFault} {s t : S} {now old : Firm} (part : Firm → List A)
-    → now ≡ old → AreHanded step IsInRange (part now) result s t → AreHanded step IsInRange (part old) result s t
-handed-before {step} {IsInRange} {result} {s} {t} part same handed = subst (λ (f : Firm). AreHanded step IsInRange (part f) result s t) same handed

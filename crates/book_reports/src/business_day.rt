@@ -5,13 +5,13 @@ ghost use Rattle.book_reports.specs.ReportTexts.{report_text};
 ghost use Rattle.trust_store.specs.Calls.{IsRead};
 
 use crate::cleared_lines::{Beside, ClearedLines};
-use crate::exceptions_sink::ExceptionsSink;
 use crate::report::Report;
-use crate::trail_sinks::TrailSink;
+use crate::text_sink::TextSink;
 use std::alloc::Global;
 use trust_base::{Day, StoreFault};
 use trust_reports::{
-    JournalSink, RetentionSink, TrialSink, journal_text, own_card_text, retention_text, trial_text,
+    JournalSink, RetentionSink, TrialSink, exceptions_text, journal_text, own_card_text,
+    retention_text, trail_text, trial_text,
 };
 use trust_store::Book;
 
@@ -32,7 +32,8 @@ pub fn find_report<B: Book>(
     let mut text = Vec::new(alloc);
     match report {
         Report::Exceptions => {
-            let mut exceptions = ExceptionsSink::new(alloc, today)?;
+            exceptions_text(today, &[], &mut text)?;
+            let mut exceptions = TextSink::below(text);
             book.each_exception(&mut exceptions)?;
             Ok(exceptions.finish())
         }
@@ -62,7 +63,8 @@ pub fn find_report<B: Book>(
             Ok(text)
         }
         Report::Trail => {
-            let mut trail = TrailSink::new(alloc, today)?;
+            trail_text(today, &[], &[], &mut text)?;
+            let mut trail = TextSink::below(text);
             book.each_act(&mut trail)?;
             book.each_dismissal(&mut trail)?;
             Ok(trail.finish())

@@ -164,7 +164,10 @@ impl<'a> EntryLines<'a> {
                     let amount = payment.amount.get() as i64;
                     (Some((&paid.clearing, -amount)), None)
                 }
-                _ => (None, None),
+                PaymentState::Proposed
+                | PaymentState::Declined
+                | PaymentState::Issued(_)
+                | PaymentState::Voided(_) => (None, None),
             },
             Entry::Fee(_) | Entry::Claim(_) => (None, None),
         };

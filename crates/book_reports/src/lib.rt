@@ -34,11 +34,11 @@ mod business_day;
 mod checking;
 mod cleared_lines;
 mod day_reports;
-mod exceptions_sink;
+mod matter_acts;
 mod matter_trail;
 mod outstanding;
 mod report;
-mod trail_sinks;
+mod text_sink;
 mod unread;
 mod watching;
 

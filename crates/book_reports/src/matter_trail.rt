@@ -4,7 +4,7 @@ ghost use Rattle.std.specs.Prelude.{IfOk};
 ghost use Rattle.book_reports.specs.Trails.{IsTrailOf};
 ghost use Rattle.trust_store.specs.Calls.{IsRead};
 
-use crate::trail_sinks::MatterActs;
+use crate::matter_acts::MatterActs;
 use std::alloc::Global;
 use trust_base::{Day, MatterNo, StoreFault};
 use trust_reports::matter_trail_text;

@@ -9,13 +9,16 @@ use trust_matter::{Entry, PaymentState};
 use trust_store::Book;
 
 // The day on which an entry was issued, if it is a payment that waits for the bank.
-fn issued_on(entry: &Entry) -> Option<Day> {
+fn waits_since(entry: &Entry) -> Option<Day> {
     let Entry::Payment(payment) = entry else {
         return None;
     };
     match &payment.state {
         PaymentState::Issued(day) => Some(*day),
-        _ => None,
+        PaymentState::Proposed
+        | PaymentState::Declined
+        | PaymentState::Cleared(_)
+        | PaymentState::Voided(_) => None,
     }
 }
 
@@ -33,7 +36,7 @@ pub fn tell_outstanding<B: Book, V: PaymentWatch>(
 {
     let matter = book.matter(alloc, no)?;
     for kept in matter.kept() {
-        if let Some(day) = issued_on(&kept.entry) {
+        if let Some(day) = waits_since(&kept.entry) {
             watch.outstanding(kept.number, day);
         }
     }

@@ -54,8 +54,12 @@ Answers ran output result =
 abbrev pub EndsByNoFault : Outcome → Type 0
 EndsByNoFault outcome.Done = ⊤
 EndsByNoFault outcome.Refused = ⊤
+EndsByNoFault outcome.CommandLine = ⊥
 EndsByNoFault outcome.FileFault = ⊤
-EndsByNoFault _ = ⊥
+EndsByNoFault outcome.OutputFault = ⊥
+EndsByNoFault outcome.StoreFault = ⊥
+EndsByNoFault outcome.MemoryFault = ⊥
+EndsByNoFault outcome.NetworkFault = ⊥
 
 -- ---- what an import has done
 

@@ -98,7 +98,8 @@ fn remark_on_own<'a>(line: &Line, ledger: &FirmLedger, today: Day) -> LineRemark
     }
 }
 
-// The remark about a balance that does not fit. `kept` is the amount on file for its day, if any.
+// The remark about a balance that does not fit. `kept` is the amount on file for its day, if any. Whether it is dated
+// after the business day is asked first, as in `exception_reasons`.
 fn remark_on_balance<'a>(
     kind: BalanceKind,
     line: &Line,
@@ -106,13 +107,13 @@ fn remark_on_balance<'a>(
     today: Day,
 ) -> LineRemark<'a> {
     match kept {
-        Some(amount) => LineRemark::OtherBalance {
+        Some(amount) if line.date <= today => LineRemark::OtherBalance {
             kind,
             day: line.date,
             there: Dollars(amount as i128),
             here: line.amount,
         },
-        None => LineRemark::AfterToday(today),
+        Some(_) | None => LineRemark::AfterToday(today),
     }
 }
 

@@ -115,11 +115,11 @@ fn run_records<W: Write, B: Book, M: Remarks>(
 {
     let telling = SheetTelling::new(bytes, remarks);
     let mut refused = false;
-    let rdr = ReaderBuilder::new()
+    let reader = ReaderBuilder::new()
         .has_headers(false)
         .flexible(true)
         .from_reader(alloc, bytes);
-    for row in rdr.into_byte_records() {
+    for row in reader.into_byte_records() {
         let Ok(row) = row else {
             return SheetEnd::NoMemory;
         };

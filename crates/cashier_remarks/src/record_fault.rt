@@ -11,8 +11,8 @@ use day_sheet::{Verb, VerbForm, field_bytes, form_of, is_dismissal};
 use std::fmt;
 use trust_base::{BankAmount, Field, MAX_AMOUNT};
 
-// Whether a field of the record contains the end of a line.
-fn has_open_quote(row: &ByteRecord) -> bool {
+// Whether the record goes on after its line: a field of it contains the end of a line.
+fn is_on_several_lines(row: &ByteRecord) -> bool {
     for place in 0..row.len() {
         if has_line_end(field_bytes(row, place)) {
             return true;
@@ -194,7 +194,7 @@ pub fn write_record_fault<W: fmt::Write>(
     field: Field,
 ) -> fmt::Result {
     let text = text_at(row, words_of(field).place);
-    if has_open_quote(row) {
+    if is_on_several_lines(row) {
         f.write_str(OPEN_QUOTE)
     } else if field == Field::Record {
         write_whole_fault(f, row)

@@ -132,7 +132,10 @@ HasReportOperands values (Account matter period) = IsAccountGiven values matter 
 HasReportOperands values (Trail matter) = option_and_then matter_of (first_of (codes "MATTER") values) ≡ Some matter
 HasReportOperands values (Firm reports.OwnLedger) = first_of (codes "MATTER") values ≡ Some (codes "FIRM")
 HasReportOperands values (Firm reports.Trail) = first_of (codes "MATTER") values ≡ None
-HasReportOperands values (Firm report) = ⊤
+HasReportOperands values (Firm reports.Exceptions) = ⊤
+HasReportOperands values (Firm reports.Trial) = ⊤
+HasReportOperands values (Firm reports.Journal) = ⊤
+HasReportOperands values (Firm reports.Retention) = ⊤
 
 -- the name of a task's command
 abbrev pub task_text : Task → Text

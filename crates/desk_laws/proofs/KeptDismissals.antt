@@ -5,7 +5,7 @@ use Rattle.trust_matter.specs.declared.line_verdict.LineEffect.TheVariants as to
 use Rattle.firm_rows.specs.declared.dismissal.Dismissal.{Dismissal}
 use Rattle.firm_rows.specs.declared.ledger.BalanceKind.TheVariants as kind
 use Rattle.firm_rows.specs.declared.ledger.Verdict.TheVariants as own
-use Rattle.firm_rows.proofs.Dismissals.{edit-leaves-dismissals}
+use Rattle.firm_rows.proofs.Trail.{edit-leaves-dismissals}
 use Rattle.statement_csv.specs.declared.item.Item.TheVariants as item
 use Rattle.trust_desk.specs.FirmStep.{IsFaultReply}
 use Rattle.trust_desk.specs.Heard.{OfActs}

@@ -12,8 +12,7 @@ use Rattle.trust_matter.specs.declared.line_verdict.LineEffect.TheVariants as to
 use Rattle.trust_matter.specs.Facts.{Asked}
 use Rattle.trust_matter.specs.LineStep.{line_on}
 use Rattle.trust_matter.specs.Step.{act_on, edit_on, refusal}
-use Rattle.firm_rows.proofs.Acts.{acts-decide-nothing, edit-acts}
-use Rattle.firm_rows.proofs.Dismissals.{dismissals-decide-nothing, edit-dismissals}
+use Rattle.firm_rows.proofs.Trail.{acts-decide-nothing, dismissals-decide-nothing, edit-trail}
 use Rattle.firm_rows.specs.declared.dismissal.Dismissal.{Dismissal}
 use Rattle.firm_rows.specs.declared.ledger.BalanceKind.TheVariants as kind
 use Rattle.firm_rows.specs.declared.matter_act.MatterAct.{MatterAct}
@@ -67,9 +66,14 @@ itself-leaves TheActs firm = refl
 itself-leaves TheDismissals firm = refl
 
 edit-leaves : (part : Part) (m : ℕ) (e : Edit) (last : ℕ) (act : Option Act) → Leaves part (λ (f : Firm). acted m e act (after_edit m e last f))
-edit-leaves TheActs m e last act firm = ap (without TheActs) (edit-acts m e last [] firm)
+edit-leaves TheActs m e last act firm =
+    let made : Firm → Firm = λ f. without TheActs (acted m e act f) in
+    ap made (edit-trail m e last [] firm.dismissals firm)
+    ∙ sym (ap made (edit-trail m e last firm.acts firm.dismissals firm))
 edit-leaves TheDismissals m e last act firm =
-    ap (λ (f : Firm). without TheDismissals (acted m e act f)) (edit-dismissals m e last [] firm)
+    let made : Firm → Firm = λ f. without TheDismissals (acted m e act f) in
+    ap made (edit-trail m e last firm.acts [] firm)
+    ∙ sym (ap made (edit-trail m e last firm.acts firm.dismissals firm))
 
 change-leaves : (part : Part) (change : FirmChange) → Leaves part (after change)
 change-leaves TheActs change firm = (acts-decide-nothing [] change firm).after

@@ -29,6 +29,11 @@ sound-behind day firm new [] [] sound run = subst FirmSound (sym run) sound
 sound-behind day firm new (h ∷ hs) (reply ∷ replies) sound run = sound-behind day run.0 new hs replies run.2 run.3
 sound-behind day firm new _ _ sound run = absurd run
 
+pub days-sound : (firm new : Firm) (runs : List DayRun) → FirmSound firm → RunsSoundlyOn firm runs new → FirmSound new
+days-sound firm new [] sound run = subst FirmSound (sym run) sound
+days-sound firm new (r ∷ runs) sound run =
+    days-sound run.0 new runs (sound-behind r.day firm run.0 r.heard r.replies sound run.1) run.2
+
 module _ (P : Dossier → Type 0) (keeps : StepsKeep P) (m : ℕ) where
   abbrev OfFirm : Firm → Type 0
   OfFirm firm = P (dossier_of m firm)

@@ -1,6 +1,10 @@
 pub mod Alike
 pub mod Texts
 pub mod Replies
+pub mod ListedPayments
+pub mod Approvers
 pub mod KeptRuns
 pub mod SignedRuns
 pub mod ReplayedRuns
+pub mod FittingActs
+pub mod AuditedRuns

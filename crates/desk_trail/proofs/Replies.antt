@@ -3,7 +3,11 @@ use Rattle.std.proofs.Common.{◌≡◌, ℕ, Bool, true, false, [], ◌∷◌, 
 use Rattle.std.proofs.lemmas.Bool.{or_parts}
 use Rattle.std.specs.Prelude.{MatchBool}
 use Rattle.std.specs.List.{list_any}
+use Rattle.trust_base.specs.Periods.{month_to}
+use Rattle.trust_matter.specs.Step.{first}
 use Rattle.firm_rows.specs.Firm.{Firm, of}
+use Rattle.book_reports.specs.Reports.{approvals_report}
+use Rattle.book_reports.specs.declared.report.DayReport.TheVariants as day_reports
 use Rattle.trust_desk.specs.declared.requests.MatchText.TheVariants as text
 use Rattle.trust_desk.specs.declared.requests.Reply.{Reply}
 use Rattle.trust_desk.specs.declared.requests.Request.TheVariants.{Matter, Import, Match, Dismiss, Report, Reconcile, AsOf, Within, Trail, Acts, Listed, Reasons}
@@ -15,11 +19,11 @@ use Rattle.trust_desk.specs.ImportStep.{import_refusal, import_reply, imported}
 use Rattle.trust_desk.specs.ItemStep.{after_items, none_counted}
 use Rattle.trust_desk.specs.ListStep.{list_for, reasons_for}
 use Rattle.trust_desk.specs.MatchStep.{statement_for, unmatched_for}
-use Rattle.trust_desk.specs.ReportStep.{day_report_for, period_report_for, reconciliation_for, report_for, trail_for}
+use Rattle.trust_desk.specs.ReportStep.{day_report_conditions, day_report_for, period_report_for, reconciliation_for, report_for, text_unless, trail_for}
 use Rattle.trust_desk.specs.Replies.{is_fault_reply, json_reply, reply_of, text_reply}
-use Rattle.desk_trail.specs.TellNothing.{RunsTellNothing, StepsTellNothing}
-use Rattle.desk_trail.proofs.Alike.{Part, alike, counts-alike, items-alike, made-alike, shows, without}
-use Rattle.desk_trail.proofs.Texts.{acts-ignore, day_report-ignores, list-ignores, period_report-ignores, reasons-ignore, reconciliation-ignores, report-ignores, statement-ignores, trail-ignores, unmatched-ignores}
+use Rattle.desk_trail.specs.TellNothing.{MonthsTellNothing, RunsTellNothing, StepsTellNothing, month_with}
+use Rattle.desk_trail.proofs.Alike.{Part, TheActs, alike, counts-alike, items-alike, made-alike, shows, without}
+use Rattle.desk_trail.proofs.Texts.{acts-ignore, day_report-ignores, list-ignores, month-ignores, month_is, period_report-ignores, reasons-ignore, reconciliation-ignores, report-ignores, statement-ignores, trail-ignores, unmatched-ignores}
 
 -- A step.
 
@@ -54,6 +58,12 @@ replies-alike part day (Unread named refusal) f g same silent = refl
 
 pub steps-tell_nothing : (part : Part) → StepsTellNothing (without part) (shows part)
 steps-tell_nothing part day f g h same = (replies-alike part day h f g same, made-alike part day (kind_of h) f g same)
+
+pub months-tell_nothing : MonthsTellNothing
+months-tell_nothing today day caller f g same =
+    let approvals = approvals_report (month_to day) f in
+    let told = λ (x : Firm). text_unless (first (day_report_conditions caller day_reports.Month day x)) (month_with approvals day x) in
+    ap text_reply (month_is caller day today f ∙ alike TheActs told (month-ignores TheActs caller approvals day) f g same)
 
 -- A run.
 

@@ -8,15 +8,16 @@ use Rattle.matter_parts.specs.declared.edit.Edit.TheVariants as edit
 use Rattle.trust_matter.specs.Laws.{Doing, AnAsk, ALine}
 use Rattle.trust_matter.specs.Step.{edit_on, refusal}
 use Rattle.firm_rows.proofs.Kept.{empty-sound}
-use Rattle.firm_rows.specs.Firm.{acts_of, empty_firm, of}
+use Rattle.firm_rows.specs.Firm.{Firm, acts_of, empty_firm, of}
 use Rattle.trail_laws.specs.Dossier.{Dossier, dossier_after_step}
 use Rattle.trail_laws.specs.Signed.{Beginning, IsApprovedOnce, IsSigned, beginning_of, begun_after, nothing_before}
 use Rattle.trail_laws.proofs.Approved.{issues-are_approved}
 use Rattle.trail_laws.proofs.Growing.{signed-bare}
 use Rattle.trail_laws.proofs.Signed.{no-acts_are_signed, steps-keep_signed}
 use Rattle.trust_desk.specs.Acts.{dossier_of}
+use Rattle.desk_laws.specs.OnceOnly.{DayRun}
 use Rattle.desk_trail.proofs.KeptRuns.{StepsKeep, days-keep, runs-keep}
-use Rattle.desk_trail.specs.SignedRuns.{IsSignedSince, LaterPaymentsAreApproved, OlderFirmsAreSigned, PaymentsAreApproved, RunsStaySigned}
+use Rattle.desk_trail.specs.SignedRuns.{ActsAreAllowed, IsSignedSince, LaterPaymentsAreApproved, OlderFirmsAreSigned, PaymentsAreApproved, RunsSoundlyOn, RunsStaySigned}
 
 -- a purge is where the acts begin anew
 begun : (o : Option Refusal) (e : Edit) (b : Beginning) (p : Dossier) → IsSigned (begun_after o e b) p
@@ -36,7 +37,7 @@ one-signed b p (AnAsk a) sound s =
     (steps-keep_signed b p (AnAsk a) sound s)
 one-signed b p (ALine l today) sound s = inl (steps-keep_signed b p (ALine l today) sound s)
 
-steps-signed : (b : Beginning) → StepsKeep (IsSignedSince b)
+pub steps-signed : (b : Beginning) → StepsKeep (IsSignedSince b)
 steps-signed b p step sound (inl s) = one-signed b p step sound s
 steps-signed b p step sound (inr s) =
     inr (either (dossier_after_step p step) (one-signed nothing_before p step sound s))
@@ -50,13 +51,22 @@ runs-stay_signed m day b firm new hs replies sound run s =
 empty-signed : (m : ℕ) → IsSigned nothing_before (dossier_of m empty_firm)
 empty-signed m = signed-bare (dossier_of m empty_firm) (record { acts = refl; seats = refl; entries = refl })
 
+matters-signed : (firm : Firm) (runs : List DayRun) (m : ℕ) → RunsSoundlyOn empty_firm runs firm
+    → IsSigned nothing_before (dossier_of m firm)
+matters-signed firm runs m run =
+    let b = nothing_before in
+    let first = inl (empty-signed m) in
+    either (dossier_of m firm)
+    (days-keep (IsSignedSince b) (steps-signed b) m empty_firm firm runs empty-sound run first)
+
+pub acts-are_allowed : ActsAreAllowed
+acts-are_allowed firm runs m run =
+    let s = matters-signed firm runs m run in
+    record { allowed = s.allowed; left = s.seats }
+
 pub payments-are_approved : PaymentsAreApproved
 payments-are_approved firm runs m n day run issued =
-    let b = nothing_before in
-    let first = empty-signed m in
-    let since = days-keep (IsSignedSince b) (steps-signed b) m empty_firm firm runs empty-sound run (inl first) in
-    let s = either (dossier_of m firm) since in
-    issues-are_approved b (dossier_of m firm) n day s refl issued
+    issues-are_approved nothing_before (dossier_of m firm) n day (matters-signed firm runs m run) refl issued
 
 -- A book that is older than its acts.
 

@@ -1,8 +1,9 @@
 -- No text of a firm depends on a part of its trail, unless it shows it.
 use Rattle.std.proofs.Common.{◌≡◌, ℕ, false, List, refl, sym}
 use Rattle.std.proofs.lemmas.Bool.{false≢true}
-use Rattle.trust_base.specs.Periods.{Span}
+use Rattle.trust_base.specs.Periods.{Span, month_to}
 use Rattle.matter_rows.specs.declared.act.Caller.{Caller}
+use Rattle.trust_matter.specs.Step.{first}
 use Rattle.firm_rows.specs.Firm.{Firm}
 use Rattle.firm_figures.specs.Purged.{is_period_purged}
 use Rattle.firm_periods.specs.Named.{is_purged_since}
@@ -22,11 +23,12 @@ use Rattle.trust_desk.specs.Acts.{acts_for, dossier_of}
 use Rattle.trust_desk.specs.Heard.{Asks}
 use Rattle.trust_desk.specs.ListStep.{list_for, reasons_for}
 use Rattle.trust_desk.specs.MatchStep.{statement_for, unmatched_for}
-use Rattle.trust_desk.specs.ReportStep.{day_report_for, period_report_for, reconciliation_for, report_for, trail_for}
+use Rattle.trust_desk.specs.ReportStep.{day_report_conditions, day_report_for, period_report_for, reconciliation_for, report_for, text_unless, trail_for}
 use Rattle.trust_desk.specs.declared.requests.CallerList.{CallerList}
 use Rattle.trust_desk.specs.declared.requests.CallerList.TheVariants.{Matters, Waiting}
 use Rattle.trust_desk.specs.declared.requests.Request.TheVariants as requests
 use Rattle.desk_trail.proofs.Alike.{Ignores, Part, TheActs, TheDismissals, shows}
+use Rattle.desk_trail.specs.TellNothing.{month_with}
 
 -- Reports.
 
@@ -57,6 +59,16 @@ period_report-ignores part caller Receipts period today silent firm = refl
 period_report-ignores part caller Disbursements period today silent firm = refl
 period_report-ignores TheActs caller Approvals period today silent firm = absurd (false≢true (sym silent))
 period_report-ignores TheDismissals caller Approvals period today silent firm = refl
+
+-- The packet of month's end: its last part aside.
+
+pub month_is : (caller : Caller) (day today : ℕ) (firm : Firm) → day_report_for caller Month day today firm ≡ text_unless (first (day_report_conditions caller Month day firm)) (month_with (approvals_report (month_to day) firm) day firm)
+unfolding month_report
+month_is caller day today firm = refl
+
+pub month-ignores : (part : Part) (caller : Caller) (approvals : List ℕ) (day : ℕ) → Ignores part (λ (f : Firm). text_unless (first (day_report_conditions caller Month day f)) (month_with approvals day f))
+unfolding has_no_statement is_period_purged is_purged_since reconciliation_report clients_report outstanding_report receipts_report disbursements_report
+month-ignores part caller approvals day firm = refl
 
 -- The acts of a matter.
 

@@ -1,4 +1,6 @@
 pub mod TellNothing
+pub mod Approvers
 pub mod Dossiers
 pub mod SignedRuns
 pub mod ReplayedRuns
+pub mod AuditedRuns

@@ -1,8 +1,9 @@
--- Every run leaves each matter's dossier signed: each payment that was issued has its approval among the acts.
+-- Every run leaves each matter's dossier signed: each act was allowed, and each payment issued has its approval.
 use Rattle.std.specs.Prelude.{◌≡◌, ◌⊎◌, ℕ, List, [], ◌∷◌}
 use Rattle.matter_rows.specs.Rows.{entry_at}
 use Rattle.firm_rows.specs.Firm.{Firm, empty_firm, of, acts_of}
 use Rattle.firm_rows.specs.FirmSound.{FirmSound}
+use Rattle.firm_audit.specs.Trails.{AreSeatedBy}
 use Rattle.trail_laws.specs.Dossier.{Dossier}
 use Rattle.trail_laws.specs.Signed.{Beginning, IsApprovedOnce, IsSigned, beginning_of, days_of_issue, nothing_before}
 use Rattle.trust_desk.specs.declared.requests.Reply.{Reply}
@@ -31,6 +32,12 @@ abbrev pub RunsSoundlyOn : Firm → List DayRun → Firm → Type 0
 RunsSoundlyOn firm [] new = new ≡ firm
 RunsSoundlyOn firm (run ∷ runs) new =
     (mid : Firm) × RunsSoundly run.day firm run.heard run.replies mid × RunsSoundlyOn mid runs new
+
+-- in a book that was empty, the policy allowed each act with the seats of its moment, and they left the matter's seats
+abbrev pub ActsAreAllowed : Type 0
+ActsAreAllowed =
+    (firm : Firm) (runs : List DayRun) (m : ℕ) → RunsSoundlyOn empty_firm runs firm
+    → AreSeatedBy (acts_of m firm) (of m firm).seats
 
 -- in a book that was empty, each payment that is or was issued has exactly one act of approval among its matter's acts,
 -- on the day of its issue, by a person who had a lawyer's seat then

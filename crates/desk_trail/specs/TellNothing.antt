@@ -1,8 +1,12 @@
 -- The acts of a firm tell nothing but what they say, and neither do its dismissals: no answer depends on them that does
 -- not show them, and no row.
-use Rattle.std.specs.Prelude.{◌≡◌, ℕ, Bool, true, false, List, []}
+use Rattle.std.specs.Prelude.{◌≡◌, ℕ, Bool, true, false, List, [], ◌∷◌}
 use Rattle.std.specs.List.{list_any}
+use Rattle.trust_base.specs.Periods.{month_to}
+use Rattle.matter_rows.specs.declared.act.Caller.{Caller}
+use Rattle.trust_matter.specs.Step.{first}
 use Rattle.firm_rows.specs.Firm.{Firm, with_acts, with_dismissals}
+use Rattle.book_reports.specs.Reports.{approvals_report, clients_report, disbursements_report, outstanding_report, parts, receipts_report, reconciliation_report}
 use Rattle.book_reports.specs.declared.report.DayReport.{DayReport}
 use Rattle.book_reports.specs.declared.report.DayReport.TheVariants as day_reports
 use Rattle.book_reports.specs.declared.report.PeriodReport.{PeriodReport}
@@ -14,6 +18,8 @@ use Rattle.trust_desk.specs.declared.requests.Request.{Request}
 use Rattle.trust_desk.specs.declared.requests.Request.TheVariants as requests
 use Rattle.trust_desk.specs.FirmStep.{Runs, firm_step}
 use Rattle.trust_desk.specs.Heard.{Heard, Asks, Unread}
+use Rattle.trust_desk.specs.Replies.{text_reply}
+use Rattle.trust_desk.specs.ReportStep.{day_report_conditions, text_unless}
 
 -- the firm without its acts
 abbrev pub without_acts : Firm → Firm
@@ -82,3 +88,27 @@ RunsTellNothing without shows =
     (day : ℕ) (f g after : Firm) (hs : List Heard) (replies : List Reply) → without f ≡ without g
     → list_any shows hs ≡ false → Runs day f hs replies after
     → (other : Firm) × Runs day g hs replies other × (without after ≡ without other)
+
+-- The packet of month's end, which has acts in its last part alone.
+
+-- the packet with this text for its last part, the approvals
+abbrev pub month_with : List ℕ → ℕ → Firm → List ℕ
+month_with approvals day firm =
+    parts (reconciliation_report day firm)
+    (clients_report day firm
+    ∷ outstanding_report day firm
+    ∷ receipts_report (month_to day) firm
+    ∷ disbursements_report (month_to day) firm
+    ∷ approvals
+    ∷ [])
+
+-- two firms that are the same without their acts refuse the packet alike; that of the one is that of the other, with
+-- the approvals of the one
+abbrev pub MonthsTellNothing : Type 0
+MonthsTellNothing =
+    (today day : ℕ) (caller : Caller) (f g : Firm) → without_acts f ≡ without_acts g
+    → (firm_step today f (Asks (requests.AsOf caller day_reports.Month day))).reply
+    ≡ text_reply
+    (text_unless
+    (first (day_report_conditions caller day_reports.Month day g))
+    (month_with (approvals_report (month_to day) f) day g))

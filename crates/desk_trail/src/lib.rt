@@ -8,7 +8,8 @@
 //! - `laws` `acts_tell_nothing`: two firms that differ in their acts alone answer alike whatever they hear that is not
 //!   answered with acts, and differ in their acts alone afterwards (`steps`); so each run of the one in which nothing
 //!   is answered with acts could be one of the other (`runs`). What is answered with acts is the trail, of the firm or
-//!   of a matter, a matter's acts, and the approvals, of a period or at a month's end.
+//!   of a matter, a matter's acts, and the approvals, of a period or at a month's end. The packet of month's end is
+//!   refused alike, and the same but for its last part, the approvals (`month`).
 //! - `laws` `dismissals_tell_nothing`: two firms that differ in their dismissals alone answer alike whatever they hear
 //!   but a request for the firm's trail, and differ in their dismissals alone afterwards (`steps`); so each run of the
 //!   one without such a request could be one of the other (`runs`).
@@ -18,14 +19,24 @@
 //! - `laws` `payments_are_signed`: **each payment that is or was issued has exactly one act of approval among its
 //!   matter's acts, on the day of its issue, by a person who had a lawyer's seat then**, after all runs of a book that
 //!   was empty (`approved`). In a book that is older than its acts this is so of each payment that was not issued
-//!   before (`later`). A matter without acts is signed from what its rows say (`begins`), and each run of a sound firm
-//!   keeps each matter's dossier signed, which also says that its seats are those that its acts left, and that the
-//!   policy allowed each act to its caller, with the seats of that moment (`runs`).
+//!   before (`later`). After all runs of a book that was empty, **the policy allowed each act to its caller, with the
+//!   seats of that moment**, and a matter's seats are those that its acts left (`allowed`). A matter without acts is
+//!   signed from what its rows say (`begins`), and each run of a sound firm keeps each matter's dossier signed, which
+//!   says all this (`runs`).
+//! - `laws` `approvers_are_signers`: **each payment in the approvals of a period names the person of its one act of
+//!   approval**, who had a lawyer's seat then, after all runs of a book that was empty (`named`). In a book that is
+//!   older than its acts this is so of each payment that was not issued before (`later`). The others name nobody,
+//!   unless their matter was purged since (`earlier`). In every sound firm the list has each payment that was issued on
+//!   a day of the period, once, and nothing else (`listed`).
 //! - `laws` `matters_are_replayed`: **a matter's rows say of each of its acts what was asked, or what the bank showed,
 //!   and all of it, asked or shown again in order from nothing, makes the same rows and the same acts**, after all runs
 //!   of a book that was empty, of each matter that was opened and not purged; the others have no acts (`replayed`). In
 //!   a book that is older than its acts this is so of each matter whose acts begin with its opening (`later`). Each run
 //!   of a sound firm keeps both (`runs`, `complete`).
+//! - `laws` `trails_pass_the_audit`: **a book that only this program wrote passes the audit of its trail**, as each
+//!   matter's acts fit its rows (`HasItsTrail` of `firm_audit`). It is so after all runs of a book that was empty
+//!   (`begun`), and of one that is older than its acts (`older`). So `audit_trail` finds a flaw only in a book that
+//!   something else wrote (`flawed_is_no_trail` of `firm_audit`).
 #![tactic(auto)]
 
 pub mod laws;

@@ -1,6 +1,6 @@
 -- How many entries pass a test that is given the acts of their matter.
 use Rattle.firm_audit.proofs.Names.{◌≡◌, ℕ, ◌+◌, ◌<◌, Bool, List, [], ◌∷◌, ◌++◌, length, take, get_or, Option, Some, None, cond, refl, sym, ap, ◌∙◌, arith, AllByRecursion, pairs, Kept, AreNumbered, entries_kept, KeptMatter, rows_kept, joined, IsKeptWhole}
-use Rattle.std.specs.Prelude.{count_by, is_some, min, not, ◌&&◌, ◌-◌, ◌^◌}
+use Rattle.std.specs.Prelude.{count_by, is_some, min, not, option_to_list, ◌&&◌, ◌-◌, ◌^◌}
 use Rattle.std.specs.List.{sum_by}
 use Rattle.std.proofs.lemmas.List.Sums.{sum_by-append, sum_by-cons, sum_by_more}
 use Rattle.matter_rows.specs.declared.act.Act.{Act}
@@ -10,7 +10,7 @@ use Rattle.matter_rows.specs.declared.seat.Seat.{Seat}
 use Rattle.firm_rows.specs.declared.matter_act.MatterAct.{MatterAct}
 use Rattle.firm_rows.specs.Firm.{EntryRow, Row, entry_pairs, head_pairs, seat_pairs}
 use Rattle.trail_laws.specs.Signed.{days_of_approval, days_of_issue}
-use Rattle.firm_audit.specs.Trails.{AreCountedAll, AreCountedOn, acts_among, all_with, days_of, has_day, is_approved_issue, is_earlier_issue, kept_with, passes}
+use Rattle.firm_audit.specs.Trails.{AreCountedAll, AreCountedOn, acts_among, all_with, has_day, is_approved_issue, is_earlier_issue, kept_with, passes}
 use Rattle.firm_audit.specs.declared.trail.TrailCounts.{TrailCounts}
 
 -- Over the joined rows.
@@ -60,7 +60,7 @@ kept-more test acts ks i k lt is =
     ∙ ap (λ (x : Kept). kept_with test acts (take i ks) + cond (test acts x.number x.entry) 1 0) (sym is)
 
 -- a day or none, as a list
-pub some-day : (day : Option ℕ) → is_some day ≡ has_day (days_of day)
+pub some-day : (day : Option ℕ) → is_some day ≡ has_day (option_to_list day)
 some-day None = refl
 some-day (Some day) = refl
 

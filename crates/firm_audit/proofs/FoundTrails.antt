@@ -5,7 +5,7 @@ use Rattle.matter_rows.specs.declared.act.Act.{Act}
 use Rattle.matter_rows.specs.declared.entry.Entry.{Entry}
 use Rattle.matter_rows.specs.Rows.{is_gone}
 use Rattle.trail_laws.specs.Signed.{begins_with_opening, days_of_approval, days_of_issue}
-use Rattle.firm_audit.specs.Trails.{AreEntriesFound, AreSeatedBy, IsApproved, IsApprovedAs, IsKeptApproved, IsMatterTrail, IsOfEntry, IsSignedFrom, IsTrailOf, IsTrailWhere, dossier_kept}
+use Rattle.firm_audit.specs.Trails.{AreEntriesFound, AreSeatedBy, IsApproved, IsApprovedAs, IsKeptApproved, IsMatterTrail, IsOfEntry, IsSignedFrom, IsTrailOf, IsTrailWhere, MayBeAllowed, dossier_kept}
 use Rattle.firm_audit.specs.declared.trail.TrailCounts.{TrailCounts}
 use Rattle.firm_audit.specs.declared.trail.TrailFlaw.TheVariants as flaw
 use Rattle.firm_audit.specs.declared.trail.TrailFound.{TrailFound}
@@ -22,7 +22,7 @@ approved-as {c = c} {days = days} {here = here} {issued = issued} begins of_appr
 
 -- A matter.
 
-module _ (k : KeptMatter) (acts : List Act) (numbered : AreNumbered 1 k.matter.kept) (gone : is_gone k.matter.head ≡ true → acts ≡ []) (seated : begins_with_opening acts ≡ true → AreSeatedBy acts k.matter.seats) (there : AllByRecursion (λ act. IsOfEntry (entries_kept k.matter.kept) act.entry) acts) where
+module _ (k : KeptMatter) (acts : List Act) (numbered : AreNumbered 1 k.matter.kept) (gone : is_gone k.matter.head ≡ true → acts ≡ []) (seated : begins_with_opening acts ≡ true → AreSeatedBy acts k.matter.seats) (allowed : begins_with_opening acts ≡ false → AllByRecursion MayBeAllowed acts) (there : AllByRecursion (λ act. IsOfEntry (entries_kept k.matter.kept) act.entry) acts) where
   fits-of : AllByRecursion (IsKeptApproved acts) k.matter.kept → IsTrailOf (dossier_kept k acts)
   fits-of all = cases (is_gone k.matter.head) refl
     where
@@ -36,7 +36,7 @@ module _ (k : KeptMatter) (acts : List Act) (numbered : AreNumbered 1 k.matter.k
         issued = λ n. subst (λ (b : Bool). IsApprovedAs b (days_of_approval n acts) (days_of_issue (entry_at (entries_kept k.matter.kept) n))) begins (each n);
         opened = λ is. record { seats = refl; issued = λ n. refl };
       }
-      signed false later = each
+      signed false later = record { allowed = allowed later; approved = each }
 
       cases : (b : Bool) → is_gone k.matter.head ≡ b → IsTrailWhere b (dossier_kept k acts)
       cases true is = gone is

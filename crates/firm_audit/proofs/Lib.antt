@@ -1,3 +1,4 @@
+pub mod Allowed
 pub mod Approvals
 pub mod Ascending
 pub mod Counted

@@ -5,7 +5,7 @@ use Rattle.std.specs.List.Sorted.{IsStrictlySortedBy}
 use Rattle.std.specs.declared.cmp.Ordering.{Ordering}
 use Rattle.std.specs.declared.cmp.Ordering.TheVariants.{Less}
 use Rattle.trust_store.specs.declared.all_rows.AllRows.{AllRows}
-use Rattle.firm_rows.proofs.Dismissals.{sound-trail}
+use Rattle.firm_rows.proofs.Trail.{sound-trail}
 use Rattle.firm_rows.specs.FirmSound.{FirmSound}
 use Rattle.firm_rows.specs.Firm.{with_trail}
 use Rattle.firm_rows.specs.declared.dismissal.Dismissal.{Dismissal}

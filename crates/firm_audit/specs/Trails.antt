@@ -11,7 +11,7 @@ use Rattle.trust_store.specs.declared.plain.KeptMatter.{KeptMatter}
 use Rattle.firm_rows.specs.declared.matter_act.MatterAct.{MatterAct}
 use Rattle.firm_rows.specs.Firm.{EntryRow, Firm, HeadRow, Row, SeatRow, acts_of, of}
 use Rattle.trail_laws.specs.Dossier.{Dossier}
-use Rattle.trail_laws.specs.Signed.{AreAllowed, IsSigned, begins_with_opening, days_of_approval, days_of_issue, nothing_before, seats_by}
+use Rattle.trail_laws.specs.Signed.{AreAllowed, IsSigned, begins_with_opening, days_of_approval, days_of_issue, is_allowed, nothing_before, seats_by}
 use Rattle.firm_audit.specs.declared.trail.TrailCounts.{TrailCounts}
 use Rattle.firm_audit.specs.declared.trail.TrailFlaw.{TrailFlaw}
 use Rattle.firm_audit.specs.declared.trail.TrailFlaw.TheVariants as flaw
@@ -38,11 +38,21 @@ abbrev pub IsApproved : Dossier → ℕ → Type 0
 IsApproved p n =
     IsApprovedAs (begins_with_opening p.acts) (days_of_approval n p.acts) (days_of_issue (entry_at p.rows.entries n))
 
--- where the acts begin with the opening, the policy allowed each with the seats of its moment, they leave the matter's
--- seats, and each payment that is or was issued has its approval (by a lawyer of the matter, `IssuesAreApproved`)
+-- the policy allows the act to its caller with some seats
+abbrev pub MayBeAllowed : Act → Type 0
+MayBeAllowed act = (seats : List Seat) × (is_allowed seats act ≡ true)
+
+-- of a matter that is older than its acts: the policy allows each act with some seats, since no row tells those of its
+-- moment. Each entry is approved as above
+pub record IsSignedLater (p : Dossier) : Type 0 where
+  pub allowed : AllByRecursion MayBeAllowed p.acts
+  pub approved : (n : ℕ) → IsApproved p n
+
+-- where the acts begin with the opening, the policy allowed each with the seats of its moment, and they leave the
+-- matter's seats. Each payment that is or was issued has its approval (by a lawyer of the matter, `IssuesAreApproved`)
 abbrev pub IsSignedFrom : Bool → Dossier → Type 0
 IsSignedFrom true p = IsSigned nothing_before p
-IsSignedFrom false p = (n : ℕ) → IsApproved p n
+IsSignedFrom false p = IsSignedLater p
 
 -- a matter that was never opened, or was purged, has no acts
 abbrev pub IsTrailWhere : Bool → Dossier → Type 0
@@ -123,11 +133,6 @@ FlawedIsNoTrail = (firm : Firm) (f : TrailFlaw) → IsTrailFlawOf firm f → ¬ 
 -- what was done in one matter, by these acts
 abbrev pub acts_among : ℕ → List MatterAct → List Act
 acts_among m acts = map (λ a. a.act) (acts_in m acts)
-
--- a day or none
-abbrev pub days_of : Option ℕ → List ℕ
-days_of None = []
-days_of (Some day) = day ∷ []
 
 -- the policy allowed each act with the seats of its moment, and they leave these
 pub record AreSeatedBy (acts : List Act) (seats : List Seat) : Type 0 where

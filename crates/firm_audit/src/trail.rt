@@ -1,6 +1,6 @@
 // Whether a firm's trail fits its rows.
 
-ghost use Rattle.std.specs.Prelude.{◌≡◌, ◌↔◌, ◌+◌, ◌-◌, ◌^◌, ◌++◌, ◌&&◌, [], true, cond, fold, min, None, Some, IfOk, IfSome, IsTrue, OnOk};
+ghost use Rattle.std.specs.Prelude.{◌≡◌, ◌↔◌, ◌+◌, ◌-◌, ◌^◌, ◌++◌, ◌&&◌, [], true, cond, fold, min, None, Some, IfOk, IfSome, IsTrue, OnOk, option_to_list};
 ghost use Rattle.std.specs.List.{AllByRecursion, filter, list_any};
 ghost use Rattle.matter_rows.specs.Rows.{comes_before, entry_at, is_number, seats_with};
 ghost use Rattle.matter_parts.specs.Parts.{entries_kept};
@@ -9,8 +9,8 @@ ghost use Rattle.trail_laws.specs.Signed.{AreAllowed, approves, begins_with_open
 ghost use Rattle.trail_laws.specs.Signed.{is_allowed, rule_done, seats_by};
 ghost use Rattle.trust_matter.specs.Policy.{Cashier, has, standing_in};
 ghost use Rattle.firm_audit.specs.Trails.{AreEntriesFound, AreMattersFound, AreSeatedBy, HasActsAlone, IsAmong};
-ghost use Rattle.firm_audit.specs.Trails.{IsApprovedAs, IsMatterTrail, IsOfEntry, IsTrailFound, acts_among, days_of};
-ghost use Rattle.firm_audit.specs.Trails.{has_day};
+ghost use Rattle.firm_audit.specs.Trails.{IsApprovedAs, IsMatterTrail, IsOfEntry, IsTrailFound, acts_among};
+ghost use Rattle.firm_audit.specs.Trails.{MayBeAllowed, has_day};
 
 use firm_rows::MatterAct;
 use matter_parts::Kept;
@@ -23,7 +23,8 @@ use trust_store::{AllRows, KeptMatter, matter_place};
 #[derive(Clone, Copy)]
 pub enum TrailFlaw {
     /// The matter's acts do not fit its rows: it has none, since it was never opened or was purged; an act was not
-    /// allowed to its caller, with the seats of its moment; or the seats are not those that the acts left.
+    /// allowed to its caller, with the seats of its moment; or the seats are not those that the acts left. Of a matter
+    /// that is older than its acts: an act was not allowed to its caller, whatever the seats were.
     Matter(MatterNo),
     /// The entry's approvals are not the one of its issue, or the matter has acts of it and no such entry.
     Entry { matter: MatterNo, entry: EntryNo },
@@ -243,6 +244,29 @@ fn are_seated(alloc: Global, acts: &[Act], seats: &[Seat]) -> Result<bool, Alloc
     }
 }
 
+// Whether the policy allows an act to its caller with some seats.
+fn may_be_allowed(act: &Act) -> bool
+    ensures { IsTrue result ↔ MayBeAllowed act.now }
+{
+    let rule = rule_done(&act.deed);
+    match &act.caller {
+        Caller::Cashier => is_cashiers(rule),
+        Caller::Person(_) => is_in_role(Role::Client, rule) || is_in_role(Role::Lawyer, rule),
+    }
+}
+
+// Whether this is so of each of these acts.
+fn may_all_be_allowed(acts: &[Act]) -> bool
+    ensures { IsTrue result ↔ AllByRecursion MayBeAllowed acts.now }
+{
+    for act in acts {
+        if !may_be_allowed(act) {
+            return false;
+        }
+    }
+    true
+}
+
 // Whether the first act is the opening of the matter.
 fn begins_with_opening(acts: &[Act]) -> bool
     ensures { result ≡ begins_with_opening acts.now }
@@ -253,13 +277,12 @@ fn begins_with_opening(acts: &[Act]) -> bool
     }
 }
 
-// The day on which a payment was issued, which is that of its first movement; none of anything else.
-#[tactic(auto, unfolding(matter_rows::specs::Events::events_of))]
-fn issue_day(entry: &Entry, number: EntryNo) -> Option<Day>
-    ensures { days_of result ≡ days_of_issue (Some entry.now) }
+// The day on which a payment was issued; none of anything else.
+fn issue_day(entry: &Entry) -> Option<Day>
+    ensures { option_to_list result ≡ days_of_issue (Some entry.now) }
 {
     match entry {
-        Entry::Payment(_) => entry.event(number, 0).map(|moved| moved.day),
+        Entry::Payment(payment) => payment.state.issued_on(),
         Entry::Deposit(_) | Entry::Fee(_) | Entry::Claim(_) => None,
     }
 }
@@ -289,7 +312,7 @@ fn approval_days(alloc: Global, acts: &[Act], number: EntryNo) -> Result<Vec<Day
 
 // Whether these days are that of the issue, or are none where the acts may begin later.
 fn is_approved(days: &[Day], issued: Option<Day>, is_whole: bool) -> bool
-    ensures { IsTrue result ↔ IsApprovedAs is_whole days.now (days_of issued) }
+    ensures { IsTrue result ↔ IsApprovedAs is_whole days.now (option_to_list issued) }
 {
     match issued {
         None => days.is_empty(),
@@ -361,7 +384,7 @@ fn entries_found(
     let mut counts = before;
     for one in kept {
         let days = approval_days(alloc, acts, one.number)?;
-        let issued = issue_day(&one.entry, one.number);
+        let issued = issue_day(&one.entry);
         if !is_approved(&days, issued, is_whole) {
             return Ok(TrailFound::Flawed(TrailFlaw::Entry {
                 matter,
@@ -396,6 +419,8 @@ fn matter_found(
         if !are_seated(alloc, acts, kept.matter.seats())? {
             return Ok(TrailFound::Flawed(TrailFlaw::Matter(matter)));
         }
+    } else if !may_all_be_allowed(acts) {
+        return Ok(TrailFound::Flawed(TrailFlaw::Matter(matter)));
     }
     let entries = kept.matter.kept();
     if let Some(entry) = stray_entry(acts, entries) {
@@ -447,8 +472,9 @@ fn matters_found(
 ///
 /// Of each matter whose acts begin with its opening, the policy allowed each act to its caller with the seats of that
 /// moment, the seats are those that the acts left, and each payment that is or was issued has exactly one approval, on
-/// the day of its issue, and nothing else has one. Of a matter that is older than its acts, an issued payment may have
-/// none. An act of an entry is of one that is there, and a matter without records has no acts.
+/// the day of its issue, and nothing else has one. Of a matter that is older than its acts, the policy allowed each act
+/// with some seats, and an issued payment may have no approval. An act of an entry is of one that is there, and a
+/// matter without records has no acts.
 ///
 /// This takes one pass over all acts for each matter, one over the matter's for each of its entries, and memory for a
 /// copy of one matter's acts at a time. The only error is out of memory.

@@ -11,7 +11,7 @@ use Rattle.matter_rows.specs.declared.payment.PaymentState.TheVariants as paymen
 use Rattle.matter_rows.specs.declared.entry.Entry.{Entry}
 use Rattle.matter_rows.specs.declared.entry.Entry.TheVariants as entry
 use Rattle.matter_rows.specs.Rows.{entry_amount}
-use Rattle.matter_rows.specs.Events.{Event, events_of}
+use Rattle.matter_rows.specs.Events.{Event, events_of, issued_on, voided_on}
 use Rattle.firm_rows.specs.declared.movement.Movement.{Movement}
 use Rattle.firm_rows.specs.declared.ledger.FirmLine.{FirmLine}
 use Rattle.firm_rows.specs.declared.ledger.BalanceKind.{BalanceKind}
@@ -41,12 +41,6 @@ abbrev pub unless : Option ℕ → Option ℕ → Option ℕ
 unless day None = day
 unless day (Some other) = None
 
-abbrev pub issued_on : PaymentState → Option ℕ
-issued_on (payment.Issued day) = Some day
-issued_on (payment.Cleared c) = Some c.issued
-issued_on (payment.Voided v) = Some v.issued
-issued_on _ = None
-
 -- the day on which an entry's money was booked: a deposit made, a payment issued
 abbrev pub booked_on : Entry → Option ℕ
 booked_on (entry.Deposit d) = Some d.book
@@ -59,10 +53,6 @@ cancelled_on deposit.Held = None
 cancelled_on (deposit.Cleared c) = None
 cancelled_on (deposit.Cancelled day) = Some day
 cancelled_on (deposit.Returned r) = None
-
-abbrev pub voided_on : PaymentState → Option ℕ
-voided_on (payment.Voided v) = Some v.undone
-voided_on _ = None
 
 -- the day on which that was undone: a deposit cancelled, a payment voided; a return undoes nothing, since the bank
 -- reported both
@@ -92,8 +82,11 @@ deposit_banked_on (deposit.Cancelled day) = None
 deposit_banked_on (deposit.Returned r) = Some r.clearing.bank_day
 
 abbrev pub payment_banked_on : PaymentState → Option ℕ
+payment_banked_on payment.Proposed = None
+payment_banked_on payment.Declined = None
+payment_banked_on (payment.Issued day) = None
 payment_banked_on (payment.Cleared c) = Some c.clearing.bank_day
-payment_banked_on _ = None
+payment_banked_on (payment.Voided v) = None
 
 -- the day of the bank line that cleared the entry
 abbrev pub banked_on : Entry → Option ℕ
@@ -164,9 +157,12 @@ deposit_lines (deposit.Returned r) book amount =
     ∷ record { bank = r.returning.bank_day; book = r.undone; amount = pos 0 -ℤ pos amount } ∷ []
 
 abbrev pub payment_lines : PaymentState → ℕ → List MatchedLine
+payment_lines payment.Proposed amount = []
+payment_lines payment.Declined amount = []
+payment_lines (payment.Issued day) amount = []
 payment_lines (payment.Cleared c) amount =
     record { bank = c.clearing.bank_day; book = c.issued; amount = pos 0 -ℤ pos amount } ∷ []
-payment_lines _ amount = []
+payment_lines (payment.Voided v) amount = []
 
 -- the bank lines that cleared an entry and took it back
 abbrev pub lines_of : Entry → List MatchedLine

@@ -162,7 +162,7 @@ impl EntryDays {
                         days.booked = day_by(voided.issued, p);
                         days.undone = day_by(voided.undone, p);
                     }
-                    _ => {}
+                    PaymentState::Proposed | PaymentState::Declined => {}
                 }
             }
             Entry::Fee(_) | Entry::Claim(_) => {}

@@ -6,15 +6,25 @@ ghost use Rattle.firm_figures.specs.Reconciling.{added, less};
 /// The firm's ten figures as of a day, in cents.
 #[derive(Clone, Copy)]
 pub struct ReconciliationFigures {
+    /// The bank's closing balance of the day.
     pub closing: i64,
+    /// The deposits in transit: booked by the day, and not at the bank by then.
     pub transit: i128,
+    /// The outstanding payments: issued by the day, and not at the bank by then.
     pub outstanding: i128,
+    /// The adjusted bank balance: closing, plus transit, less outstanding.
     pub adjusted: i128,
+    /// The journal's balance: the sum of all movements by the day.
     pub journal: i128,
+    /// The ledgers of all matters and the firm's own, as of the day.
     pub ledgers: i128,
+    /// Adjusted less journal.
     pub difference: i128,
+    /// The sum of the exceptions dated by the day.
     pub exceptions: i128,
+    /// The sum of the lines by the day that matched what was booked only later.
     pub early: i128,
+    /// What no line explains: closing, less the matched lines, the firm's own and the exceptions by the day.
     pub gap: i128,
 }
 

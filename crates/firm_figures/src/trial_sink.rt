@@ -55,7 +55,7 @@ fn ledger_share(entry: &Entry) -> i64
         },
         Entry::Payment(payment) => match &payment.state {
             PaymentState::Issued(_) | PaymentState::Cleared(_) => -(payment.amount.get() as i64),
-            _ => 0,
+            PaymentState::Proposed | PaymentState::Declined | PaymentState::Voided(_) => 0,
         },
         Entry::Fee(_) | Entry::Claim(_) => 0,
     }

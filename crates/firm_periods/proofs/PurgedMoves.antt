@@ -1,7 +1,7 @@
 -- A purge changes no list whose records are complete afterwards.
 use Rattle.firm_periods.proofs.Names.{◌≡◌, ℕ, zero, suc, ◌+◌, ◌≤◌, Bool, true, false, cond, List, [], ◌∷◌, ◌++◌, Option, Some, None, refl, sym, ap, ◌∙◌, subst, arith, nat_lt, flat_map, filter, list_any, nat_tests, AllByRecursion, recursion_from_All, filter_passes, all-map, Covered, IsBy, IsHeaded, IsAtRestIfClosed, Sound, days_of, Head, Seat, Entry, Rows, MatterChange, Edit, changed_by, Row, HeadRow, SeatRow, EntryRow, Firm, acted, acts_without, after_change, after_edit, purged_by, with_acts, of, pairs, put, head_pairs, seat_pairs, entry_pairs, FirmSound, IsClosedBy, IsPurge, is_period_purged, is_purged_after, is_in_transit, is_outstanding, passing, flat_map-append, in_order}
 use Rattle.trust_matter.specs.edit.Edit.TheVariants as edit
-use Rattle.firm_rows.proofs.Acts.{sound-acts}
+use Rattle.firm_rows.proofs.Trail.{sound-trail}
 use Rattle.firm_rows.proofs.Changed.{of_other-purged_by}
 use Rattle.firm_rows.proofs.Kept.{stays-sound}
 use Rattle.firm_figures.proofs.ClosedBy.{IsUnlisted, all-later, closed-left, closed-unlisted}
@@ -120,7 +120,7 @@ module _ (law : Covered) (m : ℕ) (change : MatterChange) (firm : Firm) (sound 
 
   sound_made : FirmSound made
   sound_made =
-      sound-acts firm.acts (with_acts (acts_without m firm.acts) made)
+      sound-trail firm.acts firm.dismissals (with_acts (acts_without m firm.acts) made)
       (subst FirmSound same (stays-sound law m change firm sound purge.fits))
 
   named-left : (pick : Entry → List Moved) → AllByRecursion (λ e. pick e ≡ []) (of m firm).entries → named_in pick None (after_change m change firm).rows ≡ named_in pick None firm.rows

@@ -32,12 +32,12 @@ abbrev pub is_in_period : Span → ℕ → Bool
 is_in_period s day = nat_le s.from day && nat_le day s.to
 
 -- a payment, on the day of its issue if that is in the period
-abbrev pub issued_on : ℕ → ℕ → Payment → ℕ → IssuedPayment
-issued_on m n p day = record { matter = m; number = n; issued = day; payment = p; approver = None }
+abbrev pub issued_payment : ℕ → ℕ → Payment → ℕ → IssuedPayment
+issued_payment m n p day = record { matter = m; number = n; issued = day; payment = p; approver = None }
 
 abbrev pub issued_of_entry : Span → ℕ → ℕ → Entry → List IssuedPayment
 issued_of_entry s m n (entry.Deposit d) = []
-issued_of_entry s m n (entry.Payment p) = map (issued_on m n p) (filter (is_in_period s) (issue_days p.state))
+issued_of_entry s m n (entry.Payment p) = map (issued_payment m n p) (filter (is_in_period s) (issue_days p.state))
 issued_of_entry s m n (entry.Fee f) = []
 issued_of_entry s m n (entry.Claim c) = []
 

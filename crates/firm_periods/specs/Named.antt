@@ -1,5 +1,5 @@
 -- Movements with their names: the receipts and the disbursements of a period, and what waits for the bank as of a day.
-use Rattle.std.specs.Prelude.{◌≡◌, ℕ, ◌≤◌, Bool, true, false, not, ◌&&◌, ◌||◌, nat_le, nat_lt, cond, List, [], ◌∷◌, ◌++◌, map, ℤ, pos, negsuc, ◌+ℤ◌, ◌-ℤ◌, Option, Some, None, fold}
+use Rattle.std.specs.Prelude.{◌≡◌, ℕ, ◌≤◌, Bool, true, false, not, ◌&&◌, ◌||◌, nat_le, nat_lt, cond, List, [], ◌∷◌, ◌++◌, map, ℤ, pos, negsuc, ◌+ℤ◌, ◌-ℤ◌, Option, Some, None, fold, option_to_list}
 use Rattle.std.specs.List.{filter, flat_map, list_any}
 use Rattle.std.specs.Ordering.{is_lt, nat_cmp}
 use Rattle.matter_rows.specs.declared.head.Head.{Head}
@@ -264,10 +264,6 @@ PurgeChangesNoWaitingLeft =
     × (out_named p (after_change m change firm) ≡ out_named p firm)
 
 -- How they are built.
-
-abbrev pub option_list : {A : Type 0} → Option A → List A
-option_list None = []
-option_list (Some x) = x ∷ []
 
 -- what a list takes of an entry
 abbrev pub pick_of : Pick → Entry → List Moved

@@ -1,10 +1,10 @@
 // A client's statement of account for a period.
 
-ghost use Rattle.std.specs.Prelude.{◌≡◌, ◌*◌, ◌^◌, ◌++◌, length, map, IfOk, IfSome, OnOk};
+ghost use Rattle.std.specs.Prelude.{◌≡◌, ◌*◌, ◌^◌, ◌++◌, length, map, IfOk, IfSome, OnOk, option_to_list};
 ghost use Rattle.std.specs.List.{filter};
 ghost use Rattle.std.specs.Ordering.{is_lt};
 ghost use Rattle.firm_figures.specs.Doubles.{in_order};
-ghost use Rattle.firm_periods.specs.Named.{is_within, option_list};
+ghost use Rattle.firm_periods.specs.Named.{is_within};
 ghost use Rattle.firm_periods.specs.Accounts.{IsSmallMove, IsSumMoved, account_kept, accounted, entry_moved, is_before_moved, kept_moves, moved_before, moves_at, sum_before};
 
 use crate::moved::{Moved, moves_of};
@@ -137,7 +137,7 @@ impl<'a> Account<'a> {
 // What a movement adds to the opening of a period that begins on a day.
 fn amount_before(moved: Option<Moved>, day: Day) -> i128
     requires { IfSome moved IsSmallMove }
-    ensures sum { result ≡ sum_before day (option_list moved) }
+    ensures sum { result ≡ sum_before day (option_to_list moved) }
     ensures small { IsSumMoved 1 result }
 {
     match moved {
@@ -179,7 +179,7 @@ fn push_within<'a>(
     requires { IfSome moved IsSmallMove }
     ensures { OnOk result (moves.new.items ≡ moves.old.items
         ++ filter (λ v. is_within period.from period.to v.moved)
-        (map (entry_moved kept.now.number kept.now.entry) (option_list moved))) }
+        (map (entry_moved kept.now.number kept.now.entry) (option_to_list moved))) }
 {
     match moved {
         Some(moved) if moved.is_within(period) => {

@@ -7,7 +7,6 @@ ghost use Rattle.firm_figures.specs.Doubles.{in_order};
 ghost use Rattle.firm_rows.specs.Firm.{EntryRow};
 ghost use Rattle.firm_periods.specs.Approvals.{ApprovalsKept, approvals_of, approved_by, approver_in, approves_in, is_issued_earlier, no_approvals, with_approval, with_issued_row};
 
-use crate::moved::issue_day;
 use crate::named_sink::Pick;
 use firm_rows::{ActSink, MatterAct, MatterRow, MatterRowSink};
 use std::alloc::{AllocError, Global};
@@ -167,7 +166,7 @@ impl ApprovalsSink {
             (self.new ≡ with_issued_row self.old (matter, EntryRow number (Entry.Payment payment.now))) }
         ensures err { OnErr result (self.new ≡ self.old) }
     {
-        let Some(issued) = issue_day(&payment.state) else {
+        let Some(issued) = payment.state.issued_on() else {
             return Ok(());
         };
         let day = issued.get();

@@ -1,10 +1,9 @@
 // Movements with their names.
 
-ghost use Rattle.std.specs.Prelude.{◌≡◌, ◌++◌, [], ◌∷◌, IfOk, IfSome};
+ghost use Rattle.std.specs.Prelude.{◌≡◌, ◌++◌, [], ◌∷◌, IfOk, IfSome, option_to_list};
 ghost use Rattle.std.specs.List.{filter, flat_map};
 ghost use Rattle.std.specs.Ordering.{nat_cmp};
-ghost use Rattle.trail_laws.specs.Signed.{issue_days};
-ghost use Rattle.firm_periods.specs.Named.{is_disbursed, is_received_within, is_disbursed_within, booking_of, is_within, moves_of, named, option_list};
+ghost use Rattle.firm_periods.specs.Named.{is_disbursed, is_received_within, is_disbursed_within, booking_of, is_within, moves_of, named};
 ghost use Rattle.firm_periods.specs.Accounts.{IsSmallMove};
 ghost use Rattle.firm_periods.specs.declared.moved.Moved.{Moved};
 
@@ -91,27 +90,15 @@ pub struct NamedMove {
 
 // A movement of an entry, positive or negative by its amount.
 fn some_move(day: Day, amount: i64, cause: Cause) -> Option<Moved>
-    ensures { option_list result ≡ record { day = day; amount = amount; cause = cause } ∷ [] }
+    ensures { option_to_list result ≡ record { day = day; amount = amount; cause = cause } ∷ [] }
 {
     Some(Moved { day, amount, cause })
 }
 
-/// The day on which a payment was issued. None while it is proposed, and if it was declined.
-pub(crate) fn issue_day(state: &PaymentState) -> Option<Day>
-    ensures { option_list result ≡ issue_days state.now }
-{
-    match state {
-        PaymentState::Proposed | PaymentState::Declined => None,
-        PaymentState::Issued(day) => Some(*day),
-        PaymentState::Cleared(paid) => Some(paid.issued),
-        PaymentState::Voided(voided) => Some(voided.issued),
-    }
-}
-
 /// The movements of an entry: at most two.
 pub(crate) fn moves_of(entry: &Entry) -> (Option<Moved>, Option<Moved>)
-    ensures moves { option_list result.0 ++ option_list result.1 ≡ moves_of entry.now }
-    ensures booking { option_list result.0 ≡ booking_of (moves_of entry.now) }
+    ensures moves { option_to_list result.0 ++ option_to_list result.1 ≡ moves_of entry.now }
+    ensures booking { option_to_list result.0 ≡ booking_of (moves_of entry.now) }
     ensures small { IfSome result.0 IsSmallMove × IfSome result.1 IsSmallMove }
 {
     match entry {
@@ -172,7 +159,7 @@ impl Moved {
 
 /// A movement, if it is a receipt of a period.
 pub(crate) fn if_received(moved: Option<Moved>, period: Period) -> Option<Moved>
-    ensures { option_list result ≡ filter (is_received_within period.from period.to) (option_list moved) }
+    ensures { option_to_list result ≡ filter (is_received_within period.from period.to) (option_to_list moved) }
 {
     match moved {
         Some(moved) if moved.is_within(period) && !moved.is_disbursed() => Some(moved),
@@ -182,7 +169,7 @@ pub(crate) fn if_received(moved: Option<Moved>, period: Period) -> Option<Moved>
 
 /// A movement, if it is a disbursement of a period.
 pub(crate) fn if_disbursed(moved: Option<Moved>, period: Period) -> Option<Moved>
-    ensures { option_list result ≡ filter (is_disbursed_within period.from period.to) (option_list moved) }
+    ensures { option_to_list result ≡ filter (is_disbursed_within period.from period.to) (option_to_list moved) }
 {
     match moved {
         Some(moved) if moved.is_within(period) && moved.is_disbursed() => Some(moved),
@@ -207,8 +194,8 @@ pub(crate) fn name_move(
     entry: &Entry,
     moved: Option<Moved>,
 ) -> Result<Option<NamedMove>, AllocError>
-    ensures { IfOk result (λ found. option_list found
-        ≡ flat_map (named client.now matter number entry.now) (option_list moved)) }
+    ensures { IfOk result (λ found. option_to_list found
+        ≡ flat_map (named client.now matter number entry.now) (option_to_list moved)) }
 {
     let Some(moved) = moved else {
         return Ok(None);

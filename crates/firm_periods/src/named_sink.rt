@@ -1,10 +1,10 @@
 // A list of movements with their names, from rows that arrive one at a time.
 
-ghost use Rattle.std.specs.Prelude.{◌≡◌, ◌++◌, ◌+◌, ◌<◌, ◌≤◌, IfOk, OnErr, OnOk, vec_capacity, vec_len, pos, fold};
+ghost use Rattle.std.specs.Prelude.{◌≡◌, ◌++◌, ◌+◌, ◌<◌, ◌≤◌, IfOk, OnErr, OnOk, vec_capacity, vec_len, pos, fold, option_to_list};
 ghost use Rattle.firm_figures.specs.Doubles.{in_order};
 ghost use Rattle.firm_figures.specs.Reconciling.{added};
 ghost use Rattle.firm_rows.specs.Firm.{EntryRow};
-ghost use Rattle.firm_periods.specs.Named.{NamedKept, is_day_cut, is_earlier, named_sum, none_named, option_list, own_named, own_pick, pick_of, with_named_own, with_named_row};
+ghost use Rattle.firm_periods.specs.Named.{NamedKept, is_day_cut, is_earlier, named_sum, none_named, own_named, own_pick, pick_of, with_named_own, with_named_row};
 ghost use Rattle.firm_periods.specs.declared.moved.NamedMove.{NamedMove};
 
 use crate::moved::{
@@ -34,7 +34,7 @@ impl Pick {
     // What a list takes of an entry.
     #[tactic(auto, using(crate::proofs::Picks::picks))]
     fn of(self, entry: &Entry) -> (Option<Moved>, Option<Moved>)
-        ensures { option_list result.0 ++ option_list result.1 ≡ pick_of self entry.now }
+        ensures { option_to_list result.0 ++ option_to_list result.1 ≡ pick_of self entry.now }
     {
         let (first, second) = moves_of(entry);
         match self {
@@ -78,7 +78,7 @@ impl Pick {
 // Appends a movement, if there is one. There is room for it.
 fn push_some(lines: &mut Vec<NamedMove>, line: Option<NamedMove>)
     requires { vec_len lines.old < vec_capacity lines.old }
-    ensures items { lines.new.items ≡ lines.old.items ++ option_list line }
+    ensures items { lines.new.items ≡ lines.old.items ++ option_to_list line }
     ensures len { vec_len lines.new ≤ vec_len lines.old + 1 }
     ensures capacity { vec_capacity lines.new ≡ vec_capacity lines.old }
 {

@@ -1,50 +1,12 @@
--- The acts of a firm: which change which, and that they decide nothing.
-use Rattle.firm_rows.proofs.Names.{◌≡◌, ℕ, not, cond, List, [], ◌∷◌, ◌++◌, map, filter, Option, Some, None, refl, ap, ◌∙◌, ◌==◌, arith, nat_tests, append-nil, filter-append, map-append, Act, MatterAct, Edit, acts_by, Firm, acts_left, acts_without, joined_act, joined_acts, with_acts, after_edit, matched_by, OfMatter, Repeated, Unmatched, Dismissed, OfFirm, OfBalance, FitsFirm, FirmSound, IsInOrder, ActsOfOneChange, ActsDecideNothing}
+-- The acts of one matter, and which change changes them.
+use Rattle.firm_rows.proofs.Names.{◌≡◌, ℕ, not, cond, List, [], ◌∷◌, ◌++◌, map, filter, Option, Some, None, refl, ap, ◌∙◌, ◌==◌, arith, nat_tests, append-nil, filter-append, map-append, Act, MatterAct, Edit, acts_by, acts_left, acts_without, joined_act, joined_acts, OfMatter, Repeated, Unmatched, Dismissed, OfFirm, OfBalance, ActsOfOneChange}
 use Rattle.std.specs.Prelude.{option_to_list}
 use Rattle.trust_matter.specs.edit.Edit.TheVariants as edit
-use Rattle.firm_rows.specs.FirmChange.{FirmChange, after}
+use Rattle.firm_rows.specs.FirmChange.{FirmChange}
+use Rattle.firm_rows.specs.FirmSound.{acts_after}
+use Rattle.firm_rows.proofs.Trail.{acts_joined, acts-after}
 
--- A firm is sound, or not, whatever its acts are.
-
-pub order-acts : (acts : List MatterAct) (firm : Firm) → IsInOrder firm → IsInOrder (with_acts acts firm)
-order-acts acts firm order = record { rows = order.rows; exceptions = order.exceptions; balances = order.balances }
-
-pub sound-acts : (acts : List MatterAct) (firm : Firm) → FirmSound firm → FirmSound (with_acts acts firm)
-sound-acts acts firm sound = record {
-  in_order = order-acts acts firm sound.in_order;
-  matters = sound.matters;
-  events = sound.events;
-  own = sound.own;
-  in_time = λ m. record { rising = (sound.in_time m).rising; by_last = (sound.in_time m).by_last };
-  ledgers = sound.ledgers;
-  covered = sound.covered;
-  within = sound.within;
-}
-
--- An edit makes of the other rows what it makes of them whatever the acts are.
-pub edit-acts : (m : ℕ) (e : Edit) (last : ℕ) (acts : List MatterAct) (firm : Firm)
-    → after_edit m e last (with_acts acts firm) ≡ with_acts acts (after_edit m e last firm)
-edit-acts m edit.Nothing last acts firm = refl
-edit-acts m (edit.Open opening) last acts firm = refl
-edit-acts m (edit.Seat seat) last acts firm = refl
-edit-acts m (edit.Unseat person) last acts firm = refl
-edit-acts m (edit.Close day) last acts firm = refl
-edit-acts m (edit.Purge day) last acts firm = refl
-edit-acts m (edit.Append entry) last acts firm = refl
-edit-acts m (edit.Exchange entry) last acts firm = refl
-
--- and leaves the acts
-pub edit-leaves-acts : (m : ℕ) (e : Edit) (last : ℕ) (firm : Firm) → (after_edit m e last firm).acts ≡ firm.acts
-edit-leaves-acts m edit.Nothing last firm = refl
-edit-leaves-acts m (edit.Open opening) last firm = refl
-edit-leaves-acts m (edit.Seat seat) last firm = refl
-edit-leaves-acts m (edit.Unseat person) last firm = refl
-edit-leaves-acts m (edit.Close day) last firm = refl
-edit-leaves-acts m (edit.Purge day) last firm = refl
-edit-leaves-acts m (edit.Append entry) last firm = refl
-edit-leaves-acts m (edit.Exchange entry) last firm = refl
-
--- the acts after a change that is not nothing: with its act, and without those that a purge removes
+-- The acts after a change that is not nothing: with its act, and without those that a purge removes.
 
 none-joined : (m : ℕ) (o : Option Act) → acts_without m (joined_act m o) ≡ []
 none-joined m None = refl
@@ -62,46 +24,6 @@ acts-joined m (edit.Purge day) o acts some =
     ∙ (ap (λ (xs : List MatterAct). acts_without m acts ++ xs) (none-joined m o) ∙ append-nil (acts_without m acts))
 acts-joined m (edit.Append entry) o acts some = refl
 acts-joined m (edit.Exchange entry) o acts some = refl
-
--- Acts decide nothing.
-
-after-acts : (change : FirmChange) (acts : List MatterAct) (firm : Firm)
-    → with_acts [] (after change (with_acts acts firm)) ≡ with_acts [] (after change firm)
-after-acts (OfMatter m None change) acts firm = ap (with_acts []) (edit-acts m change.edit change.last acts firm)
-after-acts (OfMatter m (Some line) change) acts firm =
-    ap (λ (f : Firm). with_acts [] (matched_by (Some line) f)) (edit-acts m change.edit change.last acts firm)
-after-acts (Repeated line) acts firm = refl
-after-acts (Unmatched line) acts firm = refl
-after-acts (Dismissed day line) acts firm = refl
-after-acts (OfFirm line) acts firm = refl
-after-acts (OfBalance kind line) acts firm = refl
-
-fits-acts : (change : FirmChange) (acts : List MatterAct) (firm : Firm)
-    → FitsFirm (with_acts acts firm) change → FitsFirm firm change
-fits-acts (OfMatter m line change) acts firm fits = fits
-fits-acts (Repeated line) acts firm fits = fits
-fits-acts (Unmatched line) acts firm fits = fits
-fits-acts (Dismissed day line) acts firm fits = fits
-fits-acts (OfFirm line) acts firm fits = fits
-fits-acts (OfBalance kind line) acts firm fits = fits
-
-acts-fit : (change : FirmChange) (acts : List MatterAct) (firm : Firm)
-    → FitsFirm firm change → FitsFirm (with_acts acts firm) change
-acts-fit (OfMatter m line change) acts firm fits = fits
-acts-fit (Repeated line) acts firm fits = fits
-acts-fit (Unmatched line) acts firm fits = fits
-acts-fit (Dismissed day line) acts firm fits = fits
-acts-fit (OfFirm line) acts firm fits = fits
-acts-fit (OfBalance kind line) acts firm fits = fits
-
-pub acts-decide-nothing : (acts : List MatterAct) (change : FirmChange) (firm : Firm) → ActsDecideNothing acts change firm
-acts-decide-nothing acts change firm = record {
-  sound = (sound-acts firm.acts (with_acts acts firm), sound-acts acts firm);
-  fits = (fits-acts change acts firm, acts-fit change acts firm);
-  after = after-acts change acts firm;
-}
-
--- The acts of one matter.
 
 abbrev own : ℕ → List MatterAct → List Act
 own m acts = map (λ a. a.act) (filter (λ a. a.matter == m) acts)
@@ -136,15 +58,14 @@ own-changed n m (edit.Purge day) o acts = own-without n m acts
 own-changed n m (edit.Append entry) o acts = own-added n m o acts
 own-changed n m (edit.Exchange entry) o acts = own-added n m o acts
 
+own-after : (n : ℕ) (change : FirmChange) (acts : List MatterAct)
+    → own n (acts_joined change acts) ≡ acts_after n change (own n acts)
+own-after n (OfMatter m line change) acts = own-changed n m change.edit change.act acts
+own-after n (Repeated line) acts = refl
+own-after n (Unmatched line) acts = refl
+own-after n (Dismissed day line) acts = refl
+own-after n (OfFirm line) acts = refl
+own-after n (OfBalance kind line) acts = refl
+
 pub acts-of-one-change : ActsOfOneChange
-acts-of-one-change n (OfMatter m None change) firm =
-    ap (λ xs. own n (joined_acts m change.edit change.act xs)) (edit-leaves-acts m change.edit change.last firm)
-    ∙ own-changed n m change.edit change.act firm.acts
-acts-of-one-change n (OfMatter m (Some line) change) firm =
-    ap (λ xs. own n (joined_acts m change.edit change.act xs)) (edit-leaves-acts m change.edit change.last firm)
-    ∙ own-changed n m change.edit change.act firm.acts
-acts-of-one-change n (Repeated line) firm = refl
-acts-of-one-change n (Unmatched line) firm = refl
-acts-of-one-change n (Dismissed day line) firm = refl
-acts-of-one-change n (OfFirm line) firm = refl
-acts-of-one-change n (OfBalance kind line) firm = refl
+acts-of-one-change n change firm = ap (own n) (acts-after change firm) ∙ own-after n change firm.acts

@@ -3,8 +3,7 @@ use Rattle.firm_rows.proofs.Names.{◌≡◌, ℕ, Option, Some, None, arith, na
 use Rattle.firm_rows.proofs.Balances.{balances-sorted}
 use Rattle.firm_rows.proofs.Changed.{changes-own, changes-no_other}
 use Rattle.firm_rows.proofs.Kept.{stays-sound}
-use Rattle.firm_rows.proofs.Dismissals.{dismissed-in_order, dismissed-sound}
-use Rattle.firm_rows.proofs.Lines.{match-in_order, stray-stays-in_order, match-sound, stray-stays-sound}
+use Rattle.firm_rows.proofs.Lines.{dismissed-in_order, dismissed-sound, match-in_order, stray-stays-in_order, match-sound, stray-stays-sound}
 use Rattle.firm_rows.proofs.Order.{stays-in_order}
 use Rattle.firm_rows.proofs.OwnLines.{own_line-sound, statement-sound}
 

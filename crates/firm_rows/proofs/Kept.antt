@@ -2,7 +2,7 @@
 use Rattle.firm_rows.proofs.Names.{◌≡◌, ◌≢◌, ℕ, ◌≤◌, List, [], ◌∷◌, ◌++◌, map, take, Option, Some, None, sym, ap, ◌∙◌, subst, arith, rules, append-nil, length-append, inl, inr, pos, ◌+ℤ◌, ◌≤ℤ◌, ints, cases_lt, take-append-le, take_all, IsStrictlySortedBy, Edit, Rows, unopened, entry_at, last_of, ledger, events_in, Sound, Covered, MatterChange, IsChange, changed_by, movement_of, AreMoved, IsMovedWithin, IsPlace, Movement, Firm, empty_firm, of, joined_movement, moved_by, rewritten_by, after_edit, after_change, balance_of, events_moved, firm_events, line_event, days_moved, amount_for, moved_for, AreMovedInTime, FirmSound}
 use Rattle.std.proofs.Math.Seq.{take-nil}
 use Rattle.trust_matter.specs.movement.EntryMovement as change
-use Rattle.firm_rows.proofs.Acts.{sound-acts}
+use Rattle.firm_rows.proofs.Trail.{sound-trail}
 use Rattle.firm_rows.proofs.Sums.{sum-append}
 use Rattle.firm_rows.proofs.InTime.{RiseTo, days-same, rise-own}
 use Rattle.firm_rows.proofs.Order.{in_order-rewritten_by}
@@ -106,7 +106,7 @@ edit-sound law m e last firm sound is = cases (edit-cases m e last firm)
 pub stays-sound : Covered → (m : ℕ) (change : MatterChange) (firm : Firm) → FirmSound firm → IsChange (of m firm) change → FirmSound (after_change m change firm)
 stays-sound law m change firm sound is =
     let edited : FirmSound (after_edit m change.edit change.last firm) = grind (arith, ints, (edit-sound law m change.edit change.last firm sound)) in
-    sound-acts _ (after_edit m change.edit change.last firm) edited
+    sound-trail _ _ (after_edit m change.edit change.last firm) edited
 
 -- A firm without rows.
 

@@ -3,7 +3,7 @@ pub mod Agree
 pub mod Balances
 pub mod Changed
 pub mod Clearing
-pub mod Dismissals
+pub mod Trail
 pub mod FirmChanges
 pub mod Handed
 pub mod InTime

@@ -1,6 +1,6 @@
 -- The rows of each matter stand together, also after a change.
 use Rattle.firm_rows.proofs.Names.{◌≡◌, ◌≢◌, ℕ, ◌<◌, ◌≤◌, Bool, true, List, [], ◌++◌, sym, ap, ◌∙◌, subst, arith, append_assoc, append-nil, ◌⊎◌, inl, inr, nat_lt, cases_lt, nat_tests, Edit, Rows, MatterChange, changed_by, Row, Firm, of, pairs, put, rewritten_by, purged_by, after_edit, after_change, IsInOrder}
-use Rattle.firm_rows.proofs.Acts.{order-acts}
+use Rattle.firm_rows.proofs.Trail.{order-trail}
 use Rattle.firm_rows.proofs.Joined.{before, behind, passing, passing-append, passing-put, passing_twice, passing_never, passing_swap, pairs_pass, pairs_fail}
 use Rattle.firm_rows.proofs.Changed.{each-matter, EditCases, edit-cases, of-purged_by, of_other-purged_by}
 
@@ -69,7 +69,7 @@ pub in_order-purged_by : (m : ℕ) (rows : Rows) (firm : Firm) → IsInOrder fir
 in_order-purged_by m rows firm order = record { rows = rows-put m rows firm order; exceptions = order.exceptions; balances = order.balances }
 
 pub stays-in_order : (m : ℕ) (change : MatterChange) (firm : Firm) → IsInOrder firm → IsInOrder (after_change m change firm)
-stays-in_order m change firm order = order-acts _ (after_edit m change.edit change.last firm) (cases (edit-cases m change.edit change.last firm))
+stays-in_order m change firm order = order-trail _ _ (after_edit m change.edit change.last firm) (cases (edit-cases m change.edit change.last firm))
   where
     cases : EditCases m change.edit change.last firm → IsInOrder (after_edit m change.edit change.last firm)
     cases (inl same) = subst IsInOrder (sym same.1) order

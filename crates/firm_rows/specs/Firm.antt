@@ -199,14 +199,25 @@ acts_without m acts = filter (λ a. not (a.matter == m)) acts
 
 -- the acts left after an edit of a matter: without its own if it is purged, otherwise all
 abbrev pub acts_left : ℕ → Edit → List MatterAct → List MatterAct
+acts_left m edit.Nothing acts = acts
+acts_left m (edit.Open opening) acts = acts
+acts_left m (edit.Seat seat) acts = acts
+acts_left m (edit.Unseat person) acts = acts
+acts_left m (edit.Close day) acts = acts
 acts_left m (edit.Purge day) acts = acts_without m acts
-acts_left m _ acts = acts
+acts_left m (edit.Append entry) acts = acts
+acts_left m (edit.Exchange entry) acts = acts
 
 -- the acts after a change of a matter: with the one that it is remembered by, or, if it is purged, without its own
 abbrev pub joined_acts : ℕ → Edit → Option Act → List MatterAct → List MatterAct
 joined_acts m edit.Nothing act acts = acts
-joined_acts m (edit.Purge day) act acts = acts_left m (edit.Purge day) acts
-joined_acts m e act acts = acts_left m e acts ++ joined_act m act
+joined_acts m (edit.Open opening) act acts = acts ++ joined_act m act
+joined_acts m (edit.Seat seat) act acts = acts ++ joined_act m act
+joined_acts m (edit.Unseat person) act acts = acts ++ joined_act m act
+joined_acts m (edit.Close day) act acts = acts ++ joined_act m act
+joined_acts m (edit.Purge day) act acts = acts_without m acts
+joined_acts m (edit.Append entry) act acts = acts ++ joined_act m act
+joined_acts m (edit.Exchange entry) act acts = acts ++ joined_act m act
 
 -- the firm with other acts
 abbrev pub with_acts : List MatterAct → Firm → Firm

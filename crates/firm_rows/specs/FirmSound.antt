@@ -107,8 +107,12 @@ pub record ActsDecideNothing (acts : List MatterAct) (change : FirmChange) (firm
 -- What a change of the firm makes of the dismissals.
 
 abbrev pub dismissals_after : FirmChange → List Dismissal → List Dismissal
+dismissals_after (OfMatter m line change) dismissals = dismissals
+dismissals_after (Repeated line) dismissals = dismissals
+dismissals_after (Unmatched line) dismissals = dismissals
 dismissals_after (Dismissed day line) dismissals = dismissals ++ record { day = day; line = line } ∷ []
-dismissals_after _ dismissals = dismissals
+dismissals_after (OfFirm line) dismissals = dismissals
+dismissals_after (OfBalance kind line) dismissals = dismissals
 
 -- dismissing a line adds it, with its day, and no other change adds or removes any: a purge leaves them
 abbrev pub DismissalsOfOneChange : Type 0

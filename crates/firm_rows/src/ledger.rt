@@ -24,8 +24,11 @@ pub struct FirmLine {
 /// The verdict on a line of the firm's own, or on a balance.
 #[derive(Clone, Copy)]
 pub enum Verdict {
+    /// It is booked, or kept on file.
     Applied,
+    /// The same is booked or on file already.
     Repeat,
+    /// It can't be booked or kept, and becomes an exception.
     Unmatched,
 }
 

@@ -6,9 +6,10 @@ use std::alloc::AllocError;
 use trust_base::MatterNo;
 use trust_matter::Act;
 
-/// What was accepted of a matter, by number: who did what, of which entry, on which business day.
+/// An act of a matter: who did what, of which entry, on which business day.
 #[derive(Drop)]
 pub struct MatterAct {
+    /// The matter's number.
     pub matter: MatterNo,
     pub act: Act,
 }

@@ -19,6 +19,7 @@ use Rattle.matter_rows.specs.declared.claim.ClaimState.{ClaimState}
 use Rattle.matter_rows.specs.declared.claim.ClaimState.TheVariants as claim
 use Rattle.matter_rows.specs.declared.entry.Entry.{Entry}
 use Rattle.matter_rows.specs.declared.entry.Entry.TheVariants as entry
+use Rattle.matter_rows.specs.Events.{issued_on, voided_on}
 use Rattle.matter_rows.specs.Rows.{Rows, closed_on}
 use Rattle.matter_parts.specs.declared.figures.Balances.{Balances}
 use Rattle.matter_rows.specs.Balances.{available, claims, disputed, fees, held, total}
@@ -230,22 +231,6 @@ payment_clearing payment.Declined = None
 payment_clearing (payment.Issued day) = None
 payment_clearing (payment.Cleared c) = Some c.clearing
 payment_clearing (payment.Voided v) = None
-
--- the day a payment was issued
-abbrev pub issued_on : PaymentState → Option ℕ
-issued_on payment.Proposed = None
-issued_on payment.Declined = None
-issued_on (payment.Issued day) = Some day
-issued_on (payment.Cleared c) = Some c.issued
-issued_on (payment.Voided v) = Some v.issued
-
--- the day a payment was voided
-abbrev pub voided_on : PaymentState → Option ℕ
-voided_on payment.Proposed = None
-voided_on payment.Declined = None
-voided_on (payment.Issued day) = None
-voided_on (payment.Cleared c) = None
-voided_on (payment.Voided v) = Some v.undone
 
 -- a claim with an offer is still open
 abbrev pub claim_state_name : ClaimState → List ℕ

@@ -5,16 +5,17 @@ ghost use Rattle.std.specs.Option.{option_copied};
 ghost use Rattle.serde_json.specs.Data.{string as text_data};
 ghost use Rattle.serde_json.specs.Written.{compact_text};
 ghost use Rattle.matter_parts.specs.Parts.{IsPart};
+ghost use Rattle.matter_rows.specs.Events.{issued_on, voided_on};
 ghost use Rattle.matter_rows.specs.Rows.{Rows, closed_on as closed_in, role_name as role_word};
 ghost use Rattle.matter_rows.specs.Sound.{Sound};
 ghost use Rattle.matter_rows.specs.declared.entry.Entry.TheVariants.{Claim as claim_entry, Deposit as deposit_entry, Fee as fee_entry, Payment as payment_entry};
 ghost use Rattle.matter_bodies.specs.Bodies.{against_entry as claimed_fee_in, against_name as ground_name_in, balance_sums, bank_day_value, bank_ref_value};
 ghost use Rattle.matter_bodies.specs.Bodies.{claim_left_value, claimant_of as claimant_in, client_value, entry_body, entry_object, fund_entry as fund_entry_in};
 ghost use Rattle.matter_bodies.specs.Bodies.{deposit_clearing, deposit_returning, deposit_state_name};
-ghost use Rattle.matter_bodies.specs.Bodies.{fund_name as fund_name_in, import_body, issued_on, matter_body};
+ghost use Rattle.matter_bodies.specs.Bodies.{fund_name as fund_name_in, import_body, matter_body};
 ghost use Rattle.matter_bodies.specs.Bodies.{matter_members, opened_value, payment_clearing, payment_state_name};
 ghost use Rattle.matter_bodies.specs.Bodies.{purge_body, purge_members};
-ghost use Rattle.matter_bodies.specs.Bodies.{purged_on, receipt_body, undone_on, voided_on};
+ghost use Rattle.matter_bodies.specs.Bodies.{purged_on, receipt_body, undone_on};
 ghost use Rattle.matter_bodies.specs.Json.{amount_value, array_of, day_value, entry_value, members_between, object_of, or_null, value_tokens};
 ghost use Rattle.matter_bodies.specs.Values.{data_of, member_of, seat_object};
 
@@ -711,8 +712,8 @@ pub fn entry_body(
 }
 
 /// The outcome of importing a bank statement: how many lines were applied, were repeats or are now exceptions, how many
-/// records could not be read, and the day of the last closing balance that was applied or repeated. That day is None as
-/// long as no balances are stored.
+/// records could not be read, and the day of the last closing balance that was applied or repeated. That day is None
+/// where the statement has no such balance.
 #[derive(Clone, Copy)]
 pub struct ImportReply {
     pub applied: u64,

@@ -50,8 +50,11 @@ is_deposit_returned_by (deposit.Cancelled day) line = false
 is_deposit_returned_by (deposit.Returned r) line = is_clearing_by r.returning line
 
 abbrev pub is_payment_cleared_by : PaymentState → Line → Bool
+is_payment_cleared_by payment.Proposed line = false
+is_payment_cleared_by payment.Declined line = false
+is_payment_cleared_by (payment.Issued day) line = false
 is_payment_cleared_by (payment.Cleared c) line = is_clearing_by c.clearing line
-is_payment_cleared_by _ line = false
+is_payment_cleared_by (payment.Voided v) line = false
 
 -- this line already cleared the entry, or took the deposit back: its date, bank reference and amount are on record
 abbrev pub is_line_again : Option Entry → Line → Bool
@@ -82,8 +85,11 @@ is_return (Some (entry.Claim c)) line = false
 
 -- an issued payment is cleared, and keeps the day of its issue
 abbrev pub cleared_payment : Line → PaymentState → PaymentState
+cleared_payment line payment.Proposed = payment.Proposed
+cleared_payment line payment.Declined = payment.Declined
 cleared_payment line (payment.Issued day) = payment.Cleared (record { issued = day; clearing = clearing_by line })
-cleared_payment line s = s
+cleared_payment line (payment.Cleared c) = payment.Cleared c
+cleared_payment line (payment.Voided v) = payment.Voided v
 
 -- a held deposit is cleared; a cleared one is returned on the business day
 abbrev pub deposit_by : Line → ℕ → DepositState → DepositState

@@ -27,12 +27,29 @@ cancelling (deposit.Cleared c) amount = []
 cancelling (deposit.Cancelled day) amount = paid_out day amount ∷ []
 cancelling (deposit.Returned r) amount = paid_out r.undone amount ∷ []
 
+-- the day on which a payment was issued; none while it is proposed, and if it was declined
+abbrev pub issued_on : PaymentState → Option ℕ
+issued_on payment.Proposed = None
+issued_on payment.Declined = None
+issued_on (payment.Issued day) = Some day
+issued_on (payment.Cleared c) = Some c.issued
+issued_on (payment.Voided v) = Some v.issued
+
+-- the day on which it was voided
+abbrev pub voided_on : PaymentState → Option ℕ
+voided_on payment.Proposed = None
+voided_on payment.Declined = None
+voided_on (payment.Issued day) = None
+voided_on (payment.Cleared c) = None
+voided_on (payment.Voided v) = Some v.undone
+
 -- issuing a payment pays the amount out, voiding brings it back
 abbrev pub payments : PaymentState → ℕ → List Event
+payments payment.Proposed amount = []
+payments payment.Declined amount = []
 payments (payment.Issued day) amount = paid_out day amount ∷ []
 payments (payment.Cleared c) amount = paid_out c.issued amount ∷ []
 payments (payment.Voided v) amount = paid_out v.issued amount ∷ received v.undone amount ∷ []
-payments _ amount = []
 
 -- what an entry has moved so far, in order
 unfoldable pub events_of : Entry → List Event

@@ -20,9 +20,11 @@ use Rattle.matter_rows.specs.Sound.{Sound, part_of}
 
 -- the payment is issued or cleared
 abbrev pub is_paid : PaymentState → Bool
+is_paid payment.Proposed = false
+is_paid payment.Declined = false
 is_paid (payment.Issued day) = true
 is_paid (payment.Cleared c) = true
-is_paid _ = false
+is_paid (payment.Voided v) = false
 
 abbrev pub is_fee_no : ℕ → Fund → Bool
 is_fee_no k fund.General = false

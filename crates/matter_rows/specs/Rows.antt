@@ -141,11 +141,17 @@ is_held_state (deposit.Returned r) = false
 
 abbrev pub is_proposed_state : PaymentState → Bool
 is_proposed_state payment.Proposed = true
-is_proposed_state _ = false
+is_proposed_state payment.Declined = false
+is_proposed_state (payment.Issued day) = false
+is_proposed_state (payment.Cleared c) = false
+is_proposed_state (payment.Voided v) = false
 
 abbrev pub is_issued_state : PaymentState → Bool
+is_issued_state payment.Proposed = false
+is_issued_state payment.Declined = false
 is_issued_state (payment.Issued day) = true
-is_issued_state _ = false
+is_issued_state (payment.Cleared c) = false
+is_issued_state (payment.Voided v) = false
 
 -- the name of a role, as it is typed and told
 abbrev pub role_name : Role → List ℕ

@@ -16,9 +16,11 @@ use Rattle.matter_rows.specs.declared.shares.Shares.{Shares}
 
 -- a payment counts while issued or cleared
 abbrev pub paid : PaymentState → ℕ → ℤ
+paid payment.Proposed a = pos 0
+paid payment.Declined a = pos 0
 paid (payment.Issued day) a = pos a
 paid (payment.Cleared c) a = pos a
-paid _ a = pos 0
+paid (payment.Voided v) a = pos 0
 
 -- what a claim keeps apart
 abbrev pub apart : ClaimState → ℕ → ℤ
@@ -166,8 +168,10 @@ claim_share (entry.Claim c) = on_general c.against (to_claimant c.state c.amount
 
 abbrev pub pending_payment : PaymentState → ℤ
 pending_payment payment.Proposed = pos 1
+pending_payment payment.Declined = pos 0
 pending_payment (payment.Issued day) = pos 1
-pending_payment _ = pos 0
+pending_payment (payment.Cleared c) = pos 0
+pending_payment (payment.Voided v) = pos 0
 
 -- 1 for a proposed or issued payment
 unfoldable pub pending_share : Entry → ℤ

@@ -65,10 +65,11 @@ deposit_days (deposit.Cancelled day) = day ∷ []
 deposit_days (deposit.Returned r) = r.undone ∷ []
 
 abbrev pub payment_days : PaymentState → List ℕ
+payment_days payment.Proposed = []
+payment_days payment.Declined = []
 payment_days (payment.Issued day) = day ∷ []
 payment_days (payment.Cleared c) = c.issued ∷ []
 payment_days (payment.Voided v) = v.issued ∷ v.undone ∷ []
-payment_days _ = []
 
 abbrev pub claim_days : ClaimState → List ℕ
 claim_days claim.Open = []
@@ -89,8 +90,11 @@ deposit_bank (deposit.Cancelled day) = []
 deposit_bank (deposit.Returned r) = r.clearing.bank_day ∷ r.returning.bank_day ∷ []
 
 abbrev pub payment_bank : PaymentState → List ℕ
+payment_bank payment.Proposed = []
+payment_bank payment.Declined = []
+payment_bank (payment.Issued day) = []
 payment_bank (payment.Cleared c) = c.clearing.bank_day ∷ []
-payment_bank _ = []
+payment_bank (payment.Voided v) = []
 
 abbrev pub bank_days : Entry → List ℕ
 bank_days (entry.Deposit d) = deposit_bank d.state

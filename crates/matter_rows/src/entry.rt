@@ -65,7 +65,7 @@ impl Entry {
                     PaymentState::Proposed => (0, 1),
                     PaymentState::Issued(_) => (amount, 1),
                     PaymentState::Cleared(_) => (amount, 0),
-                    _ => (0, 0),
+                    PaymentState::Declined | PaymentState::Voided(_) => (0, 0),
                 };
                 shares.pending = pending;
                 match p.fund {
@@ -111,7 +111,7 @@ impl Entry {
         match self {
             Entry::Payment(p) => match &p.state {
                 PaymentState::Issued(_) | PaymentState::Cleared(_) => p.amount.get() as i64,
-                _ => 0,
+                PaymentState::Proposed | PaymentState::Declined | PaymentState::Voided(_) => 0,
             },
             Entry::Claim(c) => match &c.against {
                 Against::General(_) => 0,

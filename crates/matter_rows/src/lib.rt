@@ -5,8 +5,6 @@
 //!
 //! By public call, with the clauses of its contract in brackets.
 //!
-//! - `Matter::part`, `Matter::holds`: the part of the named entries and of those that they draw on; whether an entry is
-//!   kept or isn't there.
 //! - `Caller::copied`: a deep copy. An `Act` is what a change of a matter is remembered as: of which entry, on which
 //!   business day, by whom, and what was done.
 //! - `laws` `sound_is_covered`: a matter's cleared deposits less its payments are what is available, disputed, left of

@@ -6,6 +6,7 @@ ghost use Rattle.matter_rows.specs.Shares.{number_or_none, fund_no};
 ghost use Rattle.matter_rows.specs.Rows.{is_same_fund, entry_at};
 ghost use Rattle.matter_rows.specs.Clearings.{clearing_by, is_payment_cleared_by, cleared_payment};
 ghost use Rattle.matter_rows.specs.Balances.{funds};
+ghost use Rattle.matter_rows.specs.Events.{issued_on};
 ghost use Rattle.matter_rows.specs.Sound.{payment_days, payment_bank, AreRising, funded_from};
 
 use crate::claim::Claim;
@@ -121,6 +122,18 @@ impl PaymentState {
         }
     }
 
+    /// The day on which the payment was issued. None while it is proposed, and if it was declined.
+    pub fn issued_on(&self) -> Option<Day>
+        ensures { result ≡ issued_on self.now }
+    {
+        match self {
+            PaymentState::Proposed | PaymentState::Declined => None,
+            PaymentState::Issued(day) => Some(*day),
+            PaymentState::Cleared(paid) => Some(paid.issued),
+            PaymentState::Voided(voided) => Some(voided.issued),
+        }
+    }
+
     /// Whether the payment was cleared with the line's date and bank reference.
     pub fn is_cleared_by(&self, line: &Line) -> bool
         ensures { result ≡ is_payment_cleared_by self.now line.now }
@@ -144,7 +157,10 @@ impl PaymentState {
                 issued: *issued,
                 clearing: clearing_by(line)?,
             })),
-            _ => self.copied(),
+            PaymentState::Proposed
+            | PaymentState::Declined
+            | PaymentState::Cleared(_)
+            | PaymentState::Voided(_) => self.copied(),
         }
     }
 

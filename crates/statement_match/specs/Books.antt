@@ -29,9 +29,12 @@ deposit_waiting m n d (deposit.Returned r) = []
 
 -- a payment waits while it is issued
 abbrev pub payment_waiting : ℕ → ℕ → Payment → PaymentState → List Waiting
+payment_waiting m n p payment.Proposed = []
+payment_waiting m n p payment.Declined = []
 payment_waiting m n p (payment.Issued day) =
     waiting_payment (reference_text m n) p.amount day p.instrument ∷ []
-payment_waiting m n p _ = []
+payment_waiting m n p (payment.Cleared c) = []
+payment_waiting m n p (payment.Voided v) = []
 
 abbrev pub entry_waiting : ℕ → ℕ → Entry → List Waiting
 entry_waiting m n (entry.Deposit d) = deposit_waiting m n d d.state
@@ -60,8 +63,11 @@ deposit_bookings amount (deposit.Returned r) =
 
 -- the line that cleared a payment
 abbrev pub payment_bookings : ℕ → PaymentState → List Booking
+payment_bookings amount payment.Proposed = []
+payment_bookings amount payment.Declined = []
+payment_bookings amount (payment.Issued day) = []
 payment_bookings amount (payment.Cleared c) = booked_by c.clearing (pos 0 -ℤ pos amount) ∷ []
-payment_bookings amount _ = []
+payment_bookings amount (payment.Voided v) = []
 
 abbrev pub entry_bookings : Entry → List Booking
 entry_bookings (entry.Deposit d) = deposit_bookings d.amount d.state

@@ -86,8 +86,11 @@ deposit_returned amount (deposit.Returned r) = record { clearing = r.returning; 
 
 -- what cleared a payment
 abbrev pub payment_cleared : ℕ → PaymentState → List Showed
+payment_cleared amount payment.Proposed = []
+payment_cleared amount payment.Declined = []
+payment_cleared amount (payment.Issued day) = []
 payment_cleared amount (payment.Cleared c) = record { clearing = c.clearing; amount = pos 0 -ℤ pos amount } ∷ []
-payment_cleared amount _ = []
+payment_cleared amount (payment.Voided v) = []
 
 abbrev pub cleared_by : Entry → List Showed
 cleared_by (entry.Deposit d) = deposit_cleared d.amount d.state

@@ -1,5 +1,5 @@
 -- Laws: who had a seat when, whether each act was allowed, and that each payment that was issued has its approval.
-use Rattle.std.specs.Prelude.{◌≡◌, ℕ, Bool, true, false, ◌&&◌, List, [], ◌∷◌, ◌++◌, map, fold, Option, Some, None}
+use Rattle.std.specs.Prelude.{◌≡◌, ℕ, Bool, true, false, ◌&&◌, List, [], ◌∷◌, ◌++◌, map, fold, Option, Some, None, option_to_list}
 use Rattle.std.specs.List.{AllByRecursion, filter}
 use Rattle.trust_base.specs.declared.refusal.Refusal.{Refusal}
 use Rattle.trust_base.specs.declared.refusal.Rule.{Rule}
@@ -12,9 +12,9 @@ use Rattle.matter_rows.specs.declared.act.Deed.TheVariants as deed
 use Rattle.matter_rows.specs.declared.entry.Entry.{Entry}
 use Rattle.matter_rows.specs.declared.entry.Entry.TheVariants as entry
 use Rattle.matter_rows.specs.declared.payment.PaymentState.{PaymentState}
-use Rattle.matter_rows.specs.declared.payment.PaymentState.TheVariants as payment
 use Rattle.matter_rows.specs.declared.seat.Role.TheVariants as role
 use Rattle.matter_rows.specs.declared.seat.Seat.{Seat}
+use Rattle.matter_rows.specs.Events.{issued_on}
 use Rattle.matter_rows.specs.Rows.{Rows, entry_at, is_number, role_in, seats_with, seats_without}
 use Rattle.matter_rows.specs.Sound.{Sound}
 use Rattle.matter_parts.specs.declared.edit.Edit.{Edit}
@@ -52,8 +52,14 @@ begins_with_opening (act ∷ acts) = is_opened_by act.deed
 
 -- a purge, which leaves nothing, is where the acts begin anew
 abbrev pub begun_by : Edit → Beginning → Beginning
+begun_by edit.Nothing b = b
+begun_by (edit.Open opening) b = b
+begun_by (edit.Seat seat) b = b
+begun_by (edit.Unseat person) b = b
+begun_by (edit.Close day) b = b
 begun_by (edit.Purge day) b = nothing_before
-begun_by _ b = b
+begun_by (edit.Append entry) b = b
+begun_by (edit.Exchange entry) b = b
 
 abbrev pub begun_after : Option Refusal → Edit → Beginning → Beginning
 begun_after None e b = begun_by e b
@@ -145,14 +151,11 @@ LawyersApprove =
 
 -- The approvals.
 
--- the day on which a payment was issued; none while it is proposed, and if it was declined
+-- the day on which a payment was issued, if it was
 abbrev pub issue_days : PaymentState → List ℕ
-issue_days payment.Proposed = []
-issue_days (payment.Issued day) = day ∷ []
-issue_days (payment.Cleared c) = c.issued ∷ []
-issue_days (payment.Voided v) = v.issued ∷ []
-issue_days payment.Declined = []
+issue_days s = option_to_list (issued_on s)
 
+-- of anything else there is none
 abbrev pub days_of_issue : Option Entry → List ℕ
 days_of_issue None = []
 days_of_issue (Some (entry.Deposit d)) = []

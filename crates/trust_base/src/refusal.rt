@@ -65,13 +65,13 @@ pub enum Rule {
     Dispute,
     /// Raising a claim on the general fund.
     Claim,
-    /// Proposing a payment.
+    /// Proposing a payment, and withdrawing a proposal.
     Propose,
     /// Approving, declining and voiding payments, earning a fee, offering.
     Sign,
     /// Opening and purging a matter, seats, making and cancelling deposits, awards, closing.
     Office,
-    /// Bank statements and all reports of the firm.
+    /// Bank statements, dismissing an exception, and all reports of the firm.
     Firm,
 }
 
@@ -111,7 +111,7 @@ pub enum Refusal {
     NoEntry,
     /// 16: the named entry is of another kind, or is a claim on a fee where one on the general fund is needed.
     WrongKind,
-    /// 17: the entry is not in the state that the request needs.
+    /// 17: the entry, or the matter that is to be purged, is not in the state that the request needs.
     WrongState,
     /// 18: the payee or claimant is cash.
     PayeeIsCash,
@@ -135,7 +135,7 @@ pub enum Refusal {
     NoStatement,
     /// 28: a matter of that period was already purged.
     PeriodPurged,
-    /// 29: the store refused an SQL statement or a transaction, or a stored row is invalid.
+    /// 29: the store refused a call, or a stored row is invalid.
     Store,
     /// 30: out of memory.
     Memory,
@@ -144,7 +144,7 @@ pub enum Refusal {
 /// Why a call of the store failed.
 #[derive(Clone, Copy, Debug, Error)]
 pub enum StoreFault {
-    /// The store refused an SQL statement or a transaction, or a stored row is invalid.
+    /// The store refused a call, or a stored row is invalid.
     #[error("the store failed")]
     Store,
     /// Out of memory.

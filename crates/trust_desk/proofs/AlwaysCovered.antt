@@ -1,10 +1,9 @@
 -- No step leaves a firm unsound.
-use Rattle.trust_desk.proofs.Names.{◌≡◌, ℕ, List, [], ◌∷◌, Option, Some, None, refl, Refusal, BankLine, LineEffect, Asked, line_on, last_after, HasAmount, refusal, edit_on, sound-covered, step, Line, BalanceKind, Firm, of, acted, after_edit, after, by_balance, by_firm_line, FirmSound, edit-sound, sound-acts, ledger-least, balance-fits, firm_line-fits, Item, after_told, after_item, after_items, balance_on, firm_line_on, Heard, Kind, OfMatter, OfItems, Dismisses, kind_of, asked_on, after_asked, after_ask, firm_step, kind_step, dismiss_refusal, dismissed_unless, AlwaysSound, arith, ints, nat_tests}
+use Rattle.trust_desk.proofs.Names.{◌≡◌, ℕ, List, [], ◌∷◌, Option, Some, None, refl, Refusal, BankLine, LineEffect, Asked, line_on, last_after, HasAmount, refusal, edit_on, sound-covered, step, Line, BalanceKind, Firm, of, acted, after_edit, after, by_balance, by_firm_line, FirmSound, edit-sound, sound-trail, ledger-least, balance-fits, firm_line-fits, Item, after_told, after_item, after_items, balance_on, firm_line_on, Heard, Kind, OfMatter, OfItems, Dismisses, kind_of, asked_on, after_asked, after_ask, firm_step, kind_step, dismiss_refusal, dismissed_unless, AlwaysSound, arith, ints, nat_tests}
 use Rattle.trust_matter.specs.declared.line_verdict.LineEffect.TheVariants as told
 use Rattle.firm_rows.specs.declared.ledger.BalanceKind.TheVariants as kind
 use Rattle.firm_rows.proofs.FirmChanges.{change-stays-sound}
-use Rattle.firm_rows.proofs.Dismissals.{dismissed-sound}
-use Rattle.firm_rows.proofs.Lines.{match-sound, stray-stays-sound}
+use Rattle.firm_rows.proofs.Lines.{dismissed-sound, match-sound, stray-stays-sound}
 use Rattle.firm_rows.specs.Firm.{joined_acts}
 use Rattle.statement_csv.specs.declared.item.Item.TheVariants as item
 use Rattle.trust_matter.specs.Step.{act_on}
@@ -21,7 +20,7 @@ sound-after_ask m a firm amount sound = cases (refusal (of m firm) a) refl
         let e = edit_on (of m firm) a in
         let last = last_after (of m firm).head e a.day in
         let edited = after_edit m e last firm in
-        sound-acts (joined_acts m e (act_on (of m firm) a) edited.acts) edited
+        sound-trail (joined_acts m e (act_on (of m firm) a) edited.acts) edited.dismissals edited
         (edit-sound sound-covered m e last firm sound (kept-by_step s))
     cases (Some r) told = sound
 
@@ -32,7 +31,7 @@ sound-after_told day l (told.Applied e) firm applied sound =
     let s = line-fits (of l.matter firm) l day e (sound.matters l.matter) applied in
     let edited = after_edit l.matter e.edit e.last firm in
     match-sound l.line (acted l.matter e.edit (Some (told_act l day firm)) edited)
-    (sound-acts (joined_acts l.matter e.edit (Some (told_act l day firm)) edited.acts) edited
+    (sound-trail (joined_acts l.matter e.edit (Some (told_act l day firm)) edited.acts) edited.dismissals edited
     (edit-sound sound-covered l.matter e.edit e.last firm sound s))
 sound-after_told day l told.Repeat firm repeat sound = match-sound l.line firm sound
 sound-after_told day l (told.Unmatched r) firm unmatched sound = stray-stays-sound l.line firm sound

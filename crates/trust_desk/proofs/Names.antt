@@ -1,5 +1,5 @@
 -- The names that the proofs of this crate cite, passed on from one place. Declares nothing.
-pub use Rattle.firm_rows.proofs.Acts.{sound-acts}
+pub use Rattle.firm_rows.proofs.Trail.{sound-trail}
 pub use Rattle.firm_rows.proofs.Changed.{of-after_edit, of_other-after_edit}
 pub use Rattle.firm_rows.proofs.Kept.{IsKept, edit-sound, ledger-least}
 pub use Rattle.firm_rows.proofs.LinesStay.{edit-leaves}

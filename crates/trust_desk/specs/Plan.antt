@@ -40,6 +40,11 @@ pub record IsReadOf (m : ℕ) (ask : Ask) (result : Result Part StoreFault) (old
 
 -- the status of the reply to an ask with this edit: 201 if something is made
 abbrev pub status_of_edit : Edit → ℕ
+status_of_edit edit.Nothing = 200
 status_of_edit (edit.Open o) = 201
+status_of_edit (edit.Seat s) = 200
+status_of_edit (edit.Unseat p) = 200
+status_of_edit (edit.Close day) = 200
+status_of_edit (edit.Purge day) = 200
 status_of_edit (edit.Append x) = 201
-status_of_edit _ = 200
+status_of_edit (edit.Exchange x) = 200

@@ -157,8 +157,11 @@ with_payment n _ next = edit.Nothing
 
 -- an issued payment, voided on a day
 abbrev pub voided : ℕ → PaymentState → PaymentState
+voided day payment.Proposed = payment.Proposed
+voided day payment.Declined = payment.Declined
 voided day (payment.Issued issued) = payment.Voided (record { issued = issued; undone = day })
-voided day s = s
+voided day (payment.Cleared c) = payment.Cleared c
+voided day (payment.Voided v) = payment.Voided v
 
 -- a claim changed to another state
 abbrev pub with_claim : ℕ → Option Entry → ClaimState → Edit

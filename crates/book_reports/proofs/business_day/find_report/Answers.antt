@@ -1,6 +1,7 @@
-use Rattle.book_reports.proofs.Names.{◌≡◌, ◌++◌, fold, ap, rules, ◌∙◌, Firm, no_journal, trial_kept, with_moved, with_trial_own, with_trial_row, none_retained, with_row_retained, own_card_text, exception_line, exceptions_text, journal_text, retention_text, trial_text, own_card_report, arith, ints, nat_tests}
-use Rattle.trust_reports.specs.TextsOfActs.{act_line}
-use Rattle.book_reports.proofs.ReportTexts.{exceptions-told, handed-before, journal-told, retention-told, trail-told, trial-told}
+use Rattle.book_reports.proofs.Names.{◌≡◌, [], ◌++◌, fold, ap, rules, ◌∙◌, Firm, no_journal, trial_kept, with_moved, with_trial_own, with_trial_row, none_retained, with_row_retained, own_card_text, exception_line, exceptions_text, journal_text, retention_text, trial_text, own_card_report, arith, ints, nat_tests}
+use Rattle.trust_reports.specs.TextsOfActs.{act_line, trail_text}
+use Rattle.book_reports.proofs.ReadCalls.{both-handed}
+use Rattle.book_reports.proofs.ReportTexts.{exceptions-told, journal-told, retention-told, trail-told, trial-told}
 use Rattle.book_reports.proofs.business_day.find_report.Goals as goal
 
 pub returns-in_ok-each_exception-in-Exceptions-clause-told : goal.returns-in_ok-each_exception-in-Exceptions-clause-told
@@ -14,10 +15,10 @@ returns-in_ok-trial_text-in-Trial-clause-told g c =
     let firm : Firm = (B.seen c.args.book.now).firm in
     let first = c.in_ok-each_row-in-Trial.ensures in
     let second = c.in_ok-each_firm_line-in-Trial.ensures in
-    let served = second.read.was_clean clean in
-    let rows = first.handed served stands in
-    let lines = handed-before (λ (f : Firm). f.firm_lines) (first.read.same served stands) (second.handed clean (first.read.still_stands served stands)) in
-    let began = c.of-trial.ensures ∙ c.new-in-Trial.ensures in
+    let handed = both-handed (λ (f : Firm). f.rows) (λ (f : Firm). f.firm_lines) first.read first.handed second.read second.handed clean stands in
+    let rows = handed.0 in
+    let lines = handed.1 in
+    let began = c.of-trial.ensures ∙ c.new.ensures in
     let kept : c.into_sink.result ≡ trial_kept firm =
     c.into_sink.ensures ∙ lines.all ∙ ap (λ s. fold with_trial_own s firm.firm_lines) (rows.all ∙ ap (λ s. fold with_trial_row s firm.rows) began) in
     let balance = c.finish-balance.ensures in
@@ -47,9 +48,11 @@ returns-in_ok-each_dismissal-in-Trail-clause-told g c =
     let firm : Firm = (B.seen c.args.book.now).firm in
     let first = c.in_ok-each_act-in-Trail.ensures in
     let second = c.in_ok-each_dismissal-in-Trail.ensures in
-    let served = second.read.was_clean clean in
-    let acts = first.handed served stands in
-    let dismissals = handed-before (λ (f : Firm). f.dismissals) (first.read.same served stands) (second.handed clean (first.read.still_stands served stands)) in
-    let begun = ap (λ s. fold (λ text act. text ++ act_line act) s firm.acts) c.in_ok-trail-in-Trail.ensures in
-    let told = trail-told c.args.today firm c.each_act.new.sink c.each_dismissal.new.sink (acts.all ∙ begun) dismissals.all in
+    let handed = both-handed (λ (f : Firm). f.acts) (λ (f : Firm). f.dismissals) first.read first.handed second.read second.handed clean stands in
+    let headed =
+    c.below-trail.ensures
+    ∙ (c.in_ok-trail_text-in-Trail.ensures.ok
+    ∙ (λ i. c.new-text.ensures.items i ++ trail_text c.args.today [] [])) in
+    let begun = ap (λ s. fold (λ text act. text ++ act_line act) s firm.acts) headed in
+    let told = trail-told c.args.today firm c.each_act.new.sink c.each_dismissal.new.sink (handed.0.all ∙ begun) handed.1.all in
     rw c.in-Trail.is (c.finish-in-Trail.ensures ∙ told)

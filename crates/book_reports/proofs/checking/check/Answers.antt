@@ -1,4 +1,4 @@
-use Rattle.std.proofs.Common.{rules, ◌≡◌, Option, None, Some, subst}
+use Rattle.std.proofs.Common.{rules, ◌≡◌, Option, None, subst}
 use Rattle.std.specs.Prelude.{◌↔◌, IfSome}
 use Rattle.firm_audit.specs.Flaws.{IsFlawOf}
 use Rattle.firm_audit.specs.declared.flaw.Flaw.{Flaw}

@@ -1,6 +1,6 @@
 use Rattle.book_reports.proofs.Names.{rules, ◌≡◌, ◌++◌, fold, ap, refl, ◌∙◌, Firm, clients_of, clients_text, with_client_own, with_client_row, arith, ints, nat_tests, counted}
-use Rattle.book_reports.proofs.ReadCalls.{read-then}
-use Rattle.book_reports.proofs.ReportTexts.{clients-listed, clients-told, handed-before}
+use Rattle.book_reports.proofs.ReadCalls.{both-handed, read-then}
+use Rattle.book_reports.proofs.ReportTexts.{clients-listed, clients-told}
 use Rattle.book_reports.proofs.day_reports.append_clients.Goals as goal
 
 pub returns-clause-told : goal.returns-clause-told
@@ -11,9 +11,9 @@ returns-clause-told g c =
     let sound = (B.seen c.args.book.now).sound stands in
     let first = c.in_ok-each_row.ensures in
     let second = c.in_ok-each_firm_line.ensures in
-    let served = second.read.was_clean clean in
-    let rows = first.handed served stands in
-    let lines = handed-before (λ (f : Firm). f.firm_lines) (first.read.same served stands) (second.handed clean (first.read.still_stands served stands)) in
+    let handed = both-handed (λ (f : Firm). f.rows) (λ (f : Firm). f.firm_lines) first.read first.handed second.read second.handed clean stands in
+    let rows = handed.0 in
+    let lines = handed.1 in
     let all = lines.all ∙ ap (λ s. fold with_client_own s firm.firm_lines) (rows.all ∙ ap (λ s. fold with_client_row s firm.rows) c.new-clients.ensures) in
     let kept : c.each_firm_line.new.sink ≡ clients_of c.args.as_of firm =
     clients-listed c.args.as_of firm c.each_firm_line.new.sink sound rows.countable lines.countable all in

@@ -1,7 +1,6 @@
 use Rattle.book_reports.proofs.Names.{fold, ap, ◌∙◌, Firm, arith, ints, nat_tests, counted}
 use Rattle.firm_periods.specs.Approvals.{with_approval, with_issued_row}
-use Rattle.book_reports.proofs.ReadCalls.{read-then}
-use Rattle.book_reports.proofs.ReportTexts.{handed-before}
+use Rattle.book_reports.proofs.ReadCalls.{both-handed, read-then}
 use Rattle.book_reports.proofs.day_reports.read_approvals.Goals as goal
 
 pub returns-clause-told : goal.returns-clause-told
@@ -11,10 +10,8 @@ returns-clause-told g c =
     let firm : Firm = (B.seen c.args.book.now).firm in
     let first = c.in_ok-each_act.ensures in
     let second = c.in_ok-each_row.ensures in
-    let served = second.read.was_clean clean in
-    let acts = first.handed served stands in
-    let rows = handed-before (λ (f : Firm). f.rows) (first.read.same served stands) (second.handed clean (first.read.still_stands served stands)) in
-    rows.all ∙ ap (λ s. fold with_issued_row s firm.rows) (acts.all ∙ ap (λ s. fold with_approval s firm.acts) c.new-approvals.ensures)
+    let handed = both-handed (λ (f : Firm). f.acts) (λ (f : Firm). f.rows) first.read first.handed second.read second.handed clean stands in
+    handed.1.all ∙ ap (λ s. fold with_issued_row s firm.rows) (handed.0.all ∙ ap (λ s. fold with_approval s firm.acts) c.new-approvals.ensures)
 
 pub returns-clause-read : goal.returns-clause-read
 returns-clause-read g c =

@@ -3,8 +3,8 @@ use Rattle.matter_rows.specs.Rows.{is_purged}
 use Rattle.trust_reports.specs.TextsOfActs.{matter_trail_text}
 unfoldable use Rattle.book_reports.specs.Reports.{matter_trail_report}
 use Rattle.book_reports.specs.Trails.{with_act_of}
-use Rattle.book_reports.proofs.ReadCalls.{read-then}
-use Rattle.book_reports.proofs.ReportTexts.{acts-listed, handed-before}
+use Rattle.book_reports.proofs.ReadCalls.{handed-before, read-then}
+use Rattle.book_reports.proofs.ReportTexts.{acts-listed}
 use Rattle.book_reports.proofs.matter_trail.find_trail.Goals as goal
 
 pub returns-clause-told : goal.returns-clause-told

@@ -25,7 +25,7 @@ one-more a b f y config source read =
 
 pub loop-row-init : goal.loop-row-init
 loop-row-init g c =
-    let fr = c.from_reader-rdr.ensures in
+    let fr = c.from_reader-reader.ensures in
     let e = c.has_headers.ensures in
     let f = c.flexible.ensures in
     let start = c.into_iter-row-iterator.ensures.into_iter_gives in

@@ -19,7 +19,7 @@ approved p n false is = cases (begins_with_opening p.acts) refl is.1
     cases : (b : Bool) → begins_with_opening p.acts ≡ b → IsSignedFrom b p → IsApproved p n
     cases true begins signed =
         subst (λ (b : Bool). IsApprovedAs b (days_of_approval n p.acts) (days_of_issue (entry_at p.rows.entries n))) (sym begins) (signed.issued n)
-    cases false later each = each n
+    cases false later signed = signed.approved n
 
 -- and no entry that is not there has an act
 no-flaw : (p : Dossier) (n : ℕ) (gone : Bool) → IsTrailWhere gone p → IsEntryFlaw p n → ⊥

@@ -1,13 +1,13 @@
-use Rattle.firm_audit.proofs.Names.{◌≡◌, List, [], ◌∷◌, length, true, None, refl, sym, ◌∙◌, arith, rules, subst, false≢true, entries_kept, AllByRecursion, Kept}
+use Rattle.firm_audit.proofs.Names.{◌≡◌, List, [], ◌∷◌, length, true, false, None, refl, sym, ◌∙◌, arith, rules, subst, false≢true, entries_kept, AllByRecursion, Kept}
 use Rattle.std.proofs.lemmas.Result.{IfOk-weaker}
 use Rattle.matter_rows.specs.declared.act.Act.{Act}
 use Rattle.matter_rows.specs.declared.seat.Seat.{Seat}
 use Rattle.matter_rows.specs.Rows.{is_gone}
 use Rattle.trail_laws.specs.Signed.{begins_with_opening}
-use Rattle.firm_audit.specs.Trails.{AreEntriesFound, AreSeatedBy, IsOfEntry}
+use Rattle.firm_audit.specs.Trails.{AreEntriesFound, AreSeatedBy, IsOfEntry, MayBeAllowed}
 use Rattle.firm_audit.proofs.FoundTrails.{entries-tell}
 use Rattle.firm_audit.proofs.trail.matter_found.Goals as goal
-use Rattle.firm_audit.proofs.trail.matter_found.Goals.{then-is_gone+else-not-is_empty, else-is_gone, then-begins_with_opening+in_ok-are_seated+else-not-branch, else-begins_with_opening}
+use Rattle.firm_audit.proofs.trail.matter_found.Goals.{then-is_gone+else-not-is_empty, else-is_gone, then-begins_with_opening+in_ok-are_seated+else-not-branch, else-begins_with_opening+else-not-may_all_be_allowed}
 
 empty : (acts : List Act) → length acts ≡ 0 → acts ≡ []
 empty [] none = refl
@@ -25,13 +25,17 @@ returns c =
       | then-begins_with_opening+in_ok-are_seated+else-not-branch w ↦ λ is.
           subst (λ (seats : List Seat). AreSeatedBy acts seats) w.seats.ensures
           (let so : AreSeatedBy acts w.seats.result.now = search rules in so)
-      | else-begins_with_opening w ↦ λ is. absurd (false≢true (sym w.if-begins_with_opening.false ∙ (c.begins_with_opening.ensures ∙ is)))
+      | else-begins_with_opening+else-not-may_all_be_allowed w ↦ λ is. absurd (false≢true (sym w.if-begins_with_opening.false ∙ (c.begins_with_opening.ensures ∙ is)))
+    ] in
+    let allowed : begins_with_opening acts ≡ false → AllByRecursion MayBeAllowed acts = elim c.if-begins_with_opening.branch [
+      | then-begins_with_opening+in_ok-are_seated+else-not-branch w ↦ λ later. absurd (false≢true (sym later ∙ (sym c.begins_with_opening.ensures ∙ w.if-begins_with_opening.true)))
+      | else-begins_with_opening+else-not-may_all_be_allowed w ↦ λ later. w.may_all_be_allowed.ensures.0 w.if-not-may_all_be_allowed.false
     ] in
     let none : c.stray_entry.result ≡ None = search rules in
     let there : AllByRecursion (λ act. IsOfEntry (entries_kept k.matter.kept) act.entry) acts =
     subst (λ (ks : List Kept). AllByRecursion (λ act. IsOfEntry (entries_kept ks) act.entry) acts) c.kept-entries.ensures
     (c.stray_entry.ensures.none none) in
     IfOk-weaker c.entries_found.result _ _
-    (λ told is. entries-tell k acts c.requires.whole.numbered gone seated there c.args.before told
+    (λ told is. entries-tell k acts c.requires.whole.numbered gone seated allowed there c.args.before told
     (subst (λ (ks : List Kept). AreEntriesFound k.number ks acts c.args.before told) c.kept-entries.ensures is))
     c.entries_found.ensures

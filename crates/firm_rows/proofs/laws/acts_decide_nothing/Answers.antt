@@ -1,4 +1,4 @@
-use Rattle.firm_rows.proofs.Acts.{acts-decide-nothing}
+use Rattle.firm_rows.proofs.Trail.{acts-decide-nothing}
 use Rattle.firm_rows.proofs.laws.acts_decide_nothing.Goals as goal
 
 pub returns : goal.returns

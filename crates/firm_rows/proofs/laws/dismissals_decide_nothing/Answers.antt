@@ -1,4 +1,4 @@
-use Rattle.firm_rows.proofs.Dismissals.{dismissals-decide-nothing}
+use Rattle.firm_rows.proofs.Trail.{dismissals-decide-nothing}
 use Rattle.firm_rows.proofs.laws.dismissals_decide_nothing.Goals as goal
 
 pub returns : goal.returns

@@ -1,4 +1,4 @@
-use Rattle.firm_rows.proofs.Dismissals.{dismissals-of-one-change}
+use Rattle.firm_rows.proofs.Trail.{dismissals-of-one-change}
 use Rattle.firm_rows.proofs.laws.dismissals_of_one_change.Goals as goal
 
 pub returns : goal.returns

@@ -1,7 +1,7 @@
 use Rattle.trust_store.proofs.Names.{◌≡◌, [], None, refl, sym, subst, ◌∙◌, changed, with_trail, OfMatter, FirmSound, firm_of, rows_in}
 use Rattle.matter_parts.specs.declared.edit.Edit.TheVariants.{Nothing}
 use Rattle.firm_rows.proofs.Acts.{acts-joined}
-use Rattle.firm_rows.proofs.Dismissals.{sound-trail}
+use Rattle.firm_rows.proofs.Trail.{sound-trail}
 use Rattle.trust_store.proofs.KeptMatters.{change_in, kept-whole, written_firm}
 use Rattle.trust_store.proofs.plain.PlainBook.change.Goals as goal
 

@@ -1,5 +1,5 @@
 use Rattle.trust_store.proofs.Names.{subst, FirmSound}
-use Rattle.firm_rows.proofs.Dismissals.{sound-trail}
+use Rattle.firm_rows.proofs.Trail.{sound-trail}
 use Rattle.trust_store.proofs.plain.PlainBook.is_sound.Goals as goal
 
 pub returns : goal.returns

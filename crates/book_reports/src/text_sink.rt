@@ -1,0 +1,67 @@
+//! A text that grows by a line for each row.
+
+ghost use Rattle.std.specs.Prelude.{◌≡◌, ◌++◌};
+ghost use Rattle.trust_reports.specs.TextsOfActs.{act_line, dismissal_line};
+ghost use Rattle.trust_reports.specs.TextsOfLists.{exception_line};
+
+use firm_rows::{ActSink, Dismissal, DismissalSink, ExceptionSink, MatterAct};
+use std::alloc::AllocError;
+use std::marker::Model;
+use trust_base::Line;
+use trust_reports::{act_line, dismissal_line, exception_line};
+
+/// Writes a line for each exception, act or dismissal, as it is received.
+///
+/// Contracts see it as the text so far.
+#[derive(Drop)]
+pub struct TextSink {
+    text: Vec<u8>,
+}
+
+impl Model for TextSink {
+    ghost use Rattle.std.specs.Prelude.{ℕ, List};
+
+    ghost Value = { List ℕ };
+
+    ghost view = { λ s. s.text.items };
+}
+
+impl TextSink {
+    /// Begins below a heading.
+    pub fn below(heading: Vec<u8>) -> TextSink
+        ensures { result ≡ heading.items }
+    {
+        TextSink { text: heading }
+    }
+
+    /// Returns the text.
+    pub fn finish(self) -> Vec<u8>
+        ensures { result.items ≡ self }
+    {
+        self.text
+    }
+}
+
+impl ExceptionSink for TextSink {
+    ghost noted = { λ text line. text ++ exception_line line };
+
+    fn exception(&mut self, line: &Line) -> Result<(), AllocError> {
+        exception_line(line, &mut self.text)
+    }
+}
+
+impl ActSink for TextSink {
+    ghost remembered = { λ text act. text ++ act_line act };
+
+    fn act(&mut self, act: &MatterAct) -> Result<(), AllocError> {
+        act_line(act, &mut self.text)
+    }
+}
+
+impl DismissalSink for TextSink {
+    ghost taken_out = { λ text dismissal. text ++ dismissal_line dismissal };
+
+    fn dismissal(&mut self, dismissal: &Dismissal) -> Result<(), AllocError> {
+        dismissal_line(dismissal, &mut self.text)
+    }
+}
