@@ -14,6 +14,9 @@ export function amountOf(count) {
     return `${count < 0n ? '-' : ''}${digits.slice(0, -2)}.${digits.slice(-2)}`;
 }
 
+// The opposite of an amount, which moves as much the other way.
+export const opposite = (amount) => amountOf(-cents(amount));
+
 export const sumOf = (amounts) => amountOf(amounts.reduce((sum, each) => sum + cents(each), 0n));
 
 // `18000.00` as `18,000.00`.

@@ -63,7 +63,7 @@ async function send(page, ask, isOpen) {
 
 // 201 is booked now. 200 was in the book already: mostly by the first sending, but another cashier may have booked the
 // same words and amount at the same time.
-function bookedBox(ask, answer) {
+export function bookedBox(ask, answer) {
     if (answer.status === 201) return doneBox(`Booked on ${answer.body.day}: ${wordsOf(ask)}.`);
     return doneBox(`This was in the book already, and is there once: ${wordsOf(ask)}.`,
         p('If yours is a second one with the same words and amount, ',
@@ -81,19 +81,23 @@ async function otherEntry(page, ask, next, place) {
     ];
 }
 
-// Books a new entry. `place` is where a refusal is told, beside the form; null where there is no form any more.
-export async function book(page, ask, place) {
+// Sends an ask for a new entry, which is kept until it is answered; the answer.
+export async function sendKept(page, ask) {
     const isOpen = page.shelf.read(ASKS).some((each) => isSame(each, ask));
     keep(page, ask);
     page.say('Sending');
     const answer = await send(page, ask, isOpen);
     page.say('');
+    if (!answer.isUnknown) forget(page, ask);
+    if (answer.status === 201) page.desk.day = answer.body.day;
+    return answer;
+}
+
+// Books a new entry. `place` is where a refusal is told, beside the form; null where there is no form any more.
+export async function book(page, ask, place) {
+    const answer = await sendKept(page, ask);
     if (answer.isUnknown) return tell(page, place, answer, place && sendAgain(page, ask, place));
-    forget(page, ask);
-    if (answer.isDone) {
-        page.desk.day = answer.status === 201 ? answer.body.day : page.desk.day;
-        return page.go(`#/m/${ask.matter}/e/${ask.entry}`, bookedBox(ask, answer));
-    }
+    if (answer.isDone) return page.go(`#/m/${ask.matter}/e/${ask.entry}`, bookedBox(ask, answer));
     const { name, next } = answer.body ?? {};
     const more = name === 'WrongNumber' && next ? await otherEntry(page, ask, next, place) : [];
     return tell(page, place, answer, more);

@@ -43,5 +43,22 @@ export function together(entries, line, reasons) {
     return sets.find((each) => makesIt(line, each)) ?? [];
 }
 
+// By which number of the bank's words a deposit's words are known; empty where there is none.
+export const numberOf = ({ words }, { text }) => {
+    const numbers = numbersIn(text);
+    return [...numbersIn(words)].find((each) => numbers.has(each)) ?? '';
+};
+
+// As moving-in writes what the bank had of a matter on the first day.
+const isOpening = ({ words }) => /balance of \d{4}-\d\d-\d\d, moved in$/.test(words);
+
+// Cleared deposits that a line below zero may take back: those with a number of the bank's words first, the newest
+// first, and opening balances last.
+export function takenBackBy(deposits, line) {
+    const rank = (each) => (numberOf(each, line) ? 0 : 1 + Number(isOpening(each)));
+    return deposits.filter(({ amount }) => `-${amount}` === line.amount)
+        .sort((one, other) => rank(one) - rank(other) || other.day.localeCompare(one.day));
+}
+
 // What the firm's own money may still become.
 export const leftOfOwn = (own) => amountOf(MOST_OWN - cents(own));

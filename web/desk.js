@@ -4,6 +4,7 @@
 const AT_ONCE = 4;
 
 const TOO_MUCH = 429;
+const SELDOM = 60_000; // milliseconds
 const second = () => new Promise((go) => setTimeout(go, 1000));
 
 // A statement, or a file of records, has at most so many bytes.
@@ -40,8 +41,15 @@ class Turns {
     }
 }
 
-// `path` is what was asked. `isUnknown`: nobody can say whether it was done. `body` is the object of a JSON answer,
-// `bytes` are those of any answer.
+// Who is signed on, and as what: `cashier`, or null for whoever has no more than seats. A front end that tells no role
+// names a cashier so. Behind a wrong password it is a claim.
+function whoOf({ status, headers }) {
+    const person = status === 401 ? null : headers.get('x-person');
+    return { person, role: headers.get('x-role') || (person === 'cashier' ? person : null) };
+}
+
+// `path` is what was asked. `page` names the page that the front end has now. `isUnknown`: nobody can say whether it
+// was done. `body` is the object of a JSON answer, `bytes` are those of any answer.
 function answerOf(path, reply, bytes) {
     const text = new TextDecoder().decode(bytes);
     return {
@@ -49,15 +57,16 @@ function answerOf(path, reply, bytes) {
         status: reply.status,
         isDone: reply.ok,
         isUnknown: reply.status >= 500 || reply.status === 408,
-        person: reply.status === 401 ? null : reply.headers.get('x-person'),
+        ...whoOf(reply),
+        page: reply.headers.get('etag'),
         body: reply.headers.get('content-type') === 'application/json' ? JSON.parse(text) : null,
         text,
         bytes,
     };
 }
 
-const NO_ANSWER = { path: '', status: 0, isDone: false, isUnknown: true, person: null, body: null, text: '',
-    bytes: new Uint8Array() };
+const NO_ANSWER = { path: '', status: 0, isDone: false, isUnknown: true, person: null, role: null, page: null,
+    body: null, text: '', bytes: new Uint8Array() };
 
 // An address that was opened with a password in it can't be a base for paths, hence the origin.
 async function ask(method, path, body, signal) {
@@ -81,8 +90,9 @@ export async function askFirm() {
 export const askWho = () => ask('HEAD', '/');
 
 export class Desk {
-    constructor(person) {
-        this.person = person;
+    constructor({ person, role = null, page = null }) {
+        Object.assign(this, { person, role, page });
+        this.asked = Date.now(); // when it was last asked who is signed on
         this.day = null; // the business day, once an answer has told it
         this.turns = new Turns(AT_ONCE);
         this.view = new AbortController(); // of the view that is read or shown now
@@ -104,7 +114,7 @@ export class Desk {
     // What is read whether a view is left or not; asked twice where no answer came.
     async readToTheEnd(path, signal = undefined) {
         const answer = await this.inTurn('GET', path, undefined, signal);
-        if (answer.person && answer.person !== this.person) location.reload();
+        if (answer.person && !this.isOf(answer)) location.reload();
         return answer.status === 0 ? this.inTurn('GET', path, undefined, signal) : answer;
     }
 
@@ -127,11 +137,30 @@ export class Desk {
         return answer;
     }
 
+    isOf({ person, role }) {
+        return person === this.person && role === this.role;
+    }
+
+    // Whether the front end has another page by now.
+    isOld({ isDone, page }) {
+        return isDone && page !== this.page;
+    }
+
+    // Asked now and then as views are drawn: whether a newer page has to be loaded.
+    async isOldNow() {
+        if (Date.now() - this.asked < SELDOM) return false;
+        this.asked = Date.now();
+        return this.isOld(await askWho());
+    }
+
     // What changes something. A browser has one password for a site: where somebody else has signed on in another
-    // window meanwhile, nothing is sent under that name.
+    // window meanwhile, or nobody can say who it is, nothing is sent. Neither does an old page send to a newer desk. Where
+    // no answer came it can be sent again, as what was sent and not answered.
     async post(path, body) {
         const now = await askWho();
-        if (now.person && now.person !== this.person) return { ...NO_ANSWER, isUnknown: false, other: now.person };
+        if (now.person && !this.isOf(now)) return { ...NO_ANSWER, isUnknown: false, other: now.person };
+        if (!now.person) return { ...now, path };
+        if (this.isOld(now)) return { ...NO_ANSWER, isUnknown: false, isOld: true };
         return this.inTurn('POST', path, body);
     }
 

@@ -62,8 +62,9 @@ export const label = (text) => [
     isMixed(text) && el('span', { class: 'warning' }, ' (letters of two alphabets)'),
 ];
 
-// An entry's reference leads to it.
+// An entry's reference leads to it, FIRM to the lines of the firm's own money.
 export function referenceLink(reference) {
+    if (reference === 'FIRM') return link('#/own', number(reference));
     const at = /^M(\d{6})-(\d{4})$/.exec(reference);
     return at ? link(`#/m/${at[1]}/e/${at[2]}`, number(reference)) : reference && label(reference);
 }

@@ -20,7 +20,7 @@ export const amountField = (more = {}) => ({
     keys: 'decimal',
     read: readAmount,
     hint: 'Dollars and cents, such as 120.00',
-    wrong: 'Write dollars and cents, such as 120.00.',
+    wrong: 'Write dollars and cents, such as 120.00, up to 999,999,999.99.',
     ...more,
 });
 

@@ -8,6 +8,13 @@ export function readLabel(typed) {
     return bytes >= 1 && bytes <= 80 && isWhole ? text : null;
 }
 
+// No more of a text than a label has, and no part of a character.
+export function cutLabel(text) {
+    let cut = text;
+    while (new TextEncoder().encode(cut).length > 80) cut = [...cut].slice(0, -1).join('');
+    return cut.trim();
+}
+
 export function readPerson(typed) {
     const text = typed.trim();
     return /^[a-z0-9.-]{1,32}$/.test(text) && text !== 'cashier' ? text : null;
@@ -53,6 +60,12 @@ export function fiveYearsTo(day) {
 
 // Today by the browser's clock.
 export const clockDay = () => new Intl.DateTimeFormat('sv-SE').format(new Date());
+
+// A name without marks and capitals, and without the form of a firm behind it: two writings of one name are one then.
+const plainName = (name) => name.normalize('NFKD').toLowerCase().replaceAll('&', ' and ')
+    .replace(/[^\p{L}\p{N}]+/gu, ' ').trim().replace(/ (p ?l ?l ?c|l ?l ?p|l ?l ?c|l ?p|p ?c|p ?a|ltd|inc)$/u, '');
+
+export const isSameName = (one, other) => plainName(one) !== '' && plainName(one) === plainName(other);
 
 const codePoint = (letter) => letter.codePointAt(0).toString(16).toUpperCase().padStart(4, '0');
 

@@ -4,9 +4,11 @@ import { unanswered } from './asks.js';
 import { failedBox, refusedBox } from './boxes.js';
 import { Desk, Refused, askFirm, askWho } from './desk.js';
 import { button, el, label, link, p } from './elements.js';
+import { isColumns, keepShared } from './shared-columns.js';
 import { Shelf } from './shelf.js';
 import { account } from './views/account.js';
 import { accounts } from './views/accounts.js';
+import { another, anotherOfFirm, ownLines } from './views/another.js';
 import { approvals } from './views/approvals.js';
 import { clients } from './views/clients.js';
 import { showEntry } from './views/entry.js';
@@ -14,6 +16,7 @@ import { showCard, showMatter } from './views/matter.js';
 import { myMatters } from './views/matters.js';
 import { month } from './views/month.js';
 import { journalOf, outstanding } from './views/movements.js';
+import { move, moveOn } from './views/moving.js';
 import { newEntry } from './views/new-entry.js';
 import { openMatter } from './views/opening.js';
 import { overview } from './views/overview.js';
@@ -34,13 +37,18 @@ function showShort(page, short) {
 // A view is given the page and what its address names. It returns its title and parts, and may have something to do
 // once it is drawn.
 const VIEWS = [
-    [/^#?\/?$/, (page) => (page.person === 'cashier' ? overview(page) : myMatters(page))],
+    [/^#?\/?$/, (page) => (page.isCashier ? overview(page) : myMatters(page))],
     [/^#\/m\/(\d{6})$/, showMatter],
     [/^#\/m\/(\d{1,5})$/, showShort],
     [/^#\/m\/(\d{6})\/card$/, showCard],
     [/^#\/m\/(\d{6})\/account(?:\/(\d{4}-\d\d-\d\d)\/(\d{4}-\d\d-\d\d))?$/, account],
     [/^#\/m\/(\d{6})\/seats$/, seats],
     [/^#\/m\/(\d{6})\/e\/(\d{4})$/, showEntry],
+    [/^#\/m\/(\d{6})\/e\/(\d{4})\/another$/, another],
+    [/^#\/m\/(\d{6})\/move$/, move],
+    [/^#\/m\/(\d{6})\/e\/(\d{4})\/move$/, moveOn],
+    [/^#\/own$/, ownLines],
+    [/^#\/own\/(\d{4}-\d\d-\d\d)\/(-?\d+\.\d\d)\/(.*)$/, anotherOfFirm],
     [/^#\/m\/(\d{6})\/(deposit|propose|fee|claim|dispute)(?:\/(fee|claim)\/(\d{4}))?$/, newEntry],
     [/^#\/open$/, openMatter],
     [/^#\/statement$/, statement],
@@ -70,10 +78,11 @@ const nowhere = () => ({ title: 'No such page', parts: [p(link('#/', 'To the ove
 const byId = (id) => document.getElementById(id);
 
 class Page {
-    constructor(person) {
-        this.person = person;
-        this.desk = new Desk(person);
-        this.shelf = new Shelf(person);
+    constructor(who) {
+        this.person = who.person;
+        this.isCashier = who.role === 'cashier'; // one of several, maybe
+        this.desk = new Desk(who);
+        this.shelf = new Shelf(who.person);
         this.firm = []; // its name, its bank and account, for what is printed
         this.sought = ''; // what was last looked for among receipts and disbursements
         this.draws = 0;
@@ -98,9 +107,13 @@ class Page {
         this.desk.leave();
         byId('main').setAttribute('aria-busy', 'true');
         const late = setTimeout(() => isStill() && this.say('Reading'), 400);
-        const view = await this.viewOf(location.hash);
+        const [view, isOld] = await Promise.all([this.viewOf(location.hash), mine > 1 && this.desk.isOldNow()]);
         clearTimeout(late);
         if (!isStill()) return;
+        if (isOld) {
+            location.reload();
+            return;
+        }
         this.show(view, mine > 1);
         try {
             await view.later?.(isStill);
@@ -144,11 +157,12 @@ class Page {
     showPlaces() {
         const at = location.hash || '#/';
         const isHere = (href) => at === href || (href !== '#/' && at.startsWith(href.replace('trial-balance', '')));
-        const places = this.person === 'cashier' ? PLACES : [['#/', 'My matters']];
+        const places = this.isCashier ? PLACES : [['#/', 'My matters']];
         byId('nav').replaceChildren(el('ul', {}, places.map(([href, name]) =>
             el('li', {}, el('a', { href, 'aria-current': isHere(href) ? 'page' : null }, name)))));
         const { day } = this.desk;
-        byId('who').replaceChildren(this.person, day ? ` \u00b7 ${day}` : '');
+        const as = this.isCashier && this.person !== 'cashier' ? ', cashier' : '';
+        byId('who').replaceChildren(this.person, as, day ? ` \u00b7 ${day}` : '');
         byId('printed').textContent = `Printed by ${this.person}${day ? `, business day ${day}` : ''}`;
     }
 }
@@ -158,19 +172,30 @@ function skip(event) {
     byId('main').focus();
 }
 
+const UNNAMED = { status: 401, isDone: false, body: { name: 'NoCaller', refusal: 6 } };
+
 async function begin() {
+    document.documentElement.dataset.begun = ''; // for whole.js: all files are there
     const answer = await askWho();
     if (!answer.isDone || !answer.person) {
-        byId('main').replaceChildren(el('h1', {}, 'Gekuipo'), refusedBox(answer, ''));
+        // The front end names nobody whose user name is none of a person; the desk would refuse whatever is asked so.
+        const told = answer.isDone ? { ...answer, ...UNNAMED } : answer;
+        byId('main').replaceChildren(el('h1', {}, 'Gekuipo'), refusedBox(told, ''));
         byId('main').setAttribute('aria-busy', 'false');
         return;
     }
-    const page = new Page(answer.person);
-    page.firm = await askFirm();
+    const page = new Page(answer);
+    const told = await askFirm();
+    page.firm = told.filter((line) => !isColumns(line));
+    keepShared(page.shelf, told);
     byId('firm').replaceChildren(...page.firm.map((line) => el('span', {}, label(line))));
     window.addEventListener('hashchange', () => page.draw());
     byId('skip').addEventListener('click', skip);
     await page.draw();
 }
 
-begin();
+begin().catch((fault) => {
+    console.error(fault);
+    byId('main').replaceChildren(el('h1', {}, 'Gekuipo'), failedBox(fault));
+    byId('main').setAttribute('aria-busy', 'false');
+});

@@ -8,6 +8,10 @@ const ONCE = "The bank shows an entry once. Compare these lines with the bank's 
 const MEND = 'As it stands it would be an exception. Look at the reference, and mend it.';
 const NO_OWN = "As it stands it would be an exception. FIRM is the firm's own money alone. Name its entry, or leave "
     + 'it.';
+const OTHER_CHECK = 'the check was paid for another amount than was approved: have the payment voided, propose it anew '
+    + 'with the check\u2019s amount, have that approved, and match again; or call the bank, if it misread the check.';
+const OTHER_DEPOSIT = 'the bank misread it, or the entry was mistyped: a held deposit can be cancelled and booked '
+    + 'anew; or call the bank.';
 const MISSING = "Book what is missing and match again, or type FIRM if it is the firm's own money.";
 
 // How many are not listed, if any.
@@ -72,8 +76,8 @@ const LEFT = {
     IssuedAfter: [({ entries }) => ['it shows an entry that was issued after it: ', listOf(entries)],
         'The bank had it before a lawyer approved it. Look at the entry first.'],
     OfAnotherAmount: [({ entries }) => ['it shows an entry of another amount: ', listOf(entries, wholeEntryOf)],
-        'Is it one of several that the bank shows in one line? Then split the line. Else the bank misread it, or the '
-        + 'entry was mistyped: a held deposit can be cancelled and booked anew; or call the bank.'],
+        ({ entries: { listed } }) => 'Is it one of several that the bank shows in one line? Then split the line. Else '
+            + `${listed.some(({ amount }) => amount.startsWith('-')) ? OTHER_CHECK : OTHER_DEPOSIT}`],
     OfItsAmount: [({ entries }) => ['nothing in its words tells which entry; of its amount: ', listOf(entries)],
         `An equal amount does not tell whose it is. ${LOOK}, then use the entry.`],
     MaybeReturned: [({ entries }) => ['no payment of its amount; it may be a return of ', listOf(entries)],
@@ -99,7 +103,10 @@ const LEFT = {
 // A name that the page does not know is shown itself, without advice.
 const leftFor = ({ name }) => (Object.hasOwn(LEFT, name) ? LEFT[name] : [() => name, '']);
 export const whyLeft = (reason) => [leftFor(reason)[0](reason)];
-export const adviceOn = (reason) => leftFor(reason)[1];
+export function adviceOn(reason) {
+    const [, advice] = leftFor(reason);
+    return typeof advice === 'function' ? advice(reason) : advice;
+}
 
 // Of each name that the desk's reason of an exception has (docs/HTTP.md) the words, given the reason and the line.
 const EXCEPTIONS = {

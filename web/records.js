@@ -1,6 +1,7 @@
 // A file of records, as a day sheet has them: each record is a request to the desk.
 
 import { NAMES } from './bank/statement.js';
+import { readPart } from './amounts.js';
 import { recordsOf, textOf, wordsOf } from './csv.js';
 import { entryPath, matterPath } from './desk.js';
 
@@ -29,6 +30,19 @@ const WITHOUT_ENTRY = new Set(['open', 'seat', 'drop', 'close', 'purge', 'show',
 // What can't be taken back.
 export const UNDONE_BY_NOTHING = new Set(['drop', 'close', 'purge', 'cancel', 'withdraw', 'award', 'dismiss']);
 
+// What a spreadsheet makes of a number that has zeros in front, or of an amount, is read as it was meant.
+const widened = (value, digits) => (/^\d+$/.test(value.trim()) ? value.trim().padStart(digits, '0') : value);
+const AMOUNTS = new Set(['amount', 'to_client']);
+
+function meantBy([verb, matter = '', entry = '', ...more]) {
+    if (verb === 'dismiss' || !Object.hasOwn(VERBS, verb)) return [verb, matter, entry, ...more];
+    const { fields } = VERBS[verb];
+    return [verb, widened(matter, 6), entry === '' ? '' : widened(entry, 4), ...more.map((value, at) => {
+        if (AMOUNTS.has(fields[at])) return readPart(value) ?? value;
+        return fields[at] === 'of' && value !== '' ? widened(value, 4) : value;
+    })];
+}
+
 const isUtf8 = (value) => !wordsOf(value).includes('\ufffd');
 
 // What is wrong with a record before it is sent; empty where nothing is. The desk looks at all else.
@@ -49,7 +63,7 @@ function wrongWith(verb, values, fields) {
 }
 
 function recordOf(fields, i) {
-    const values = fields.map(({ value }) => wordsOf(value));
+    const values = meantBy(fields.map(({ value }) => wordsOf(value)));
     const [verb, matter, entry = ''] = values;
     const wrong = wrongWith(verb, values, fields);
     const record = { number: i + 1, verb, matter, entry, words: values.join(', '), wrong };

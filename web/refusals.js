@@ -59,7 +59,7 @@ const REFUSALS = {
     NoCaller: () => ['The desk does not take your user name as a name.',
         'The operator has to give you one of a to z, 0 to 9, point and hyphen.'],
     BadField: (told) => ['Something is not of its form.', FIELDS[told.field] ?? `Mend this: ${told.field}.`],
-    NoMatter: (told, person) => (person === 'cashier'
+    NoMatter: (told, role) => (role === 'cashier'
         ? ['No matter has this number.', 'Look at the number, or open the matter.']
         : ['There is no such matter for you.', 'Look at the number. The cashier gives access to a matter.']),
     Purged: () => ["This matter's records were taken away after their five years.", 'Its number is not used again.'],
@@ -128,12 +128,16 @@ const askedBy = (path) => ({ verb: path.split('/').at(-1), entry: /\/entries\/(\
 // What the answer means, what to do next, and its status and name.
 export function wordsOf(answer, person) {
     const told = answer.body;
+    if (answer.isOld) {
+        return { what: 'The page is older than the desk.', next: 'Nothing was sent. Load the page again.', name: '' };
+    }
     if (answer.other) {
         const what = `This browser is signed on as ${answer.other} now.`;
         return { what, next: 'Nothing was sent. Load the page again.', name: '' };
     }
     if (told?.refusal) {
-        const [what, next] = REFUSALS[told.name]?.({ ...told, ...askedBy(answer.path) }, person)
+        const role = answer.role ?? person;
+        const [what, next] = REFUSALS[told.name]?.({ ...told, ...askedBy(answer.path) }, role)
             ?? ['The desk refused this.', 'Tell the operator.'];
         return { what, next, name: `${answer.status} ${told.name}` };
     }

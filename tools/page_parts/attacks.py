@@ -163,7 +163,7 @@ def look_at_headers(what: str, answer: Answer, person: str | None, checks: Check
         checks.same(f"{name} of {what}", headers.get(name), value)
     policy = headers.get("content-security-policy", "")
     for part in ("default-src 'none'", "script-src 'self'", "frame-ancestors 'none'", "form-action 'none'",
-                 "trusted-types 'none'"):
+                 "trusted-types bank"):
         checks.so(f"the policy of {what} has {part}", part in policy, policy)
     checks.same(f"x-person of {what}", headers.get("x-person"), person)
 
@@ -207,10 +207,10 @@ def limit(text: str) -> str:
 
 
 def try_limits(firm: Firm, folder: pathlib.Path, checks: Checks) -> None:
-    """Asks above the limit, guesses of passwords too, are 429, and not the 503 behind which something may be done."""
+    """Asks above the limit are 429, and not the 503 behind which something may be done. No claim counts as one."""
     front = FrontEnd(folder / "limits", firm.desk.port, limit)
-    statuses = [front.ask("ada" if at % 2 else "", "GET", "/")[0] for at in range(10)]
-    checks.same("the statuses at the limit", statuses, [401, 200] * 3 + [429] * 4)
+    statuses = [front.ask("ada" if at % 2 else "", "GET", "/")[0] for at in range(20)]
+    checks.same("the statuses at the limit", statuses, [401, 200] * 6 + [401, 429] * 4)
     for path in ("/", "/page/page.js", "/page/firm.txt", "/matters", "/firm/statements"):
         checks.same(f"the status of {path} of another person there", front.ask("lee", "GET", path)[0], 429)
     front.end()

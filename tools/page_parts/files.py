@@ -3,6 +3,7 @@ is told, and nothing of it taken."""
 import json
 import pathlib
 import subprocess
+import time
 
 from .browser import PHONE, Browser
 from .checks import Checks
@@ -10,7 +11,7 @@ from .firm import ROOT, Desk, Firm
 from .matching import Bank
 from .views import NARROW, look, see
 
-DAY = "2026-04-02"
+DAY = "2026-08-03"
 BANK = ROOT / "examples" / "bank"
 SCRIPT = ROOT / "examples" / "operations" / "bank-to-statement"
 KEPT = "return JSON.parse(localStorage['gekuipo.cashier.file'] ?? '[{}]')[0].text"
@@ -75,18 +76,19 @@ def take_ofx(bank: Bank) -> None:
     bank.has("first-half.ofx: ", "first-half.ofx is kept in this browser")
     is_kept(bank, "first-half.ofx", by_script("--close", "2026-03-16", str(BANK / "first-half.ofx")))
     take(bank, "second-half.qfx")
-    give(bank, close="2026-03-27")
-    bank.has("5,563.00 on 2026-03-27")
-    give(bank, close="2026-04-01")
-    bank.has("Nothing is taken of second-half.qfx.", "2026-04-01 is no day from")
-    give(bank, close="")
+    give(bank, closing_day="2026-03-27")
+    bank.has("5,563.00 on 2026-03-27", "3 lines of 2026-03-31 to 2026-04-01, together 2000.00, left out: "
+             "behind the last day, 2026-03-27; the next file has them")
+    give(bank, closing_day="2026-04-01")
+    bank.has("7,563.00 on 2026-04-01", "it is that of 2026-04-01 only if the bank had nothing more on that day")
+    bank.browser.press("Take all lines, without balances")
     bank.browser.press("Take it and match")
     is_kept(bank, "second-half.qfx", by_script(str(BANK / "second-half.qfx")))
 
 
 def take_camt(bank: Bank) -> None:
     take(bank, "second-half.camt.xml")
-    bank.has("26,788.00 on 2026-03-17", "26,353.00 on 2026-03-31")
+    bank.has("26,788.00 on 2026-03-17", "26,353.00 on 2026-03-31", "1 line left out: not booked by the bank yet")
     bank.browser.press("Take it and match")
     is_kept(bank, "camt.053", by_script(str(BANK / "second-half.camt.xml")))
 
@@ -96,6 +98,7 @@ def take_csv(bank: Bank) -> None:
     take(bank, "checks.csv")
     bank.has("Say once which is which", "Which column is which?", "month/day/year", "CHECK 1001")
     look(bank.browser, "the columns of a file", bank.checks)
+    bank.has("The balances of the file do not go with its amounts. Type one balance")
     give(bank, column_0="")
     bank.browser.press("Take it and match")
     is_kept(bank, "checks.csv", by_script(str(BANK / "checks.csv"), str(BANK / "checks.rules")))
@@ -110,11 +113,152 @@ def take_csv(bank: Bank) -> None:
     is_kept(bank, "checks.csv with its balances", "\n".join([told[0], first, *told[1:], last, ""]))
     take(bank, "two-columns.csv")
     give(bank, column_1="number")
+    bank.has("27,788.00 on 2026-03-19")
+    bank.browser.press("Take all lines, without balances")
     bank.browser.press("Take it and match")
     is_kept(bank, "two-columns.csv", by_script(str(BANK / "two-columns.csv"), str(BANK / "two-columns.rules")))
     take(bank, "references.csv")
     bank.browser.press("Take it and match")
     is_kept(bank, "references.csv", by_script(str(BANK / "references.csv"), str(BANK / "references.rules")))
+
+
+JULY = ROOT / "cases" / "bank-files" / "july"
+PAPER = "370041.25"  # the balance of 31 July on the bank's paper
+# The files of a July: how often a day has to be typed for it to be closed, then whether a balance, and what is told.
+MONTH: dict[str, tuple[bool, bool, str]] = {
+    "up-to-today.ofx": (False, False, "2 lines of 2026-08-03, together 650.00, left out: behind the last day"),
+    "fetched-later.ofx": (False, True, "the lines end on 2026-07-31: those between are missing. Type one balance"),
+    "balance-of-the-last-day.ofx": (False, False, "The balances are those of the file."),
+    "fetched-on-the-last-day.ofx": (True, False, "3 lines of 2026-07-31, together -12.00, left out: behind"),
+    "without-a-balance.qbo": (False, True, "The file tells no balance. Type one balance"),
+    "without-a-time.ofx": (True, False, "3 lines of 2026-07-31, together -12.00, left out: behind"),
+    "balance-before-the-end.ofx": (False, False, "2 lines of 2026-08-03, together 650.00, left out: behind"),
+    "pending.qfx": (False, False, "1 line left out: not booked by the bank yet"),
+    "running-balance.csv": (False, False, "The balances are those of the file."),
+    "newest-first.csv": (False, False, "The balances are those of the file."),
+    "summary-rows.csv": (False, False, "line 8 left out: no line of the account: 'Beginning balance as of 07/01/2026'"),
+    "no-heading.csv": (False, True, "The file tells no balance. Type one balance"),
+    "balance-rows.csv": (False, False, "line 16 left out: no line of the account: 'Ending Balance'"),
+    "debit-or-credit.csv": (False, False, "The balances are those of the file."),
+    "trailing-minus.csv": (False, True, "line 15 left out: no line of the account: 'Total'"),
+    "parentheses.csv": (False, False, "The balances are those of the file."),
+    "up-to-today.csv": (False, False, "2 lines of 2026-08-03, together 650.00, left out: behind the last day"),
+    "five-decimals.csv": (False, True, "The file tells no balance. Type one balance"),
+    "month.camt.xml": (False, False, "The balances are those of the file."),
+    "opening-alone.camt.xml": (False, False, "The balances are those of the file."),
+}
+
+
+def by_paper(name: str) -> str:
+    """The statement of July that the script writes by the balance of the bank's paper."""
+    rules = JULY / f"{name.removesuffix('.csv')}.rules"
+    own = [] if name == "month.camt.xml" else ["--balance", PAPER]
+    return by_script("--close", "2026-07-31", *own, str(JULY / name), *([str(rules)] if rules.exists() else []))
+
+
+def close_a_month(bank: Bank) -> None:
+    """Each file of a month closes it: by itself, or by a day or one balance of the bank's paper. All that is left out
+    is told."""
+    bank.browser.run("localStorage.removeItem('gekuipo.cashier.columns')")
+    for name, (has_day, has_balance, words) in MONTH.items():
+        choose(bank, name, (JULY / name).read_bytes())
+        bank.has(f"What {name} has", words)
+        if has_day:
+            bank.has("on 2026-07-30")
+            give(bank, closing_day="7/31/2026")
+            bank.has("it is that of 2026-07-31 only if the bank had nothing more on that day")
+        if has_balance:
+            give(bank, closing="370,041.25")
+        bank.has("370,041.25 on 2026-07-31")
+        bank.lacks("Nothing is taken")
+        if name == "summary-rows.csv":
+            look(bank.browser, "a file with balances", bank.checks)
+        bank.browser.press("Take it and match")
+        is_kept(bank, name, by_paper(name))
+
+
+def ask_about_one_side(bank: Bank) -> None:
+    """Amounts that all go one way are taken only where somebody says that it is so."""
+    rows = "".join(f"07/{at:02}/2026,{at}.00,CARD\n" for at in range(1, 28))
+    choose(bank, "cards.csv", f"Date,Amount,Text\n{rows}".encode())
+    bank.has("All 27 lines are paid in.", "If another column tells which are paid out, name it above")
+    taking = next(each for each in bank.browser.find("button") if each.text == "Take it and match")
+    bank.checks.same("whether it can be taken at once", taking.is_enabled(), False)
+    bank.browser.find("#one-sided")[0].click()
+    bank.browser.press("Take it and match")
+    bank.has("cards.csv is kept in this browser")
+    choose(bank, "debit-or-credit.csv", (JULY / "debit-or-credit.csv").read_bytes())
+    give(bank, column_2="")
+    bank.has("All 13 lines are paid in.")
+    give(bank, column_2="sign")
+    bank.lacks("All 13 lines are paid in.")
+
+
+# Files of shapes that no bank writes: each is read, or refused in words, while the page goes on.
+HOSTILE = (
+    ("blanks.ofx", "<OFX><STMTRS><STMTTRN><DTPOSTED>20260702<TRNAMT>-1.00<FITID>1<NAME>a" + " " * 4_000_000
+     + "b</STMTTRN></STMTRS></OFX>", "-1.00"),
+    ("values.ofx", "<OFX><STMTRS><STMTTRN><DTPOSTED>20260702<TRNAMT>-1.00<FITID>1" + "<A>b" * 50_000
+     + "</STMTTRN></STMTRS></OFX>", "-1.00"),
+    ("prefixes.xml", "<BkToCstmrStmt " + " ".join(f'xmlns:p{at}="u"' for at in range(50_000)) + "/>",
+     "has 0 BkToCstmrStmt/Stmt, not one"),
+    ("parts.xml", "<D><BkToCstmrStmt><Stmt><Ntry><Amt>1.00</Amt><CdtDbtInd>CRDT</CdtDbtInd><Sts>BOOK</Sts><BookgDt><Dt>"
+     "2026-07-02</Dt></BookgDt><NtryRef>1</NtryRef><NtryDtls><TxDtls><RmtInf>" + "<Ustrd>words</Ustrd>" * 150_000
+     + "</RmtInf></TxDtls></NtryDtls></Ntry></Stmt></BkToCstmrStmt></D>", "1.00"),
+    ("elements.ofx", "<OFX><STMTRS>" + "<A>b" * 900_000 + "</STMTRS></OFX>", "the file has more than 200000 elements"),
+    ("rows.csv", "Date,Amount\n" + "07/02/2026,1.00\n" * 60_000, "the file has more than 50000 rows"),
+    ("columns.csv", "Date,Amount" + ",1" * 2_000_000 + "\n", "it has more than 99 columns"),
+    ("long.csv", "Date,Amount,Text\n" + "".join(f"07/02/2026,-{at}.00,CARD {at}\n07/02/2026,{at}.00,CARD {at}\n"
+                                                for at in range(1, 20_001)), "40000"),
+)
+# Notes the longest time between two frames.
+WATCH = """window.longest = 0; let last = performance.now();
+(function frame() { const now = performance.now(); window.longest = Math.max(window.longest, now - last); last = now;
+    window.frames_seen = requestAnimationFrame(frame); })();"""
+SOON = 60  # seconds, on a busy machine; what is not linear takes minutes
+
+
+def read_beside(bank: Bank) -> None:
+    """Hostile files are read by a worker, or refused in words."""
+    for name, text, words in HOSTILE:
+        bank.browser.run(WATCH)
+        begun = time.monotonic()
+        choose(bank, name, text.encode())
+        seconds = time.monotonic() - begun
+        bank.has(f"What {name} has", words)
+        bank.checks.so(f"{name} is read soon", seconds < SOON, seconds)
+        frame = bank.browser.run("cancelAnimationFrame(window.frames_seen); return window.longest")
+        print(f"{name}: {seconds:.1f} s, longest frame {frame:.0f} ms", flush=True)
+    asked = bank.browser.run("return performance.getEntriesByType('resource').map(({ name }) => name)")
+    bank.checks.so("a worker reads them", any(each.endswith("/page/bank/worker.js") for each in asked), asked)
+
+
+# Ways in which a day is typed.
+TYPED = ("8/1/2026", "08/01/2026", "8-1-2026", "8/1/26", "Aug 1, 2026", "August 1 2026", "1 Aug 2026", "2026-8-1")
+
+
+def type_days(bank: Bank) -> None:
+    """The four fields are called for what stands in them, and a day is typed as one writes it."""
+    choose(bank, "august.csv", b"Date,Amount,Text\n08/01/2026,1.00,a\n08/31/2026,2.00,b\n")
+    labels = [each.text for each in bank.browser.find(".asking label")]
+    wanted = ["First day", "Opening balance", "Last day", "Closing balance"]
+    bank.checks.same("the labels of the balances", [each for each in labels if each in wanted], wanted)
+    give(bank, closing_day="8/31/2026", opening="5", closing="8")
+    for typed in TYPED:
+        give(bank, opening_day="")
+        give(bank, opening_day=typed)
+        shown = bank.browser.find("#opening-day")[0].get_attribute("value")
+        bank.checks.same(f"the day {typed} as it is shown", shown, "2026-08-01")
+        bank.has("5.00 on 2026-08-01", "8.00 on 2026-08-31")
+    for typed in ("13/1/2026", "8.1.2026", "Feb 30, 2026", "tomorrow"):
+        give(bank, opening_day=typed)
+        bank.has("Nothing is taken of august.csv.", "is no day: write it as 8/31/2026 or 2026-08-31")
+    bank.browser.find("#opening-day")[0].clear()
+    bank.browser.find("#opening-day")[0].send_keys("Aug 1, 2026\t")
+    bank.browser.settle()
+    bank.has("5.00 on 2026-08-01")
+    bank.browser.press("Take it and match")
+    bank.has("august.csv is kept in this browser")
 
 
 # What is no bank's file, or has a fault: what is told of it.
@@ -129,6 +273,11 @@ BAD = (
     ("amount.csv", b"Date,Amount,Text\n03/19/2026,1.0.0,a\n", "line 2: '1.0.0' is no amount"),
     ("day.csv", b"Date,Amount,Text\n03/19/2026,1.00,a\n02/30/2026,1.00,a\n", "line 3: '02/30/2026' is no day"),
     ("quote.csv", b'Date,Amount,Text\n03/19/2026,1.00,"a\n', "unexpected end of data"),
+    ("bank.qif", b"!Type:Bank\nD08/01/2026\nT-5.00\n^\n", "this is QIF, which is not read: ask the bank for OFX"),
+    ("bank.txt", b"01,121000358,0001,260803,0900,1,,,2/\n02,0001,121000358,1,260803,,USD,2/\n",
+     "this is BAI2, which is not read"),
+    ("bank.sta", b":20:STATEMENT\n:25:0000/4417\n:28C:1/1\n:60F:C260701USD354000,00\n",
+     "this is MT940, which is not read"),
     ("cut.ofx", b"<OFX><STMTRS><STMTTRN><TRNAMT>1", "the file does not end with </OFX>: it may have been cut"),
     ("cut.xml", b"<Document><BkToCstmrStmt>", "the file is no XML: "),
 )
@@ -201,7 +350,8 @@ def look_small(bank: Bank) -> None:
         small.quit()
 
 
-CHAPTERS = (take_ofx, drop_qbo, take_camt, take_csv, turn_around, refuse, look_small, match_it)
+CHAPTERS = (take_ofx, drop_qbo, take_camt, take_csv, close_a_month, ask_about_one_side, type_days, read_beside,
+            turn_around, refuse, look_small, match_it)
 
 
 def play(program: str, folder: pathlib.Path, checks: Checks) -> None:

@@ -162,7 +162,7 @@ class FrontEnd:
         self.origin = f"http://127.0.0.1:{self.port}"
         folder.mkdir()
         (folder / "files").mkdir()
-        (folder / "files" / "page").symlink_to(ROOT / "web")
+        subprocess.run([ROOT / "tools" / "put-page", folder / "files" / "page"], check=True)
         self.write(behind, change)
         self.process = subprocess.Popen(["nginx", "-p", str(folder), "-e", "nginx.err", "-c", "nginx.conf"])
         wait_for(self.port, self.process)

@@ -52,6 +52,26 @@ function smallControls() {
         && getComputedStyle(each).display !== 'inline').map((each) => each.textContent);
 }
 
+// What no person has written: how a script shows a value that is no text. It may stand in a text, a field or a name.
+function rawValues() {
+    const shown = [...document.querySelectorAll('input, textarea, [aria-label], a[href]')]
+        .flatMap((each) => [each.value, each.getAttribute('aria-label'), each.getAttribute('href')]);
+    return [document.title, document.body.textContent, ...shown].filter(Boolean)
+        .flatMap((text) => text.match(/.{0,30}(\[object|\bundefined\b|\bNaN\b|\bnull\b).{0,20}/g) ?? []);
+}
+
+// The kinds of fields that there are, by HTML. As they stand here none is a label, which begins with a capital letter.
+const KINDS = ['button', 'checkbox', 'color', 'date', 'datetime-local', 'email', 'file', 'hidden', 'image', 'month',
+    'number', 'password', 'radio', 'range', 'reset', 'search', 'submit', 'tel', 'text', 'time', 'url', 'week'];
+
+// Fields whose label is a kind of field, or whose kind is none.
+function mislabelledFields() {
+    const nameOf = (field) => field.getAttribute('aria-label') ?? field.labels?.[0]?.textContent ?? '';
+    return [...document.querySelectorAll('input, select, textarea')]
+        .map((field) => [nameOf(field).trim(), field.getAttribute('type') ?? 'text'])
+        .filter(([name, kind]) => KINDS.includes(name) || !KINDS.includes(kind));
+}
+
 // By how many pixels the page is wider than the window.
 const widthAside = () => Math.max(0, document.documentElement.scrollWidth - document.documentElement.clientWidth);
 

@@ -343,6 +343,8 @@ LEFT = (
      "The bank shows an entry once."),
     ({"name": "OfAnotherAmount", "entries": {"count": 7, "listed": [ENTRY]}},
      f"it shows an entry of another amount: {HELD} 5.00; and 6 more", "Then split the line."),
+    ({"name": "OfAnotherAmount", "entries": {"count": 1, "listed": [{**ENTRY, "state": "issued", "amount": "-5.00"}]}},
+     "it shows an entry of another amount: M000001-0001 issued 2026-03-12 Ada -5.00", "have the payment voided"),
     ({"name": "Shared", "records": {"count": 2, "listed": [6, 16]}, "reference": "M000001-0001"},
      "records 6 and 16 show M000001-0001", "The bank shows an entry once."),
     ({"name": "IsException", "entries": {"count": 0, "listed": []}, "exceptions": {"count": 1, "listed": [

@@ -12,6 +12,9 @@ DAY = "2026-03-16"
 SHEET = "".join(f"open,{each:06},,Client {each},lee\ndeposit,{each:06},0001,{each}00.00,Client {each},retainer\n"
                 for each in range(1, 9)) + 'propose,000001,0002,10.00,general,,"Clerk, Court",filing fee,1001\n'
 # A claim, and what is refused by one name of a refusal for several reasons.
+# As a spreadsheet writes it: without the zeros in front, and amounts with marks.
+SPREAD = 'deposit,2,2,"$1,500.00",Client 2,costs\ndeposit,3,2,20,Client 3,costs\n'
+BANKS = b"OFXHEADER:100\n\n<OFX><BANKMSGSRSV1></BANKMSGSRSV1></OFX>\n"
 REFUSED = """claim,000001,0003,5.00,Bay Clinic,bills
 deposit,000001,0001,5.00,a,b
 propose,000001,0004,5.00,claim,0003,Bay Clinic,bills,1002
@@ -20,7 +23,7 @@ purge,000001
 cancel,000001,0009
 dismiss,,,2026-03-01,,X1,5.00,none
 """
-WRONG = "refund,000001,0002\ndeposit,1,0001,5.00,a,b\ndeposit,000001,,5.00,a,b\ndeposit,000001,0001,5.00,a\n"
+WRONG = "refund,000001,0002\ndeposit,M1,0001,5.00,a,b\ndeposit,000001,,5.00,a,b\ndeposit,000001,0001,5.00,a\n"
 
 
 def choose(browser: Browser, folder: pathlib.Path, text: str) -> None:
@@ -44,7 +47,7 @@ def play(program: str, folder: pathlib.Path, checks: Checks) -> None:
         has(checks, browser, "Choose a file.")
         choose(browser, folder, WRONG)
         has(checks, browser, "Nothing of sheet.csv was sent.", "4 of 4 records are none.", "there is no verb refund",
-            "1 is no matter: write six digits", "(empty) is no entry", "deposit has 6 fields, and here are 5")
+            "M1 is no matter: write six digits", "(empty) is no entry", "deposit has 6 fields, and here are 5")
         choose(browser, folder, SHEET)
         has(checks, browser, "sheet.csv has 17 records. Nothing was sent yet.")
         firm.relay.fail("POST .*/000005/.*/deposit", Fault("lost"))
@@ -73,6 +76,14 @@ def play(program: str, folder: pathlib.Path, checks: Checks) -> None:
         has(checks, browser, "7 of 7 records were answered, 6 refused.", "Another entry has this number.",
             "The claim is not settled yet.", "It is past that", "The matter is not closed.", "There is no such entry.",
             "The list of exceptions has no such line.")
+        choose(browser, folder, SPREAD)
+        has(checks, browser, "sheet.csv has 2 records. Nothing was sent yet.")
+        browser.press("Send these 2")
+        has(checks, browser, "2 of 2 records were answered, 0 refused.", "deposit, 000002, 0002, 1500.00")
+        told = json.loads(firm.desk.ask("cashier", "GET", "/matters/000002/entries/0002")[1])
+        checks.same("the amount of a spreadsheet", told["amount"], "1500.00")
+        choose(browser, folder, BANKS.decode())
+        has(checks, browser, "sheet.csv is a file of the bank\u2019s, and none of records.")
         checks.same("the browser's log", browser.faults(), [])
     finally:
         browser.quit()

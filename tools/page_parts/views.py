@@ -22,7 +22,8 @@ REPORTS = [*ADDRESSES, "#/reconciliation", "#/reconciliation/2026-03-31", "#/cli
            "#/report/disbursements/2026-03-01/2026-03-31", "#/report/approvals",
            "#/report/approvals/2026-03-01/2026-03-31", "#/report/outstanding", "#/report/outstanding/2026-03-31",
            "#/accounts", "#/accounts/2026-03-01/2026-03-31"]
-FORMS = {"cashier": ["deposit", "propose", "claim", "seats"], "lee": ["propose", "fee", "claim"], "ada": ["dispute"]}
+FORMS = {"cashier": ["deposit", "propose", "claim", "move", "seats"], "lee": ["propose", "fee", "claim"],
+         "ada": ["dispute"]}
 
 
 def views_of(person: str, matter: str, entries: range) -> list[str]:
@@ -30,7 +31,9 @@ def views_of(person: str, matter: str, entries: range) -> list[str]:
     at = f"#/m/{matter}"
     own = [at, f"{at}/card", f"{at}/trail", f"{at}/account", f"{at}/account/2026-03-01/2026-03-31",
            *(f"{at}/{form}" for form in FORMS[person]), *(f"{at}/e/{each:04}" for each in entries)]
-    firm = ["#/open", "#/statement", "#/records", *REPORTS] if person == "cashier" else []
+    if person == "cashier":
+        own += [f"{at}/e/{each:04}/another" for each in entries]
+    firm = ["#/open", "#/statement", "#/records", "#/own", *REPORTS] if person == "cashier" else []
     return ["#/", *firm, *own, "#/m/000777", "#/nowhere"]
 
 
@@ -72,6 +75,8 @@ def look(browser: Browser, at: str, checks: Checks) -> None:
     checks.so(f"{at}: one first heading, and none is skipped", in_order, heads)
     for place in ("banner", "navigation", "main"):
         checks.so(f"{at}: there is a {place}", any(role(node) == place for node in nodes))
+    checks.same(f"{at}: the values that are no words", see(browser, "rawValues()"), [])
+    checks.same(f"{at}: fields called by their kind, or of none", see(browser, "mislabelledFields()"), [])
     checks.same(f"{at}: the ids that stand twice", see(browser, "idsThatStandTwice()"), [])
     checks.same(f"{at}: the texts with less contrast than 4.5", see(browser, "paleTexts()"), [])
     checks.same(f"{at}: what is lower than 24 px to touch", see(browser, "smallControls()"), [])
@@ -87,6 +92,7 @@ def look_at_all(firm: Firm, entries: range, what: str, widths: tuple[int, ...], 
                 failed = [box.text for box in browser.find(".refused") if "The page failed" in box.text]
                 checks.same(f"{at}: the faults", failed, [])
                 checks.same(f"{at}: what stands aside", see(browser, "widthAside()"), 0)
+                checks.same(f"{at}: the values that are no words", see(browser, "rawValues()"), [])
                 if width != WIDE:
                     checks.same(f"{at}: the reports that are cut", see(browser, "cutReports()"), 0)
                 if width == WIDE:

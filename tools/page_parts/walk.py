@@ -272,7 +272,7 @@ def two_at_once(walk: Walk) -> None:
     lee.to("#/m/000003/e/0003")
     walk.has(lee, "Other payments that are proposed from it: 650.00")
     sato.to("#/m/000003/e/0003")
-    sato.press("Decline it")
+    sato.press("Withdraw it")
     lee.press("Approve 3,900.00")
     walk.has(lee, "It is past that", "409 WrongState", "declined")
     # Two cashiers book the same words under the same number: once, and the second is told.

@@ -1,6 +1,6 @@
 // Reads camt.053, a bank's statement by ISO 20022, in any of its versions: names are taken without their namespace.
 
-import { checkBalances, checked } from './statement.js';
+import { checkBalances, checked, knownOf, notBooked, totalOf } from './statement.js';
 import { NotUnderstood, amountText, bankRefOf, centsOf, dayAfter, dayOf, quoted, stripped, withNumber, within, wordsOf }
     from './values.js';
 import { readXml } from './xml.js';
@@ -81,7 +81,7 @@ function partsOf(entry, total, currency) {
 function textOf(entry, transactions) {
     const words = [textAt(entry, 'AddtlNtryInf')];
     for (const transaction of transactions) {
-        words.push(...transaction.all('RmtInf/Ustrd').map(({ text }) => text));
+        for (const { text } of transaction.all('RmtInf/Ustrd')) words.push(text);
         for (const party of ['RltdPties/Dbtr', 'RltdPties/Cdtr']) {
             words.push(textAt(transaction, `${party}/Nm`, `${party}/Pty/Nm`));
         }
@@ -93,7 +93,6 @@ function textOf(entry, transactions) {
 
 // The lines of an entry: one, or where it is a sum that the bank parts, one for each transaction.
 function linesOfEntry(entry, currency) {
-    if (!isBooked(entry)) return [];
     const reference = textAt(entry, 'AcctSvcrRef', 'NtryRef');
     if (!reference) throw new NotUnderstood("it has no reference of the bank's (AcctSvcrRef or NtryRef)");
     const [day, total] = [dayAt(entry, 'BookgDt'), signed(entry, currency)];
@@ -106,9 +105,17 @@ function linesOfEntry(entry, currency) {
         ({ day, bankRef: bankRefOf(`${reference}/${i + 1}`), cents, text: textOf(entry, [transaction]) }));
 }
 
-// The lines of all entries that are booked.
-const linesOf = (statement, currency) => statement.all('Ntry').flatMap((entry, i) =>
-    within(`entry ${i + 1}`, () => linesOfEntry(entry, currency)));
+// The lines of all entries that are booked. How many are not is noted.
+function linesOf(statement, currency, notes) {
+    let open = 0;
+    const lines = statement.all('Ntry').flatMap((entry, i) => within(`entry ${i + 1}`, () => {
+        if (isBooked(entry)) return linesOfEntry(entry, currency);
+        open += 1;
+        return [];
+    }));
+    if (open) notes.push(notBooked(open));
+    return lines;
+}
 
 // The statement's balances by their codes.
 function balancesOf(statement, currency) {
@@ -135,17 +142,31 @@ function firstCurrency(statement) {
     return first ? currencyOf(first) : '';
 }
 
+// What the file tells of its balances, where it tells one. The other one is that with its lines.
+function known(lines, opening, closing) {
+    const first = opening?.day ?? lines[0]?.day ?? null;
+    const last = closing?.day ?? null;
+    if (!opening && !closing) return knownOf({ first, last, why: 'the file tells no balance' });
+    return knownOf({ first, last, opening: opening ? opening.cents : closing.cents - totalOf(lines) });
+}
+
 // The statement of a camt.053 file, with the balances that it tells.
-export function readCamt(bytes, close) {
+export function readCamt(bytes) {
     const element = oneOf(readXml(bytes), 'BkToCstmrStmt/Stmt');
     const currency = firstCurrency(element);
-    const lines = checked(linesOf(element, currency));
+    const booked = [];
+    const notes = [];
+    const lines = checked(linesOf(element, currency, booked), notes);
+    notes.push(...booked);
     const balances = balancesOf(element, currency);
-    const statement = { lines, opening: openingOf(balances), closing: balances.get('CLBD') };
+    const [opening, closing] = [openingOf(balances), balances.get('CLBD')];
+    const statement = { lines, notes, opening, closing, known: known(lines, opening, closing) };
     checkBalances(statement);
-    if (close && statement.closing?.day !== close) {
-        throw new NotUnderstood(
-            `the file's closing balance is of ${statement.closing?.day ?? 'no day'}, not of ${close}`);
-    }
     return statement;
+}
+
+// Refuses another day than that of the closing balance.
+export function checkClose({ closing }, close) {
+    if (closing?.day === close) return;
+    throw new NotUnderstood(`the file's closing balance is of ${closing?.day ?? 'no day'}, not of ${close}`);
 }

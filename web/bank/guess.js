@@ -1,38 +1,29 @@
 // What the columns of a bank's CSV may be, by its heading and its cells. A person looks at it, and says if it is so.
 
 import { textOf } from '../csv.js';
-import { FORMATS, readCsv } from './columns.js';
-import { rowsOf } from './table.js';
-import { NotUnderstood, decoded, stripped } from './values.js';
+import { CREDIT, DEBIT, FORMATS, NO_COLUMNS, dayOfCell, isSummary } from './columns.js';
+import { NotUnderstood, stripped } from './values.js';
 
 export const SEPARATORS = [[',', 'comma'], [';', 'semicolon'], ['\t', 'tab'], ['|', 'bar']];
 
 const WITH_YEAR = /^[0-9]{4}[-/.][0-9]{1,2}[-/.][0-9]{1,2}$/;
-const AMOUNT = /^[-+(]?\s*[$]?[-+]?[0-9][0-9.,]*\)?$/;
+const AMOUNT = /^[-+(]?\s*[$]?[-+]?[0-9][0-9.,]*[-)]?$/;
 
 // What a column is, by its heading; the first that fits.
 const HEADINGS = [
     ['date', /date|posted|booked/i],
     ['number', /check|cheque|slip|serial/i],
     ['reference', /reference|fitid|transaction id|bank ref/i],
+    ['sign', /^\s*(dr|d)\s*[/|]?\s*(cr|c)\s*$|debit\s*(\/|or)\s*credit|credit\s*(\/|or)\s*debit/i],
+    ['balance', /balance|running bal/i],
     ['out', /debit|withdraw|paid out|money out/i],
     ['in', /credit|deposit|paid in|money in/i],
     ['amount', /amount/i],
     ['descriptions', /desc|memo|payee|text|details|narrative|name/i],
 ];
 
-// The rows of a file by a separator, or none where it can't be read so.
-export function rowsBy(bytes, separator) {
-    try {
-        return rowsOf(decoded(bytes), separator);
-    } catch (fault) {
-        if (fault instanceof NotUnderstood) return [];
-        throw fault;
-    }
-}
-
 // The separator that stands the most often in one of the first lines.
-function separatorOf(bytes) {
+export function separatorOf(bytes) {
     const lines = textOf(bytes.subarray(0, 20000)).split(/[\r\n]+/).slice(0, 20);
     const widthBy = ([separator]) => Math.max(...lines.map((line) => line.split(separator).length));
     return SEPARATORS.reduce((best, each) => (widthBy(each) > widthBy(best) ? each : best))[0];
@@ -46,38 +37,63 @@ const isDay = (cell) => WITH_YEAR.test(cell) || /^[0-9]{1,2}[-/.][0-9]{1,2}[-/.]
 const skipOf = (rows) => Math.max(0, rows.findIndex(({ cells }) =>
     cells.some((cell) => isDay(stripped(cell))) && cells.some((cell) => AMOUNT.test(stripped(cell)))));
 
-// The line whose day is none in this way, or Infinity where all are days.
-function lineWithoutDay(bytes, columns, format) {
-    try {
-        readCsv(bytes, { ...columns, format });
-        return Infinity;
-    } catch (fault) {
-        if (!(fault instanceof NotUnderstood)) throw fault;
-        return fault.message.includes('is no day') ? Number(/\d+/.exec(fault.message)[0]) : Infinity;
-    }
+// The row whose day is none in this way, by its place, or Infinity where all are days.
+function rowWithoutDay(rows, place, format) {
+    const at = rows.findIndex((row) => {
+        if (isSummary(row)) return false;
+        try {
+            dayOfCell(stripped(row.cells[place] ?? ''), format);
+            return false;
+        } catch (fault) {
+            if (fault instanceof NotUnderstood) return true;
+            throw fault;
+        }
+    });
+    return at === -1 ? Infinity : at;
 }
 
 // The ways in which all days of the file may be written; where there is none, that in which the most are.
-export function formatsOf(bytes, columns) {
-    const ways = ['', ...FORMATS].map((format) => ({ format, line: lineWithoutDay(bytes, columns, format) }));
-    const most = Math.max(...ways.map(({ line }) => line));
-    const best = ways.filter(({ line }) => line === most).map(({ format }) => format);
+export function formatsOf(rows, { skip, date }) {
+    const lines = rows.slice(skip);
+    const ways = ['', ...FORMATS].map((format) => ({ format, row: rowWithoutDay(lines, date, format) }));
+    const most = ways.reduce((best, { row }) => Math.max(best, row), 0);
+    const best = ways.filter(({ row }) => row === most).map(({ format }) => format);
     return most === Infinity ? best : best.slice(0, 1);
 }
 
 const hasCommaFor = (rows, places) => rows.some(({ cells }) =>
-    places.some((place) => place !== null && /,[0-9]{1,2}\)?$/.test(stripped(cells[place] ?? ''))));
+    places.some((place) => place !== null && /,[0-9]{1,2}[-)]?$/.test(stripped(cells[place] ?? ''))));
 
 // The heading by which the columns of a file are kept: that of its last row before the lines.
-export const headingOf = (rows, skip) => (skip > 0 ? rows[skip - 1].cells.map(stripped).join('|')
+export const headingOf = (rows, skip) => (skip > 0 ? (rows[skip - 1]?.cells ?? []).map(stripped).join('|')
     : `${rows[0]?.cells.length ?? 0} columns`);
 
-export function guessColumns(bytes) {
-    const separator = separatorOf(bytes);
-    const rows = rowsBy(bytes, separator);
+// The column that says of each line whether it is a debit or a credit, where no amount has a sign.
+function signOf(lines, { amount }) {
+    const told = lines.filter((row) => !isSummary(row)).map(({ cells }) => cells.map(stripped));
+    if (amount === null || !told.length || told.some((cells) => /[-(]/.test(cells[amount] ?? ''))) return null;
+    const width = told[0].length;
+    const places = Array.from({ length: width }, (_, place) => place).filter((place) => place !== amount);
+    return places.find((place) => told.every((cells) =>
+        DEBIT.test(cells[place] ?? '') || CREDIT.test(cells[place] ?? ''))) ?? null;
+}
+
+// The columns of a file without a heading, by their cells: the amount has cents, the number of a check digits alone.
+function guessByCells(lines, columns) {
+    const told = lines.map(({ cells }) => cells.map(stripped));
+    const cellsAt = (place) => told.map((cells) => cells[place] ?? '');
+    const places = Array.from({ length: told[0]?.length ?? 0 }, (_, place) => place)
+        .filter((place) => !cellsAt(place).every((cell) => isDay(cell)));
+    const isAmount = (cell) => AMOUNT.test(cell) && /[.,][0-9]{2}[-)]?$/.test(cell);
+    columns.amount = places.find((place) => cellsAt(place).every(isAmount)) ?? null;
+    columns.number = places.find((place) => cellsAt(place).some(Boolean)
+        && cellsAt(place).every((cell) => /^[0-9]{0,8}$/.test(cell))) ?? null;
+    columns.descriptions = places.filter((place) => cellsAt(place).some((cell) => /\p{L}{2}/u.test(cell)));
+}
+
+export function guessColumns(rows, separator) {
     const skip = skipOf(rows);
-    const columns = { separator, skip, format: '', mark: '', date: null, amount: null, out: null, in: null,
-        isTurned: false, descriptions: [], number: null, reference: null };
+    const columns = { ...NO_COLUMNS, separator, skip, descriptions: [] };
     const heads = skip > 0 ? rows[skip - 1].cells : [];
     heads.forEach((head, place) => {
         const [name] = HEADINGS.find(([, form]) => form.test(head)) ?? [];
@@ -85,10 +101,14 @@ export function guessColumns(bytes) {
         else if (name && columns[name] === null) columns[name] = place;
     });
     if (columns.amount !== null) Object.assign(columns, { out: null, in: null });
-    columns.mark = hasCommaFor(rows.slice(skip), [columns.amount, columns.out, columns.in]) ? ',' : '.';
+    const lines = rows.slice(skip);
+    if (!heads.length) guessByCells(lines, columns);
+    columns.sign = signOf(lines, columns);
+    columns.descriptions = columns.descriptions.filter((place) => place !== columns.sign);
+    columns.mark = hasCommaFor(lines, [columns.amount, columns.out, columns.in]) ? ',' : '.';
     const first = rows[skip]?.cells ?? [];
     columns.date ??= first.findIndex((cell) => isDay(stripped(cell)));
     columns.date = columns.date === -1 ? null : columns.date;
-    if (columns.date !== null) columns.format = formatsOf(bytes, columns)[0] ?? '';
+    if (columns.date !== null) columns.format = formatsOf(rows, columns)[0] ?? '';
     return columns;
 }

@@ -3,9 +3,9 @@
 // Both are read alike: a value is the text behind its tag, whether the tag is closed or not. A section begins with a
 // tag that holds no value itself (a transaction, a balance) and ends with its closing tag or where the next one begins.
 
-import { checked, totalOf } from './statement.js';
-import { NotUnderstood, SPACE, bankRefOf, centsOf, dayOf, decoded, quoted, stripped, withNumber, within, wordsOf }
-    from './values.js';
+import { checked, knownOf, notBooked, totalOf } from './statement.js';
+import { NotUnderstood, SPACE, bankRefOf, centsOf, dayBefore, dayOf, decoded, quoted, stripped, withNumber, within,
+    wordsOf } from './values.js';
 
 const TOKEN = new RegExp('<!\\[CDATA\\[(?<verbatim>.*?)\\]\\]>|<!--.*?-->|<\\?.*?\\?>'
     + `|<(?<end>/?)(?<name>[A-Za-z][A-Za-z0-9._]*)${SPACE}*/?>|(?<text>[^<]+)`, 'suy');
@@ -21,6 +21,8 @@ const SECTIONS =
     new Set(['BANKTRANLIST', 'BANKTRANLISTP', TRANSACTION, PENDING, 'LEDGERBAL', 'AVAILBAL', 'BALLIST', 'BAL']);
 // The values that a transaction has to have.
 const NEEDED = ['DTPOSTED', 'TRNAMT', 'FITID'];
+// So many elements a file may have.
+const MOST = 200_000;
 const CHARGES = new Set(['FEE', 'SRVCHG']);
 
 // A part of the file, by the name of its tag, and the texts of the values in it by their names.
@@ -56,6 +58,7 @@ function characterOf(entity, name, decimal, hexadecimal) {
 // The tags of the file, each with the text behind it.
 function tagsOf(text) {
     const tags = [];
+    let begun = 0;
     TOKEN.lastIndex = 0;
     while (TOKEN.lastIndex < text.length) {
         const at = TOKEN.lastIndex;
@@ -65,8 +68,11 @@ function tagsOf(text) {
             throw new NotUnderstood(`no tag of OFX begins with ${quoted(front)}`);
         }
         const { name, end, verbatim, text: plain } = token.groups;
-        if (name) tags.push({ name: name.toUpperCase(), isEnd: Boolean(end), value: '' });
-        else tags.at(-1).value += verbatim || (plain ?? '').replace(ENTITY, characterOf);
+        if (name) {
+            begun += end ? 0 : 1;
+            if (begun > MOST) throw new NotUnderstood(`the file has more than ${MOST} elements`);
+            tags.push({ name: name.toUpperCase(), isEnd: Boolean(end), value: '' });
+        } else tags.at(-1).value += verbatim || (plain ?? '').replace(ENTITY, characterOf);
     }
     return tags;
 }
@@ -80,7 +86,8 @@ function sectionsOf(tags) {
         if (SECTIONS.has(name)) sections.push(new Section(isEnd ? '' : name));
         else if (!isEnd) {
             const { values } = sections.at(-1);
-            values.set(name, [...(values.get(name) ?? []), value]);
+            if (values.has(name)) values.get(name).push(value);
+            else values.set(name, [value]);
         }
     }
     return sections;
@@ -148,26 +155,60 @@ function linesOf(sections) {
         within(`transaction ${i + 1}`, () => lineOf(transaction, currency)));
 }
 
-// The statement up to a day. The file's balance is of the moment of its download, in the midst of a day. So a day
-// before closed with that less the lines since, and the first day opened with the close less the lines up to it.
-function closed(lines, sections, close) {
+// The day on which the bank wrote the file; null where it does not tell.
+function writtenOn(sections) {
+    try {
+        return dayOfTime(sections.find(({ values }) => values.has('DTSERVER'))?.value('DTSERVER') ?? '');
+    } catch (fault) {
+        if (fault instanceof NotUnderstood) return null;
+        throw fault;
+    }
+}
+
+// The file's balance is of a moment. If the bank wrote the file on that same day, it is in the midst of the day: so a
+// day before closed with that less the lines since. On a later day it is that with which its own day closed.
+function balancesOf(lines, sections) {
+    if (!sections.some(({ name }) => name === 'LEDGERBAL')) throw new NotUnderstood('the file tells no balance');
     const [ledger, period] = [only(sections, 'LEDGERBAL'), only(sections, 'BANKTRANLIST')];
     const balance = { day: dayOfTime(ledger.needed('DTASOF')), cents: centsOf(ledger.needed('BALAMT')) };
-    const [first, last] = [dayOfTime(period.needed('DTSTART')), dayOfTime(period.needed('DTEND'))];
-    if (last < balance.day) {
+    const [first, end] = [dayOfTime(period.needed('DTSTART')), dayOfTime(period.needed('DTEND'))];
+    if (end < balance.day) {
         throw new NotUnderstood(
-            `the balance is of ${balance.day}, and the lines end on ${last}: those between are missing`);
+            `the balance is of ${balance.day}, and the lines end on ${end}: those between are missing`);
     }
-    if (close < first || close >= balance.day) {
-        throw new NotUnderstood(
-            `${close} is no day from ${first} to the day before that of the balance, ${balance.day}`);
+    const written = writtenOn(sections);
+    const isWhole = written !== null && written > balance.day;
+    const last = isWhole && written > end ? end : dayBefore(isWhole ? written : balance.day);
+    const to = isWhole ? end : balance.day;
+    const outside = lines.find(({ day }) => day < first || day > to);
+    return knownOf({
+        first,
+        last,
+        until: isWhole ? '' : `the day before that of the balance, ${balance.day}`,
+        opening: balance.cents - totalOf(lines.filter(({ day }) => day <= balance.day)),
+        fault: outside ? `a line is of ${outside.day}, and the file of ${first} to ${to}` : '',
+    });
+}
+
+// The same; where there is no balance, why, with the file's days as far as it tells them.
+function known(lines, sections) {
+    try {
+        return balancesOf(lines, sections);
+    } catch (fault) {
+        if (!(fault instanceof NotUnderstood)) throw fault;
+        const [first, last] = ['DTSTART', 'DTEND'].map((name) => dayAt(sections, name));
+        return knownOf({ first, last, why: fault.message });
     }
-    const outside = lines.find(({ day }) => day < first || day > balance.day);
-    if (outside) throw new NotUnderstood(`a line is of ${outside.day}, and the file of ${first} to ${balance.day}`);
-    const kept = lines.filter(({ day }) => day <= close);
-    const atClose = balance.cents - totalOf(lines.filter(({ day }) => day > close));
-    return { lines: kept, opening: { day: first, cents: atClose - totalOf(kept) },
-        closing: { day: close, cents: atClose } };
+}
+
+// A day of the list of lines; null where there is none.
+function dayAt(sections, name) {
+    try {
+        return dayOfTime(only(sections, 'BANKTRANLIST').needed(name));
+    } catch (fault) {
+        if (fault instanceof NotUnderstood) return null;
+        throw fault;
+    }
 }
 
 // The file behind its header, in which no tag stands but those of XML's own.
@@ -179,25 +220,15 @@ function bodyOf(text) {
     return text.slice(at);
 }
 
-// The statement of an OFX file. Balances are told where the statement is to close with a day.
-export function readOfx(bytes, close) {
+// The lines of an OFX file, and what it tells of its balances.
+export function readOfx(bytes) {
     const tags = tagsOf(bodyOf(decoded(bytes)));
     checkAccount(tags);
     const sections = sectionsOf(tags);
     checkStrays(sections);
-    const lines = checked(linesOf(sections));
-    return close ? closed(lines, sections, close) : { lines };
-}
-
-// The first and the last day that a statement of the file may close with, or null where it tells no such balance.
-export function daysToClose(bytes) {
-    try {
-        const sections = sectionsOf(tagsOf(bodyOf(decoded(bytes))));
-        const balance = dayOfTime(only(sections, 'LEDGERBAL').needed('DTASOF'));
-        const first = dayOfTime(only(sections, 'BANKTRANLIST').needed('DTSTART'));
-        return first < balance ? { first, before: balance } : null;
-    } catch (fault) {
-        if (fault instanceof NotUnderstood) return null;
-        throw fault;
-    }
+    const notes = [];
+    const lines = checked(linesOf(sections), notes);
+    const pending = sections.filter(({ name }) => name === PENDING).length;
+    if (pending) notes.push(notBooked(pending));
+    return { lines, notes, known: known(lines, sections) };
 }

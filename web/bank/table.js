@@ -4,6 +4,9 @@
 import { NotUnderstood, stripped } from './values.js';
 
 const MOST = 131072; // characters of a field
+// So many rows with a text a file may have, and so many columns each of them.
+const MOST_ROWS = 50_000;
+const MOST_COLUMNS = 99;
 
 // The lines of a text with their ends.
 const linesIn = (text) => text.match(/[^\r\n]*(?:\r\n|\r|\n)|[^\r\n]+$/g) ?? [];
@@ -68,12 +71,24 @@ class Table {
         else this.plain(letter);
     }
 
+    // A line without quotes is parted at once.
+    plainLine(line) {
+        const body = line.replace(/[\r\n]+$/, '');
+        this.cells = body === '' ? [] : body.split(this.separator).map((cell) => cell.replace(/^ +/, ''));
+        if (this.cells.some((cell) => cell.length > MOST)) this.fail(`field larger than field limit (${MOST})`);
+    }
+
     takeLine(line) {
         this.line += 1;
-        for (const letter of line) this.take(letter);
-        this.take('');
+        if (this.state === 'start' && !line.includes('"')) this.plainLine(line);
+        else {
+            for (const letter of line) this.take(letter);
+            this.take('');
+        }
         if (this.state !== 'start') return;
-        this.rows.push({ number: this.line, cells: this.cells });
+        if (this.cells.length > MOST_COLUMNS) this.fail(`it has more than ${MOST_COLUMNS} columns`);
+        if (this.cells.some((cell) => stripped(cell))) this.rows.push({ number: this.line, cells: this.cells });
+        if (this.rows.length > MOST_ROWS) this.fail(`the file has more than ${MOST_ROWS} rows`);
         this.cells = [];
     }
 }
@@ -83,5 +98,5 @@ export function rowsOf(text, separator) {
     const table = new Table(separator);
     for (const line of linesIn(text)) table.takeLine(line);
     if (table.state === 'quoted' || table.field.length) table.fail('unexpected end of data');
-    return table.rows.filter(({ cells }) => cells.some((cell) => stripped(cell)));
+    return table.rows;
 }

@@ -12,10 +12,11 @@ const MAX_TEXT_BYTES = 1000;
 
 // White space, as in the script; what JavaScript calls so is a little else.
 export const SPACE = '[\\t-\\r\\x1c-\\x20\\x85\\xa0\\u1680\\u2000-\\u200a\\u2028\\u2029\\u202f\\u205f\\u3000]';
-const SPACES = new RegExp(`${SPACE}+`, 'gu');
-const ENDS = new RegExp(`^${SPACE}+|${SPACE}+$`, 'gu');
-const CONTROLS = /[\x00-\x1f\x7f-\x9f]/gu;
-const AMOUNT = /^([-+]?)([0-9]{1,16})(?:[.,]([0-9]{0,2}))?$/;
+const IS_SPACE = new RegExp(`^${SPACE}$`, 'u');
+// What stands between white space and control characters.
+const WORD = new RegExp(`[^\\x00-\\x1f\\x7f-\\x9f${SPACE.slice(1, -1)}]+`, 'gu');
+// Of four decimals or more those behind the second are zeros. Of three nobody can say: they may be thousands.
+const AMOUNT = /^([-+]?)([0-9]{1,16})(?:[.,](?:([0-9]{0,2})|([0-9]{2})0{2,}))?$/;
 // What a check's or a slip's number stands behind, in a bank's words.
 const NUMBER_WORDS =
     '(?<![\\p{L}\\p{N}_])(check|chk|ck|cheque|slip|id number)[^a-z0-9]*((no|num|number)[^a-z0-9]*)?';
@@ -35,9 +36,25 @@ export function within(place, read) {
     }
 }
 
-export const stripped = (text) => text.replace(ENDS, '');
+// Without the white space at both ends. From there on, since a form that looks for the last of it begins anew at each.
+export function stripped(text) {
+    let [from, to] = [0, text.length];
+    while (from < to && IS_SPACE.test(text[from])) from += 1;
+    while (to > from && IS_SPACE.test(text[to - 1])) to -= 1;
+    return text.slice(from, to);
+}
 
-export const inOneLine = (text) => stripped(text.replace(CONTROLS, ' ').replace(SPACES, ' '));
+// The words of a text with one blank between them, until they have more than so many letters.
+export function inOneLine(text, most = Infinity) {
+    const words = [];
+    let length = 0;
+    for (const [word] of text.matchAll(WORD)) {
+        words.push(word);
+        length += word.length + 1;
+        if (length > most) break;
+    }
+    return words.join(' ');
+}
 
 // The characters of Windows-1252 from 0x80 on; five bytes are none.
 const FROM_80 = '\u20ac\0\u201a\u0192\u201e\u2026\u2020\u2021\u02c6\u2030\u0160\u2039\u0152\0\u017d\0'
@@ -87,8 +104,8 @@ export function quoted(text) {
 export function centsOf(text) {
     const parts = AMOUNT.exec(text);
     if (!parts) throw new NotUnderstood(`${quoted(text)} is no amount`);
-    const [, sign, dollars, rest] = parts;
-    const cents = BigInt(dollars) * 100n + BigInt((rest ?? '').padEnd(2, '0'));
+    const [, sign, dollars, rest, front] = parts;
+    const cents = BigInt(dollars) * 100n + BigInt((rest ?? front ?? '').padEnd(2, '0'));
     return sign === '-' ? -cents : cents;
 }
 
@@ -111,11 +128,14 @@ export function dayOf(year, month, day) {
     return text;
 }
 
-export function dayAfter(day) {
+function dayBeside(day, by) {
     const [year, month, date] = day.split('-').map(Number);
-    const next = new Date(Date.UTC(year, month - 1, date + 1));
+    const next = new Date(Date.UTC(year, month - 1, date + by));
     return dayOf(next.getUTCFullYear(), next.getUTCMonth() + 1, next.getUTCDate());
 }
+
+export const dayAfter = (day) => dayBeside(day, 1);
+export const dayBefore = (day) => dayBeside(day, -1);
 
 export const sumText = (text, digits) => sha256(encoder.encode(text)).slice(0, digits);
 
@@ -132,14 +152,19 @@ function cut(text) {
     return new TextDecoder('utf-8', { ignoreBOM: true }).decode(bytes.subarray(0, end));
 }
 
-// The bank's words in one line. What stands in a part before is not said again.
+// The bank's words in one line. What stands in a part before is not said again, nor what is behind the end.
 export function wordsOf(parts) {
     const told = [];
+    let length = 0;
     for (const part of parts) {
-        const words = inOneLine(part ?? '');
-        if (!told.some((other) => other.includes(words))) told.push(words);
+        const words = inOneLine(part ?? '', MAX_TEXT_BYTES + 1);
+        if (!told.some((other) => other.includes(words))) {
+            told.push(words);
+            length += words.length;
+        }
+        if (length > MAX_TEXT_BYTES) break;
     }
-    return cut(told.filter(Boolean).join(' ')).replace(new RegExp(`${SPACE}+$`, 'u'), '');
+    return stripped(cut(told.filter(Boolean).join(' ')));
 }
 
 const literally = (text) => text.replace(/[\\^$.*+?()[\]{}|/]/g, '\\$&');
@@ -148,6 +173,7 @@ const literally = (text) => text.replace(/[\\^$.*+?()[\]{}|/]/g, '\\$&');
 export function withNumber(text, told) {
     const number = stripped(told).replace(/^0+/, '');
     if (!number) return text;
+    if (number.length > MAX_TEXT_BYTES) return wordsOf([text, `check ${number}`]);
     const isThere = new RegExp(`${NUMBER_WORDS}0*${literally(number)}(?![0-9])`, 'iu').test(text);
     return isThere ? text : wordsOf([text, `check ${number}`]);
 }

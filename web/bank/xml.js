@@ -11,17 +11,19 @@ const ATTRIBUTE = new RegExp(`${SPACE}+(${NAME})${SPACE}*=${SPACE}*(?:"([^"<]*)"
 const OPEN = new RegExp(`<(${NAME})`, 'uy');
 const OPEN_END = new RegExp(`${SPACE}*(/?)>`, 'uy');
 const CLOSE = new RegExp(`</(${NAME})${SPACE}*>`, 'uy');
-const COMMENT = /<!--((?:(?!--)[\s\S])*)-->/uy;
 const VERBATIM = /<!\[CDATA\[([\s\S]*?)\]\]>/uy;
 const INSTRUCTION = new RegExp(`<\\?(${NAME})(?:${SPACE}[\\s\\S]*?)?\\?>`, 'uy');
 const TEXT = /[^<]+/uy;
 const DECLARATION = new RegExp(`^<\\?xml${SPACE}+version${SPACE}*=${SPACE}*("[A-Za-z0-9._-]+"|'[A-Za-z0-9._-]+')`
     + `(?:${SPACE}+encoding${SPACE}*=${SPACE}*(?:"([A-Za-z][A-Za-z0-9._-]*)"|'([A-Za-z][A-Za-z0-9._-]*)'))?`
     + `(?:${SPACE}+standalone${SPACE}*=${SPACE}*(?:"(?:yes|no)"|'(?:yes|no)'))?${SPACE}*\\?>`, 'u');
+const IS_NAME = new RegExp(`^${NAME}$`, 'u');
 const ENTITY = /&(?:#([0-9]+)|#x([0-9a-fA-F]+)|([^;&\s]*));?/gu;
 const NAMED = { amp: '&', lt: '<', gt: '>', quot: '"', apos: "'" };
 // Characters that no XML has.
 const FORBIDDEN = /[\x00-\x08\x0b\x0c\x0e-\x1f\ufffe\uffff]/u;
+// So many elements a file may have.
+const MOST = 200_000;
 const XML_SPACE = 'http://www.w3.org/XML/1998/namespace';
 const XMLNS_SPACE = 'http://www.w3.org/2000/xmlns/';
 
@@ -68,6 +70,8 @@ class Reader {
     constructor(text) {
         this.text = text;
         this.at = 0;
+        this.count = 0;
+        this.spaces = new Map([['xml', [XML_SPACE]]]); // of each prefix those that are declared, the innermost last
     }
 
     fail(what) {
@@ -109,10 +113,17 @@ class Reader {
 
     // A comment or an instruction; whether there is one.
     note() {
-        if (this.starts('<!--')) return Boolean(this.take(COMMENT)) || this.fail('a comment without its end');
+        if (this.starts('<!--')) return this.comment();
         if (!this.starts('<?')) return false;
         const found = this.take(INSTRUCTION);
         if (!found || /^xml$/i.test(found[1]) || found[1].includes(':')) this.fail('an instruction that is none');
+        return true;
+    }
+
+    comment() {
+        const end = this.text.indexOf('--', this.at + 4);
+        if (end === -1 || this.text[end + 2] !== '>') this.fail('a comment without its end');
+        this.at = end + 3;
         return true;
     }
 
@@ -126,60 +137,69 @@ class Reader {
         return root;
     }
 
-    // The attributes of a tag, and the spaces that its names may be of.
-    attributesOf(spaces) {
+    // The attributes of a tag, and the prefixes that it declares.
+    attributesOf() {
         const told = [];
         for (let found = this.take(ATTRIBUTE); found; found = this.take(ATTRIBUTE)) {
             told.push([found[1], this.plain((found[2] ?? found[3]).replace(/[\t\n]/g, ' '))]);
         }
-        const names = told.map(([name]) => name);
-        if (new Set(names).size !== names.length) this.fail('an attribute that stands twice');
-        return { told, inner: told.reduce((known, [name, value]) => this.declare(known, name, value), spaces) };
+        if (new Set(told.map(([name]) => name)).size !== told.length) this.fail('an attribute that stands twice');
+        return { told, prefixes: told.filter((each) => this.declare(...each)).map(([name]) => name.slice(6)) };
     }
 
-    declare(known, name, value) {
-        if (name === 'xmlns') {
-            if (value === XML_SPACE || value === XMLNS_SPACE) this.fail('a reserved namespace');
-            return new Map(known).set('', value);
-        }
-        if (!name.startsWith('xmlns:')) return known;
+    // Whether an attribute declares a prefix, which is empty for `xmlns` itself.
+    declare(name, value) {
+        if (name !== 'xmlns' && !name.startsWith('xmlns:')) return false;
         const prefix = name.slice(6);
         const isXml = prefix === 'xml';
-        if (prefix === 'xmlns' || value === '' || isXml !== (value === XML_SPACE) || value === XMLNS_SPACE
+        if (name === 'xmlns' ? value === XML_SPACE || value === XMLNS_SPACE
+            : prefix === 'xmlns' || value === '' || isXml !== (value === XML_SPACE) || value === XMLNS_SPACE
             || prefix.includes(':') || !prefix) this.fail('a namespace that is none');
-        return new Map(known).set(prefix, value);
+        if (this.spaces.has(prefix)) this.spaces.get(prefix).push(value);
+        else this.spaces.set(prefix, [value]);
+        return true;
     }
 
     // A name's part behind its prefix, which has to be declared.
-    local(name, spaces) {
+    local(name) {
         const parts = name.split(':');
         if (parts.length === 1) return { space: null, local: name };
         const [prefix, local] = parts;
-        if (parts.length > 2 || !prefix || !new RegExp(`^${NAME}$`, 'u').test(local)) this.fail(`the name ${name}`);
-        if (prefix === 'xmlns' || !spaces.has(prefix)) this.fail(`the prefix ${prefix} is not declared`);
-        return { space: spaces.get(prefix), local };
+        if (parts.length > 2 || !prefix || !IS_NAME.test(local)) this.fail(`the name ${name}`);
+        const space = prefix === 'xmlns' ? undefined : this.spaces.get(prefix)?.at(-1);
+        if (space === undefined) this.fail(`the prefix ${prefix} is not declared`);
+        return { space, local };
     }
 
-    open(spaces) {
+    open() {
+        this.count += 1;
+        if (this.count > MOST) throw new NotUnderstood(`the file has more than ${MOST} elements`);
         const found = this.take(OPEN);
         if (!found) this.fail('no tag begins here');
-        const { told, inner } = this.attributesOf(spaces);
+        const { told, prefixes } = this.attributesOf();
         const end = this.take(OPEN_END);
         if (!end) this.fail(`the tag ${found[1]} does not end`);
         const attributes = new Map();
         for (const [name, value] of told.filter(([each]) => each !== 'xmlns' && !each.startsWith('xmlns:'))) {
-            const { space, local } = this.local(name, inner);
+            const { space, local } = this.local(name);
             const key = space === null ? local : `{${space}}${local}`;
             if (attributes.has(key)) this.fail('an attribute that stands twice');
             attributes.set(key, value);
         }
-        return { name: found[1], inner, isWhole: end[1] === '/',
-            element: new Element(this.local(found[1], inner).local, attributes) };
+        const made = { name: found[1], prefixes, isWhole: end[1] === '/',
+            element: new Element(this.local(found[1]).local, attributes) };
+        if (made.isWhole) this.forget(made);
+        return made;
+    }
+
+    // What an element declares ends with it.
+    forget({ prefixes }) {
+        for (const prefix of prefixes) this.spaces.get(prefix).pop();
     }
 
     // The document's outermost element. The elements that are open are in a list, so that a deep file is no deep call.
     element() {
-        const first = this.open(new Map([['xml', XML_SPACE]]));
+        const first = this.open();
         const opened = first.isWhole ? [] : [first];
         while (opened.length) {
             const inside = opened.at(-1);
@@ -187,7 +207,7 @@ class Reader {
             if (this.starts('</')) {
                 const end = this.take(CLOSE);
                 if (!end || end[1] !== inside.name) this.fail(`${inside.name} does not end`);
-                opened.pop();
+                this.forget(opened.pop());
             } else if (this.starts('<![CDATA[')) {
                 const verbatim = this.take(VERBATIM) ?? this.fail('a verbatim part without its end');
                 this.say(inside.element, verbatim[1]);
@@ -196,14 +216,14 @@ class Reader {
         return first.element;
     }
 
-    inside({ element, inner }, opened) {
+    inside({ element }, opened) {
         const text = this.take(TEXT);
         if (text) {
             if (text[0].includes(']]>')) this.fail(']]> outside of a verbatim part');
             this.say(element, this.plain(text[0]));
             return;
         }
-        const made = this.open(inner);
+        const made = this.open();
         element.children.push(made.element);
         if (!made.isWhole) opened.push(made);
     }

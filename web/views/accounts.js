@@ -35,7 +35,8 @@ function sheetOf(page, { matter, client, account }, days, at) {
     const id = `account-${matter}`;
     return el('section', { class: 'sheet', 'aria-labelledby': id },
         at > 0 && sheetHead(page),
-        el('h2', { id }, label(client), ', matter ', link(`#/m/${matter}`, number(matter)), ', ', days),
+        el('h2', { id }, 'Statement of account of ', label(client), ', matter ',
+            link(`#/m/${matter}`, number(matter)), ', ', days),
         movedTable(account, account.movements.length));
 }
 

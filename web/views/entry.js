@@ -5,12 +5,15 @@ import { change } from '../asks.js';
 import { askAbout, askFirst } from '../boxes.js';
 import { entriesPath, entryPath, matterPath } from '../desk.js';
 import { button, el, label, link, money, p, quiet } from '../elements.js';
+import { FIRM_ITSELF, isFirmItself } from '../doubts.js';
 import { entryFacts } from '../entry-facts.js';
 import { form, partField } from '../forms.js';
 import { waitingOf } from '../lists.js';
 import { shown } from '../names.js';
 import { KINDS, fundOf } from '../words.js';
+import { isOfBank } from './another.js';
 import { backTo, roleIn } from './matter.js';
+import { movingNote } from './moving.js';
 import { doneTable, readActs } from './trail.js';
 
 const decision = (title, ...inside) =>
@@ -47,6 +50,8 @@ const DECIDED = 'It was decided meanwhile. Open it again.';
 const NEEDS_A_LAWYER = 'A lawyer of the matter has to approve it.';
 const WITHDRAWING = 'Withdraw what was proposed by mistake: it is not paid, and can be proposed anew.';
 
+const DECLINING = 'Declined, it is not paid, and can be proposed anew.';
+
 const paymentWords = ({ amount, payee }) => `${grouped(amount)} to ${shown(payee)}`;
 
 const withdrawing = ({ entry, decisions }) =>
@@ -63,14 +68,15 @@ async function proposedDecision(asked) {
     return decision('It waits for you',
         p(`Left of ${fundOf(entry)}: `, money(left)),
         isMore(entry.amount, left) && el('p', { class: 'warning' }, NOT_ENOUGH),
+        entry.from === 'general' && isFirmItself(page, entry.payee)
+            && el('p', { class: 'warning' }, label(entry.payee), ` ${FIRM_ITSELF}`),
         entry.from === 'general' && !isNothing(held)
             && p('Held: ', money(held), '. It counts once the bank has shown it.'),
         !isNothing(others) && p('Other payments that are proposed from it: ', money(others)),
         el('div', { class: 'buttons' },
             decisions.button('approve', `Approve ${what}`, `Approved: ${what}.`, ''),
-            decisions.button('decline', 'Decline it', 'Declined.'),
-            withdrawing(asked)),
-        el('p', { class: 'hint' }, WITHDRAWING));
+            asked.isOwn ? withdrawing(asked) : decisions.button('decline', 'Decline it', 'Declined.')),
+        el('p', { class: 'hint' }, asked.isOwn ? WITHDRAWING : DECLINING));
 }
 
 // Whoever may propose a payment may take it back.
@@ -137,12 +143,24 @@ function claimDecision(asked) {
 
 const DECISIONS = { deposit: depositDecision, payment: paymentDecision, fee: feeDecision, claim: claimDecision };
 
+// What undoes an entry: by a decision, or by lines of the cashier's own where a line of the bank made it what it is.
+function undoing({ no, entry, role }, decided) {
+    const another = role === 'cashier' && isOfBank(entry) && p(link(`#/m/${no}/e/${entry.entry}/another`,
+        'It was another\u2019s'), ': the line of the bank belongs to another entry, or to the firm.');
+    if (!decided && !another) return null;
+    return el('section', { class: 'undoing', 'aria-labelledby': 'undoing' },
+        el('h2', { id: 'undoing' }, 'If it was a mistake'), decided, another);
+}
+
 export async function showEntry(page, no, number) {
     const [{ body: matter }, { body: entry }, told] = await Promise.all([
         page.desk.get(matterPath(no)), page.desk.get(entryPath(no, number)), readActs(page, no)]);
     const place = el('div', {});
     const decisions = new Decisions(page, no, number, place);
-    const asked = { page, no, matter, entry, role: roleIn(page, matter), decisions };
+    // Whoever proposed a payment withdraws it; another lawyer declines it. Both is the same to the desk.
+    const isOwn = Boolean(told?.acts.some(({ entry: of, deed, caller }) =>
+        of === number && deed === 'proposed' && caller === page.person));
+    const asked = { page, no, matter, entry, role: roleIn(page, matter), decisions, isOwn };
     const decided = matter.closed ? null : await DECISIONS[entry.kind](asked);
     // What undoes stands below all else, and never where what does it stood before.
     const isUndoing = entry.state === 'issued' || entry.state === 'held';
@@ -150,10 +168,10 @@ export async function showEntry(page, no, number) {
         entryFacts(entry),
         doneTable(told?.acts, number),
         place,
+        asked.role === 'cashier' && movingNote(no, entry),
         isUndoing ? null : decided,
         backTo(no),
-        isUndoing && decided && el('section', { class: 'undoing', 'aria-labelledby': 'undoing' },
-            el('h2', { id: 'undoing' }, 'If it was a mistake'), decided),
+        undoing(asked, isUndoing && decided),
     ];
     return { title: [`${KINDS[entry.kind]} ${number} of matter ${no}, `, label(matter.client)], parts };
 }

@@ -1,12 +1,16 @@
 // The lines of the bank's file that are to be looked at: each with the entries that it may show, and what can be
 // decided of it.
 
-import { grouped } from '../amounts.js';
+import { grouped, isMore } from '../amounts.js';
 import { readReference } from '../bank-file.js';
-import { leftOfOwn, missingTo, ofItsAmount, onItsSide, together } from '../candidates.js';
+import { noteBox } from '../boxes.js';
+import { leftOfOwn, listedIn, missingTo, numberOf, ofItsAmount, onItsSide, takenBackBy, together }
+    from '../candidates.js';
 import { button, el, label, money, number, p, quiet, referenceLink, strong } from '../elements.js';
+import { isInterest } from '../interest.js';
 import { adviceOn, whyLeft } from '../reasons.js';
-import { column, table } from '../tables.js';
+import { column, longTable, table } from '../tables.js';
+import { interestOffer } from './interest.js';
 
 // So many lines are shown at first, and so many entries of each.
 const FIRST = 100;
@@ -30,7 +34,7 @@ const entriesTable = (caption, entries, useOf) =>
 const partsOf = (entries) => entries.map(({ reference, amount }) => ({ reference, amount }));
 
 // Chooses entries that are together a line's amount. `use` is told which.
-function chooser({ line, entries, use, close }) {
+export function chooser({ line, entries, use, close }) {
     const side = onItsSide(entries, line);
     const chosen = new Set();
     const told = el('p', { role: 'status' });
@@ -62,6 +66,7 @@ class Line {
     constructor(list, { line, reasons }) {
         Object.assign(this, { list, file: list.file, line, reasons, isChoosing: false, isLong: false });
         this.element = el('li', { class: 'line' });
+        this.asked = el('div', {});
         this.draw();
     }
 
@@ -88,6 +93,7 @@ class Line {
     decide(action) {
         action();
         this.isChoosing = false;
+        this.asked.replaceChildren();
         this.draw();
         this.element.querySelector('.decided, input')?.focus();
     }
@@ -115,8 +121,12 @@ class Line {
             back('Take it up again')];
     }
 
+    // What a line may be. Of one that was decided the other entries are folded away.
     choices() {
-        return [this.candidates(), this.isChoosing && this.choosing(), this.typing()];
+        const isDecided = this.reasons.every((each) => each === DECIDED);
+        const candidates = this.candidates();
+        return [isDecided ? el('details', {}, el('summary', {}, 'Other entries that it may be'), candidates)
+            : candidates, this.interest(), this.isChoosing && this.choosing(), this.typing()];
     }
 
     candidates() {
@@ -145,11 +155,80 @@ class Line {
         ];
     }
 
-    // A cleared deposit that the bank may have taken back.
+    // Whether the line may be a return: the desk says so, or it was decided here, and may be decided anew.
+    isReturn() {
+        const { amount, number: no } = this.line;
+        return amount.startsWith('-') && (this.file.typed.has(no) || this.reasons.some((reason) => listedIn(reason)
+            .some((each) => each.state === 'cleared' && `-${each.amount}` === amount)));
+    }
+
+    // Cleared deposits that the bank may have taken back, each with what speaks for it and against it.
     returned() {
-        const { returns } = this.list;
-        return entriesTable('Deposits that it may take back', returns.get(this.line.number) ?? [], ({ reference }) =>
-            button('Use this', () => this.use(reference)));
+        if (!this.isReturn()) return null;
+        const words = (each) => {
+            const shown = numberOf(each, this.line);
+            return [label(each.words),
+                shown && el('span', { class: 'warning' }, ` the bank\u2019s words have its number ${shown}`),
+                isMore(each.amount, each.available) && el('span', { class: 'hint' },
+                    ` only ${grouped(each.available)} is available there: it would be an exception until more is`)];
+        };
+        const use = ({ reference }) => {
+            const made = button('Use this', () => this.use(reference));
+            made.setAttribute('aria-label', `Use ${reference} for record ${this.line.number}`);
+            return made;
+        };
+        return longTable({ caption: 'Deposits that it may take back', columns: ENTRY_COLUMNS, first: ENTRIES,
+            items: takenBackBy(this.list.deposits, this.line), cells: (each) => [referenceLink(each.reference),
+                label(each.client), number(each.day), words(each), money(each.amount), use(each)] });
+    }
+
+    // What speaks against FIRM: an entry of exactly this amount waits, or the book has such a line of that day.
+    doubtsOfFirm() {
+        const { entries, ownLines } = this.list;
+        const waiting = ofItsAmount(entries ?? [], this.line).map(({ reference, client }) => [referenceLink(reference),
+            ', ', label(client), ', waits for the bank and has exactly this amount. Is the line of it? FIRM would be '
+            + 'the firm\u2019s own money.']);
+        const there = ownLines.filter(({ day, amount }) => day === this.line.date && amount === this.line.amount)
+            .map(({ bankRef, text }) => ['Perhaps in the book: the firm\u2019s own lines have this amount of this day '
+                + 'already, ', label([bankRef, text].filter(Boolean).join(' | ')), '.']);
+        return [...waiting.slice(0, ENTRIES), ...there];
+    }
+
+    isFirm() {
+        const { number: no } = this.line;
+        return this.file.typed.has(no) && readReference(this.file.typed.get(no)) === 'FIRM';
+    }
+
+    // Whether FIRM is to be asked about before it is taken.
+    isDoubted() {
+        return !sureOf(this.file).has(this.line.number) && this.doubtsOfFirm().length > 0;
+    }
+
+    takeFirm() {
+        if (!this.isDoubted()) {
+            this.use('FIRM');
+            return;
+        }
+        this.ask();
+    }
+
+    // Asks before FIRM is taken.
+    ask() {
+        const { number: no } = this.line;
+        this.asked.replaceChildren(noteBox(this.doubtsOfFirm().map((each) => p(each)), el('div', { class: 'buttons' },
+            button('FIRM all the same', () => {
+                sureOf(this.file).add(no);
+                this.use('FIRM');
+            }),
+            button('Not FIRM', () => this.decide(() => this.file.type(no, ''))))));
+        this.asked.firstChild.focus();
+    }
+
+    // A line of interest, as long as nothing is decided of it.
+    interest() {
+        const { account, page, again } = this.list;
+        if (!account || this.file.isNamed(this.line.number) || !isInterest(this.line)) return null;
+        return interestOffer(page, this.line, account, again);
     }
 
     choosing() {
@@ -164,7 +243,9 @@ class Line {
         const told = el('p', { class: 'decided', tabindex: '-1' });
         const tell = () => {
             const named = this.file.typed.has(no) && readReference(this.file.typed.get(no));
-            told.replaceChildren(...(named ? [strong('Named here: '), referenceLink(named), '.'] : []));
+            const doubts = named === 'FIRM' ? this.doubtsOfFirm() : [];
+            told.replaceChildren(...(named ? [strong('Named here: '), referenceLink(named), '.',
+                doubts.map((each) => el('span', { class: 'warning' }, ' ', each))].flat(Infinity).filter(Boolean) : []));
         };
         const input = el('input', { id, name: id, type: 'text', value: this.file.typed.get(no) ?? reference,
             autocomplete: 'off', spellcheck: 'false', 'aria-describedby': `${id}-error`,
@@ -180,7 +261,7 @@ class Line {
         const { own, entries } = this.list;
         return [told, el('label', { for: id, class: 'hint' }, `Reference of record ${no}`),
             el('div', { class: 'typing' }, input,
-                named(button('FIRM', () => this.use('FIRM')), 'FIRM for'),
+                named(button('FIRM', () => this.takeFirm()), 'FIRM for'),
                 entries && !this.isChoosing && named(button('Split it', () => {
                     this.isChoosing = true;
                     this.draw();
@@ -188,6 +269,7 @@ class Line {
                 }), 'Split'),
                 named(button('Leave it', () => this.decide(() => this.file.leave(no))), 'Leave')),
             el('p', { class: 'error', id: `${id}-error`, 'aria-live': 'polite' }),
+            this.asked,
             own && el('p', { class: 'hint' }, `FIRM is the firm\u2019s own money: ${grouped(own)} now, `
                 + `${grouped(leftOfOwn(own))} left to 500.00.`)];
     }
@@ -201,6 +283,14 @@ const unreadable = ({ line, reasons }) => el('li', { class: 'line' },
     quiet('It is mended in the file itself.'));
 
 const DECIDED = { name: 'Decided' };
+
+// Of which lines of a file FIRM was taken against a doubt.
+const SURE = new WeakMap();
+
+function sureOf(file) {
+    if (!SURE.has(file)) SURE.set(file, new Set());
+    return SURE.get(file);
+}
 
 // What is to be looked at, and what was decided here already, in the order of the file: each line once.
 function itemsOf(file, told) {
@@ -216,8 +306,9 @@ function itemsOf(file, told) {
 
 // All of them, as a form by which the file is matched again.
 export class LeftLines {
-    constructor({ file, told, own, wasException, again }) {
-        Object.assign(this, { file, own, wasException, entries: null, isRead: false, returns: new Map() });
+    constructor({ page, file, told, own, wasException, again }) {
+        Object.assign(this, { page, file, own, wasException, again, entries: null, isRead: false, deposits: [],
+            ownLines: [], account: null });
         this.items = itemsOf(file, told);
         this.lines = [];
         this.place = el('ol', { class: 'lines' });
@@ -227,7 +318,7 @@ export class LeftLines {
             return this.areReferences() ? again() : null;
         };
         this.element = this.items.length === 0 ? null : el('form', { class: 'left', submit, 'aria-busy': 'true' },
-            el('h2', {}, `To be looked at: ${this.items.length}`),
+            el('h2', {}, this.headWords()),
             p('A line without a reference is not imported. Use an entry, split the line over several, or type a '
                 + 'reference; FIRM is for the firm\u2019s own money. The file is kept in this browser with what you '
                 + 'decide.'),
@@ -235,6 +326,13 @@ export class LeftLines {
             this.more,
             el('button', { type: 'submit' }, 'Match again'));
         this.show(FIRST);
+    }
+
+    // How many are open, and how many were decided here.
+    headWords() {
+        const decided = this.items.filter(({ reasons }) => reasons.every((each) => each === DECIDED)).length;
+        const open = `To be looked at: ${this.items.length - decided}`;
+        return decided ? `${open}; decided here: ${decided}` : open;
     }
 
     show(count) {
@@ -246,11 +344,10 @@ export class LeftLines {
                 button(`Show all ${this.items.length}`, () => this.show(this.items.length))] : []));
     }
 
-    // What waits for the bank is known, or can't be read (null).
-    know(entries, returns) {
-        this.entries = entries;
-        this.returns = returns;
-        this.isRead = true;
+    // What waits for the bank is known, or can't be read (null); with the deposits that the bank has shown, the lines of
+    // the firm's own, and the matter that takes interest.
+    know(entries, deposits, ownLines, account) {
+        Object.assign(this, { entries, deposits, ownLines, account, isRead: true });
         for (const each of this.lines) if (each instanceof Line) each.know();
         this.element?.removeAttribute('aria-busy');
     }
@@ -267,6 +364,13 @@ export class LeftLines {
             if (isWrong) wrong ??= input;
         }
         wrong?.focus();
-        return !wrong;
+        return !wrong && !this.asksOfFirm();
+    }
+
+    // Asks of the first FIRM that was typed against a doubt.
+    asksOfFirm() {
+        const doubted = this.lines.find((each) => each instanceof Line && each.isFirm() && each.isDoubted());
+        doubted?.ask();
+        return Boolean(doubted);
     }
 }

@@ -19,7 +19,7 @@ const NEWEST = 100;
 
 // What a person is in a matter. The cashier has a seat in none.
 export const roleIn = (page, matter) =>
-    (page.person === 'cashier' ? 'cashier' : matter.seats.find(({ person }) => person === page.person)?.role);
+    (page.isCashier ? 'cashier' : matter.seats.find(({ person }) => person === page.person)?.role);
 
 export const hasLeft = ({ kind, left }) => kind === 'fee' && !isNothing(left);
 
@@ -37,6 +37,7 @@ const ACTIONS = {
     propose: 'Propose a payment',
     fee: 'Record an earned fee',
     claim: 'Hold for a lien or claim',
+    move: 'Move money to another matter',
     dispute: 'Dispute a fee',
     seats: 'Access',
     account: 'Statement of account',
@@ -45,7 +46,7 @@ const ACTIONS = {
 };
 
 const MAY = {
-    cashier: ['deposit', 'propose', 'claim', 'seats'],
+    cashier: ['deposit', 'propose', 'claim', 'move', 'seats'],
     lawyer: ['propose', 'fee', 'claim'],
     client: ['dispute'],
 };
@@ -116,7 +117,7 @@ async function purgingOf(page, no) {
 export async function showMatter(page, no) {
     const [{ matter, entries }, told] = await Promise.all([readMatterWhole(page, no), readActs(page, no)]);
     const place = el('div', {});
-    const isCashier = page.person === 'cashier';
+    const { isCashier } = page;
     const seats = matter.seats.map(({ person, role }) => `${person} (${role})`).join(', ');
     const parts = [
         sumsOf(matter),

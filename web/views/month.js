@@ -5,6 +5,7 @@ import { refusedBox } from '../boxes.js';
 import { button, el, explained, label, link, money, number, p, quiet, referenceLink, strong } from '../elements.js';
 import { readPrinted } from '../exceptions.js';
 import { shown } from '../names.js';
+import { toldRemarks } from '../remarks.js';
 import { readBreaks, readClients, readFigures, readMovements, readPacket, readRemarks } from '../reports.js';
 import { column, table } from '../tables.js';
 import { meansOf } from '../words.js';
@@ -22,9 +23,10 @@ const REMARK_COLUMNS = [column('What', 'tight'), column('Day', 'tight'), column(
 const REMARKS = { EARLY: 'early', DOUBLE: 'double', EXCEPTION: 'exception' };
 
 // An exception that can't be taken apart is shown whole.
-function remarkCells({ name, rest, reference, day, amount, instrument }) {
+function remarkCells({ name, rest, reference, day, amount, instrument, client, words }) {
     if (name !== 'EXCEPTION') {
-        return [REMARKS[name], number(day), referenceLink(reference), instrument && label(instrument), money(amount)];
+        const details = [client, words, instrument].filter(Boolean).join(' | ');
+        return [REMARKS[name], number(day), referenceLink(reference), details && label(details), money(amount)];
     }
     const fields = readPrinted(rest);
     if (!fields) return [REMARKS[name], '', '', label(rest), ''];
@@ -32,11 +34,11 @@ function remarkCells({ name, rest, reference, day, amount, instrument }) {
         label([fields.bank_ref, fields.text].filter(Boolean).join(' | ')), money(fields.amount)];
 }
 
-const reconciled = (text) => [
+const reconciled = (text, remarks) => [
     breaksBox(readBreaks(text)),
     resultBox(readFigures(text)),
     figuresTable(readFigures(text)),
-    table('What explains it, or is to be looked at', REMARK_COLUMNS, readRemarks(text).map(remarkCells)),
+    table('What explains it, or is to be looked at', REMARK_COLUMNS, remarks.map(remarkCells)),
     explained(meansOf(EXPLAINED)),
 ];
 
@@ -84,8 +86,14 @@ function keep(bytes, name) {
     setTimeout(() => URL.revokeObjectURL(href), 60_000);
 }
 
-function packet(page, day, { text, bytes }) {
+// What the bank had not shown on the day, by its references.
+const unshownIn = (text) => new Set(readMovements(text).flatMap(({ movements }) =>
+    movements.map(({ reference }) => reference)));
+
+async function packet(page, day, { text, bytes }) {
     const reports = readPacket(text);
+    const unshown = unshownIn(reports['OUTSTANDING ITEMS']);
+    const remarks = await toldRemarks(page, readRemarks(reports.RECONCILIATION), unshown);
     const sum = sha256(bytes);
     const name = `month-${day}.txt`;
     const sheets = PARTS.map(([report, words, show], at) => {
@@ -93,7 +101,7 @@ function packet(page, day, { text, bytes }) {
         return el('section', { class: 'sheet', 'aria-labelledby': id },
             at > 0 && sheetHead(page, day, at, sum),
             el('h2', { id }, `${words} `, number(daysOf(reports[report]))),
-            show(reports[report]),
+            show(reports[report], remarks),
             at === 0 && signing(sum, name));
     });
     return [
@@ -124,5 +132,5 @@ export async function month(page, day = null) {
         return { title, parts: [refusedBox(answer, page.person, ...more), asked()] };
     }
     rememberClosing(page, day);
-    return { title, parts: [packet(page, day, answer), asked()] };
+    return { title, parts: [await packet(page, day, answer), asked()] };
 }

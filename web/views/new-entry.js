@@ -3,7 +3,7 @@
 import { book, isUnanswered, newAsk } from '../asks.js';
 import { grouped, isNothing } from '../amounts.js';
 import { askAbout } from '../boxes.js';
-import { doubtsOfDeposit, doubtsOfPayment } from '../doubts.js';
+import { doubtsOfDeposit, doubtsOfPayment, nextCheck } from '../doubts.js';
 import { explained, label, p, quiet } from '../elements.js';
 import { amountField, choiceField, form, labelField } from '../forms.js';
 import { entryAfter, shown } from '../names.js';
@@ -55,35 +55,40 @@ function dispute({ entries, of }) {
 const isPayable = ({ kind, state, on, left }) =>
     kind === 'claim' && state === 'settled' && on === 'general' && !isNothing(left);
 
-// What a payment can be drawn on, in words, and whom it pays where that is fixed.
+// What a payment can be drawn on, in words, and what it pays to whom, where that is known.
 const fundsOf = ({ available }, entries) => [
     { value: 'general', words: `The general fund: ${grouped(available)} available`, payee: '', left: available },
-    ...entries.filter(hasLeft).map(({ entry, left }) =>
-        ({ value: `fee ${entry}`, words: `Fee ${entry}: ${grouped(left)} left, paid to FIRM`, payee: 'FIRM', left })),
-    ...entries.filter(isPayable).map(({ entry, left, claimant: payee }) => ({ value: `claim ${entry}`,
-        words: `Claim ${entry}: ${grouped(left)} left, paid to ${shown(payee)}`, payee, left })),
+    ...entries.filter(hasLeft).map(({ entry, left, description: purpose }) => ({ value: `fee ${entry}`,
+        words: `Fee ${entry}: ${grouped(left)} left, paid to FIRM`, payee: 'FIRM', left, amount: left, purpose })),
+    ...entries.filter(isPayable).map(({ entry, left, claimant: payee, reason: purpose }) => ({ value: `claim ${entry}`,
+        words: `Claim ${entry}: ${grouped(left)} left, paid to ${shown(payee)}`, payee, left, amount: left, purpose })),
 ];
 
 // To the desk the firm is FIRM alone, and `Firm` somebody whom the general fund pays. A claim pays whom it names.
 const payeeOfDesk = (typed, fund) => (fund !== 'claim' && /^firm$/i.test(typed) ? 'FIRM' : typed);
 
-function propose({ page, matter, entries, fund, of }) {
+// What the fund fills in, as long as nothing else was typed there.
+const FILLED = ['amount', 'payee', 'purpose'];
+
+async function propose({ page, matter, entries, fund, of }) {
     const funds = fundsOf(matter, entries);
-    const payeeOf = (value) => funds.find((each) => each.value === value)?.payee ?? '';
+    const fundOf = (value) => funds.find((each) => each.value === value);
     const chosen = fund ? `${fund} ${of}` : 'general';
-    if (!funds.some(({ value }) => value === chosen)) {
-        return { title: 'Propose a payment', none: `Nothing is left to be paid of ${chosen}.` };
-    }
+    let filled = fundOf(chosen);
+    if (!filled) return { title: 'Propose a payment', none: `Nothing is left to be paid of ${chosen}.` };
+    const number = await nextCheck(page);
     return {
         title: 'Propose a payment', kind: 'propose', action: 'Propose it',
         about: 'A lawyer of the matter has to approve it before anything is paid.',
         means: ['General fund', 'Earned fee'],
         fields: [
             choiceField('from', 'Drawn on', funds.map(({ value, words }) => [value, words]), chosen),
-            amountField(),
-            labelField('payee', 'Payee', { value: payeeOf(chosen) }),
-            labelField('purpose', 'Purpose'),
-            labelField('instrument', 'Check or transfer number', { hint: 'As the bank will print it, such as 1001' }),
+            amountField({ value: filled.amount }),
+            labelField('payee', 'Payee', { value: filled.payee }),
+            labelField('purpose', 'Purpose', { value: filled.purpose }),
+            labelField('instrument', 'Check or transfer number', { value: number, hint: number
+                ? `As the bank will print it. ${number} is behind the greatest number of a check`
+                : 'As the bank will print it, such as 1001' }),
         ],
         sentOf({ from, payee, ...values }) {
             const [name, drawn] = from.split(' ');
@@ -93,8 +98,16 @@ function propose({ page, matter, entries, fund, of }) {
         doubtsOf: (values) =>
             doubtsOfPayment(page, values, entries, funds.find(({ value }) => value === values.from)?.left),
         prepare(made) {
-            const { from, payee } = made.elements;
-            from.addEventListener('change', () => { payee.value = payeeOf(from.value); });
+            const { from } = made.elements;
+            from.addEventListener('change', () => {
+                const now = fundOf(from.value);
+                for (const name of FILLED) {
+                    const field = made.elements.namedItem(name);
+                    const isTyped = field.value !== '' && field.value !== (filled[name] ?? '');
+                    if (name === 'payee' || !isTyped) field.value = now[name] ?? '';
+                }
+                filled = now;
+            });
         },
     };
 }
@@ -108,7 +121,7 @@ export async function newEntry(page, no, verb, fund = null, of = null) {
         return { title: `Matter ${no}`, parts: [first, backTo(no)] };
     }
     const entry = entryAfter(matter.entries);
-    const asked = FORMS[verb]({ page, matter, entries, fund, of });
+    const asked = await FORMS[verb]({ page, matter, entries, fund, of });
     if (asked.none) return { title: asked.title, parts: [p(asked.none), backTo(no)] };
     const askOf = (values) => newAsk({
         matter: no, entry, verb, kind: asked.kind, fields: asked.sentOf?.(values) ?? values, what: asked.whatOf(values),

@@ -18,7 +18,7 @@ const otherDay = (day) => day !== clockDay()
 
 const sumsOf = (books, exceptions) => sums([
     ['total', 'All ledgers together', money(books.total)],
-    ['firm', "The firm's own", money(books.firm)],
+    ['firm', "The firm's own", money(books.firm), link('#/own', 'Its lines')],
     ['exceptions', 'Bank lines that match nothing', exceptions ? link('#/report/exceptions', String(exceptions)) : '0'],
 ], 'firm');
 
@@ -113,8 +113,8 @@ export async function overview(page) {
         sumsOf(readTrial(trial), countLines(exceptions)),
         matters.length > 0 && waitingTables(waiting),
         unshownPart(page, unshownIn(matters, waiting)),
-        chart('The account by day, as the journal has it', balanceOfJournal(journal), page.desk.day),
         matters.length > 0 && findEntries(page, waiting),
+        chart('The account by day, as the journal has it', balanceOfJournal(journal), page.desk.day),
         matterLists(matters, kept),
         readAgain(page),
     ];

@@ -1,6 +1,7 @@
 // A file of records is sent: each as its request, in order. It goes on where it stopped; sent again nothing is booked
 // twice.
 
+import { kindOf } from '../bank/file.js';
 import { doneBox, failedBox, noteBox, warningBox } from '../boxes.js';
 import { GREATEST } from '../desk.js';
 import { button, el, label, link, p, strong } from '../elements.js';
@@ -60,6 +61,11 @@ class Records {
 
     // A file with a record that is none is not sent at all.
     read(name, bytes) {
+        if (kindOf(bytes) !== 'csv') {
+            this.show(warningBox(`${name} is a file of the bank\u2019s, and none of records.`,
+                p('It is matched and imported as a ', link('#/statement', 'bank statement'), '.')));
+            return;
+        }
         Object.assign(this, { name, records: readRecords(bytes), answers: [] });
         const wrong = this.records.filter(({ wrong: is }) => is);
         if (wrong.length || !this.records.length) {

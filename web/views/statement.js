@@ -5,18 +5,22 @@ import { readAtBank } from '../at-bank.js';
 import { kindOf } from '../bank/file.js';
 import { BankFile } from '../bank-file.js';
 import { doneBox, failedBox, noteBox, tellRefusal, warningBox } from '../boxes.js';
-import { listedIn } from '../candidates.js';
+import { readShown } from '../corrections.js';
 import { textOf } from '../csv.js';
-import { GREATEST } from '../desk.js';
+import { GREATEST, Refused } from '../desk.js';
 import { button, el, facts, link, p, referenceLink } from '../elements.js';
 import { movementOf, readByMovement } from '../exceptions.js';
+import { isInterest, readInterest } from '../interest.js';
 import { areInBook, isSameAs, matchFile } from '../matched.js';
 import { whyException } from '../reasons.js';
 import { countLines, readTrial } from '../reports.js';
+import { findShortfalls } from '../shortfalls.js';
 import { rememberClosing } from './closings.js';
+import { savingColumns } from './columns.js';
 import { dismissOffers } from './exceptions.js';
 import { LeftLines } from './left.js';
 import { BELOW_ZERO, countWrong, matchedBox, writtenTable } from './matched.js';
+import { shortfallBoxes } from './shortfalls.js';
 import { Taking } from './taking.js';
 
 const LINES_A_MINUTE = 3600; // on a busy disk
@@ -104,24 +108,12 @@ async function readBeside(page) {
     return new Beside(trial.isDone ? readTrial(trial.text).firm : null, exceptions);
 }
 
-// What the desk makes of the file, and the exceptions that its lines are already.
+// What the desk makes of the file, the exceptions that its lines are already, and what it would take back of money that
+// is spent.
 async function look(page, file) {
     const found = await matchFile(page, file);
     if (found.refused) return found;
-    return { ...found, beside: await readBeside(page) };
-}
-
-// Cleared deposits that lines below zero may take back, by the lines' numbers: of the entries that the reasons list.
-function returnsIn(told) {
-    const found = new Map();
-    for (const { line, reason } of told) {
-        if (!line?.isWhole) continue;
-        const returned = listedIn(reason)
-            .filter(({ state, amount }) => state === 'cleared' && `-${amount}` === line.amount)
-            .map(({ reference, day, party, amount }) => ({ reference, client: '', day, words: party, amount }));
-        if (returned.length > 0) found.set(line.number, returned);
-    }
-    return found;
+    return { ...found, beside: await readBeside(page), short: await findShortfalls(page, found.lines) };
 }
 
 // The view: its elements, and the file at hand, which is null where there is none.
@@ -131,6 +123,7 @@ class Statement {
         this.file = BankFile.kept(page.shelf);
         this.isBusy = false;
         this.asks = 0;
+        this.taking = null; // the bank's file that was chosen last, until it is taken
         this.input = el('input', { type: 'file', id: 'file', name: 'file', accept: ACCEPTED,
             'aria-describedby': 'file-hint file-error' });
         this.error = el('p', { class: 'error', id: 'file-error', 'aria-live': 'polite' });
@@ -145,6 +138,7 @@ class Statement {
     async run(action) {
         if (this.isBusy) return;
         this.isBusy = true;
+        this.place.setAttribute('aria-busy', 'true');
         try {
             await action();
         } catch (fault) {
@@ -152,6 +146,7 @@ class Statement {
             this.tell(failedBox(fault));
         } finally {
             this.isBusy = false;
+            this.place.removeAttribute('aria-busy');
         }
     }
 
@@ -200,6 +195,7 @@ class Statement {
         const [chosen] = this.input.files;
         this.lists.replaceChildren();
         this.place.replaceChildren();
+        this.taking?.reader.end();
         if (this.file && !chosen) {
             this.error.textContent = '';
             await action();
@@ -209,7 +205,7 @@ class Statement {
         if (!bytes) return;
         this.input.value = '';
         if (kindOf(bytes) === 'statement') await this.keep(chosen.name, textOf(bytes), action);
-        else this.showBankFile(chosen.name, bytes);
+        else await this.showBankFile(chosen.name, bytes);
     }
 
     async keep(name, text, action) {
@@ -222,14 +218,16 @@ class Statement {
         await action();
     }
 
-    showBankFile(name, bytes) {
+    async showBankFile(name, bytes) {
         this.tell();
         const take = (text) => this.run(async () => {
             this.place.replaceChildren();
             await this.keep(name, textOf(new TextEncoder().encode(text)), () => this.match());
         });
         const taking = new Taking({ page: this.page, name, bytes, take });
+        this.taking = taking;
         this.place.replaceChildren(taking.element);
+        await taking.read();
         taking.element.querySelector('select, input, button')?.focus();
     }
 
@@ -260,28 +258,39 @@ class Statement {
     }
 
     showLists(found) {
-        const wrong = countWrong(found);
+        const wrong = countWrong(found) + found.short.length;
         const ask = wrong ? button('Import these all the same', () => this.run(() => this.importThese(found)))
             : button('Import these', () => this.run(() => this.importThese(found)), '');
-        const importing = found.lines.length > 0 && [wrong > 0 && warningBox(WRONG), p(ask)];
+        const importing = found.lines.length > 0 && [countWrong(found) > 0 && warningBox(WRONG),
+            shortfallBoxes(this.page, found.short, (line) => this.run(() => this.leave(line))), p(ask)];
         const { own } = found.beside;
-        const left = new LeftLines({ file: this.file, told: found.told, own, again: () => this.run(() => this.match()),
-            wasException: (line) => found.beside.words(line) });
+        const left = new LeftLines({ page: this.page, file: this.file, told: found.told, own,
+            again: () => this.run(() => this.match()), wasException: (line) => found.beside.words(line) });
         this.lists.replaceChildren(
             ...[writtenTable(found.lines), importing, left.element].flat(Infinity).filter(Boolean));
         if (left.element) this.readEntries(left, found.told);
     }
 
-    // Reads what waits for the bank, beside all else; what is late for another list is dropped.
+    // Leaves a line of what would be imported, and matches again.
+    async leave(line) {
+        const own = this.file.lines.find((each) => each.isWhole && isOf(each, line));
+        if (own) this.file.leave(own.number);
+        await this.match();
+    }
+
+    // Reads what waits for the bank, the deposits that it has shown, the firm's own lines and, for a line of interest, the
+    // matter that takes it, beside all else; what is late for another list is dropped.
     async readEntries(left, told) {
         this.asks += 1;
         const mine = this.asks;
-        let known = null;
+        let known = [null, [], [], null]; // references can be typed all the same
         try {
             const entries = await readAtBank(this.page);
-            known = [entries, returnsIn(told)];
-        } catch {
-            known = [null, new Map()]; // references can be typed all the same
+            const { deposits, own } = await readShown(this.page, entries);
+            const hasInterest = told.some(({ line }) => line?.isWhole && isInterest(line));
+            known = [entries, deposits, own, hasInterest ? await readInterest(this.page) : null];
+        } catch (fault) {
+            if (!(fault instanceof Refused)) console.error(fault);
         }
         if (mine === this.asks) left.know(...known);
     }
@@ -396,5 +405,6 @@ class Statement {
 export function statement(page) {
     const view = new Statement(page);
     const later = () => (view.file ? view.run(() => view.match(true)) : null);
-    return { title: 'Bank statement', parts: [view.form(), view.place, view.told, view.lists], later };
+    return { title: 'Bank statement', parts: [view.form(), view.place, view.told, view.lists, savingColumns(page)],
+        later };
 }

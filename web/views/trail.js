@@ -63,7 +63,7 @@ export const actsNote = (told) => (told ? told.earlier && p(CUT) : p(UNREAD));
 
 // What the cashier prints is the text, which the firm files; all others print the table.
 async function toPrint(page, matter, table) {
-    if (page.person !== 'cashier') return table;
+    if (!page.isCashier) return table;
     const path = `/firm/trail/${matter}`;
     const answer = await page.desk.read(path);
     if (!answer.isDone) return [table, refusedBox(answer, page.person)];

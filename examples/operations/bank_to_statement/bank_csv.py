@@ -8,13 +8,25 @@ from dataclasses import dataclass
 
 from . import csv_rules
 from .csv_rules import COLUMN, Condition, Pattern, Rules
-from .statement import Line, Statement, checked
-from .values import (NotUnderstood, amount_text, bank_ref_of, cents_of, day_of, decoded, quoted, with_number, within,
-                     words_of)
+from .statement import MANY, Known, Line, Statement, checked
+from .values import (NotUnderstood, amount_text, bank_ref_of, cents_of, day_of, decoded, in_one_line, quoted,
+                     with_number, within, words_of)
 
 DAY = re.compile(r"([0-9]{4})[-/.]([0-9]{1,2})[-/.]([0-9]{1,2})")
-# A sign, or parentheses in its place; dollars or no word for them; digits and their marks.
-AMOUNT = re.compile(r"(?:([-+]?)[$]?|[$]([-+]))([0-9.,]+)|\([$]?([0-9.,]+)\)")
+# A sign in front or a minus behind, or parentheses in its place; dollars or no word for them; digits and their marks.
+AMOUNT = re.compile(r"(?:([-+]?)[$]?|[$]([-+]))([0-9.,]+)|[$]?([0-9.,]+)-|\([$]?([0-9.,]+)\)")
+# Cells of rows that are no lines of the account: its sums and balances.
+SUMMARY = re.compile(
+    r"(?:(?:sub|grand )?totals?(?: (?:credits|debits|deposits|withdrawals|payments|fees|checks))?"
+    r"|(?:beginning|opening|starting|previous|ending|closing|final) (?:ledger )?balance"
+    r"|balance (?:brought |carried )?forward)(?: (?:as of|on|for) .*)?:?", re.IGNORECASE)
+# Of these the ones with which the file opens.
+OPENS = re.compile("beginning|opening|starting|previous|balance (?:brought )?forward", re.IGNORECASE)
+TOTALS = re.compile("(?:sub|grand )?total", re.IGNORECASE)
+AS_OF = re.compile(" (?:as of|on|for) (.*?):?$", re.IGNORECASE)
+# So many rows with a text a file may have, and so many columns each of them.
+MOST_ROWS = 50_000
+MOST_COLUMNS = 99
 REFERENCE = re.compile(r"(?:^|[\s,])ref:([^,]*)")
 
 
@@ -36,11 +48,24 @@ def rows_of(text: str, rules: Rules) -> list[Row]:
     """The rows behind those that are skipped. Rows without any text are passed over."""
     file = io.StringIO(text, newline="")
     reader = csv.reader(file, delimiter=rules.separator, skipinitialspace=True, strict=True)
+    rows: list[Row] = []
     try:
-        rows = [Row(reader.line_num, cells) for cells in reader]
+        for cells in reader:
+            with within(f"line {reader.line_num}"):
+                take_row(rows, Row(reader.line_num, cells))
     except csv.Error as reason:
         raise NotUnderstood(f"line {reader.line_num}: {reason}") from None
-    return [row for row in rows if any(map(str.strip, row.cells))][rules.skip:]
+    return rows[rules.skip:]
+
+
+def take_row(rows: list[Row], row: Row) -> None:
+    """Takes a row, if it has a text."""
+    if len(row.cells) > MOST_COLUMNS:
+        raise NotUnderstood(f"it has more than {MOST_COLUMNS} columns")
+    if any(map(str.strip, row.cells)):
+        rows.append(row)
+    if len(rows) > MOST_ROWS:
+        raise NotUnderstood(f"the file has more than {MOST_ROWS} rows")
 
 
 def fits(row: Row, pattern: Pattern, rules: Rules) -> bool:
@@ -66,8 +91,8 @@ def filled(row: Row, name: str, value: str, rules: Rules) -> str:
     text = COLUMN.sub(lambda it: row.cell(rules.place_of(it[1])), value).strip()
     # A minus before the column of an amount turns its sign around.
     is_turned = name.startswith("amount") and value.startswith("-%")
-    turned = re.fullmatch(r"-(?:-(.*)|\((.*)\))", text) if is_turned else None
-    return (turned[1] or turned[2] or "") if turned else text
+    turned = re.fullmatch(r"-(?:-(.*)|\((.*)\)|(.*)-)", text) if is_turned else None
+    return (turned[1] or turned[2] or turned[3] or "") if turned else text
 
 
 def assigned(row: Row, rules: Rules) -> dict[str, str]:
@@ -78,7 +103,7 @@ def assigned(row: Row, rules: Rules) -> dict[str, str]:
             if condition.is_skip:
                 return {}
             assignments.update(condition.assignments)
-    return {name: filled(row, name, value, rules) for name, value in assignments.items()}
+    return {name: filled(row, name, value, rules) for name, value in assignments.items() if name != "balance"}
 
 
 def day_of_cell(text: str, date_format: str) -> str:
@@ -115,9 +140,9 @@ def cents_of_cell(text: str, decimal_mark: str) -> int:
     parts = AMOUNT.fullmatch(text)
     if not parts:
         raise NotUnderstood(f"{quoted(text)} is no amount")
-    sign, inner_sign, digits, digits_in_parentheses = parts.groups()
-    cents = cents_of(plain_number(digits or digits_in_parentheses, decimal_mark))
-    return -cents if "-" in (sign, inner_sign) or digits_in_parentheses else cents
+    sign, inner_sign, digits, before_minus, in_parentheses = parts.groups()
+    cents = cents_of(plain_number(digits or before_minus or in_parentheses, decimal_mark))
+    return -cents if "-" in (sign, inner_sign) or before_minus or in_parentheses else cents
 
 
 def cents_of_row(values: dict[str, str], rules: Rules) -> int:
@@ -155,24 +180,129 @@ def check_shape(own: tuple[int, str], first: tuple[int, str]) -> None:
         raise NotUnderstood(f"it is in {quoted(own[1])}, and the first line in {quoted(first[1])}")
 
 
-def lines_of(rows: list[Row], rules: Rules) -> list[Line]:
-    """The lines of all rows that are not skipped. All of them have to have as many columns, and one currency."""
+@dataclass(frozen=True)
+class Step:
+    """What a row moves, in cents, and the balance behind it, if it tells one. Of a row that is no line, whether the
+    file opens with it."""
+
+    cents: int
+    balance: int | None
+    day: str | None
+    is_line: bool = True
+    opens: bool = False
+
+
+def summary_of(row: Row) -> str | None:
+    """The words of a row by which it is no line; None where it is none of these."""
+    return next((it for it in map(in_one_line, row.cells) if SUMMARY.fullmatch(it)), None)
+
+
+def balance_of(row: Row, is_line: bool, rules: Rules) -> int | None:
+    """The balance of a row, if it has one that can be read. Of a row that is no line it may stand in the amount's
+    place."""
+    for name in ("balance",) if is_line else ("balance", "amount"):
+        try:
+            text = filled(row, name, rules.assignments.get(name, ""), rules)
+        except NotUnderstood:
+            continue
+        if text:
+            try:
+                return cents_of_cell(text, rules.decimal_mark)
+            except NotUnderstood:
+                return None
+    return None
+
+
+def mark_of(row: Row, words: str, rules: Rules) -> Step:
+    """A balance among the rows: it moves nothing, and tells the day that the file opens or closes with."""
+    as_of = AS_OF.search(words)
+    day = None
+    for value in (rules.assignments["date"], as_of[1] if as_of else ""):
+        try:
+            day = day or day_of_cell(filled(row, "date", value, rules), rules.date_format)
+        except NotUnderstood:
+            pass
+    return Step(0, balance_of(row, False, rules), day, False, OPENS.match(words) is not None)
+
+
+def opening_of(steps: list[Step]) -> int | None:
+    """The balance before the first of some steps; None where their balances do not go with their amounts."""
+    total, opening = 0, None
+    for step in steps:
+        total += step.cents
+        if step.balance is not None:
+            opening = step.balance - total if opening is None else opening
+            if opening + total != step.balance:
+                return None
+    return opening
+
+
+def balance_before(steps: list[Step]) -> int:
+    """The same, of rows that stand with the oldest or with the newest first. Where both fit, their days tell which."""
+    if all(step.balance is None for step in steps):
+        raise NotUnderstood("the file tells no balance")
+    forward, backward = opening_of(steps), opening_of(steps[::-1])
+    if forward is None and backward is None:
+        raise NotUnderstood("the balances of the file do not go with its amounts")
+    if forward is None or backward is None or forward == backward:
+        return forward if forward is not None else backward or 0
+    days = [step.day for step in steps if step.day]
+    if days[0] == days[-1]:
+        raise NotUnderstood("the balances of the file can be read in two orders")
+    return forward if days[0] < days[-1] else backward
+
+
+def known_of(steps: list[Step]) -> Known:
+    """The file's first day, and what it tells of its balances. It does not tell where it ends."""
+    days = sorted(step.day for step in steps if step.day and (step.is_line or step.opens))
+    first = days[0] if days else None
+    try:
+        if first is None:
+            raise NotUnderstood("the file has no day")
+        return Known(first, opening=balance_before(steps))
+    except NotUnderstood as reason:
+        return Known(first, why=str(reason))
+
+
+def lines_of(rows: list[Row], rules: Rules, notes: list[str]) -> tuple[list[Line], list[Step]]:
+    """The lines of all rows that are not skipped, which have to have as many columns, and one currency; and all that
+    moves or tells the balance."""
     lines: list[Line] = []
+    steps: list[Step] = []
     seen: dict[str, int] = {}
     shape: tuple[int, str] | None = None
     for row in rows:
+        words = summary_of(row)
+        if words is not None:
+            notes.append(f"line {row.number} left out: no line of the account: {quoted(words)}")
+            if not TOTALS.match(words):
+                steps.append(mark_of(row, words, rules))
+            continue
         with within(f"line {row.number}"):
             values = assigned(row, rules)
             if not values:
                 continue
-            lines.append(line_of(values, rules, seen))
+            line = line_of(values, rules, seen)
             own = (len(row.cells), values.get("currency", ""))
             shape = shape or own
             check_shape(own, shape)
-    return lines
+        lines.append(line)
+        steps.append(Step(line.cents, balance_of(row, True, rules), line.day))
+    return lines, steps
+
+
+def note_one_side(lines: list[Line], notes: list[str]) -> None:
+    """Asks about lines that all go one way."""
+    if len(lines) >= MANY and len({line.cents > 0 for line in lines}) == 1:
+        told, other = ("in", "out") if lines[0].cents > 0 else ("out", "in")
+        notes.append(f"all {len(lines)} lines are paid {told}: does another column tell which are paid {other}?")
 
 
 def read(data: bytes, rules_data: bytes) -> Statement:
-    """The statement of a bank's CSV. It tells no balances."""
+    """The lines of a bank's CSV, and what its balances tell."""
     rules = csv_rules.read(decoded(rules_data))
-    return Statement(checked(lines_of(rows_of(decoded(data), rules), rules)))
+    notes: list[str] = []
+    lines, steps = lines_of(rows_of(decoded(data), rules), rules, notes)
+    kept = checked(lines, notes)
+    note_one_side(kept, notes)
+    return Statement(kept, notes=notes, known=known_of(steps))

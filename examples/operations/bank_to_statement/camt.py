@@ -1,14 +1,16 @@
 """Reads camt.053, a bank's statement by ISO 20022, in any of its versions: names are taken without their namespace."""
-import datetime
 import re
 from xml.etree import ElementTree
 from xml.etree.ElementTree import Element
 
-from .statement import Balance, Line, Statement, checked, total_of
-from .values import NotUnderstood, amount_text, bank_ref_of, cents_of, day_of, quoted, with_number, within, words_of
+from .statement import Balance, Known, Line, Statement, check_balances, checked, not_booked, total_of
+from .values import (NotUnderstood, amount_text, bank_ref_of, cents_of, day_beside, day_of, quoted, with_number, within,
+                     words_of)
 
 TIME = re.compile(r"([0-9]{4})-([0-9]{2})-([0-9]{2})(T[0-9:.]+)?(Z|[-+][0-9]{2}:[0-9]{2})?")
 SIGNS = {"CRDT": 1, "DBIT": -1}
+# So many elements a file may have.
+MOST = 200_000
 BOOKED = "BOOK"
 NOT_BOOKED = {"PDNG", "INFO", "FUTR"}
 # The standard's own word for a reference that nobody gave.
@@ -100,8 +102,6 @@ def text_of(entry: Element, transactions: list[Element]) -> str:
 
 def lines_of_entry(entry: Element, currency: str) -> list[Line]:
     """The lines of an entry: one, or where it is a sum that the bank parts, one for each transaction."""
-    if not is_booked(entry):
-        return []
     reference = text_at(entry, "AcctSvcrRef", "NtryRef")
     if not reference:
         raise NotUnderstood("it has no reference of the bank's (AcctSvcrRef or NtryRef)")
@@ -113,12 +113,18 @@ def lines_of_entry(entry: Element, currency: str) -> list[Line]:
             for number, (transaction, cents) in enumerate(parts, 1)]
 
 
-def lines_of(statement: Element, currency: str) -> list[Line]:
-    """The lines of all entries that are booked."""
+def lines_of(statement: Element, currency: str, notes: list[str]) -> list[Line]:
+    """The lines of all entries that are booked. How many are not is noted."""
     lines: list[Line] = []
+    pending = 0
     for number, entry in enumerate(statement.findall("Ntry"), 1):
         with within(f"entry {number}"):
-            lines += lines_of_entry(entry, currency)
+            if is_booked(entry):
+                lines += lines_of_entry(entry, currency)
+            else:
+                pending += 1
+    if pending:
+        notes.append(not_booked(pending))
     return lines
 
 
@@ -139,8 +145,7 @@ def opening_of(balances: dict[str, Balance]) -> Balance | None:
     before = balances.get("PRCD")
     if "OPBD" in balances or not before:
         return balances.get("OPBD")
-    next_day = datetime.date.fromisoformat(before.day) + datetime.timedelta(days=1)
-    return Balance(day_of(next_day.year, next_day.month, next_day.day), before.cents)
+    return Balance(day_beside(before.day, 1), before.cents)
 
 
 def currency_of(statement: Element) -> str:
@@ -149,32 +154,45 @@ def currency_of(statement: Element) -> str:
     return amounts[0].get("Ccy", "") if amounts else ""
 
 
-def check_balances(lines: list[Line], opening: Balance | None, closing: Balance | None) -> None:
-    """Refuses balances that the lines don't join."""
-    if opening and closing and opening.cents + total_of(lines) != closing.cents:
-        first, moved, last = map(amount_text, (opening.cents, total_of(lines), closing.cents))
-        raise NotUnderstood(f"the opening balance {first} and the lines {moved} don't make the closing balance {last}")
-
-
 def statement_element(data: bytes) -> Element:
     """The file's statement, with all names in it taken without their namespace."""
     try:
         root = ElementTree.fromstring(data)
     except (ElementTree.ParseError, LookupError, ValueError) as reason:
         raise NotUnderstood(f"the file is no XML: {reason}") from None
+    if sum(1 for _ in root.iter()) > MOST:
+        raise NotUnderstood(f"the file has more than {MOST} elements")
     for element in root.iter():
         element.tag = element.tag.split("}")[-1]
     return one_of(root, "BkToCstmrStmt/Stmt")
 
 
-def read(data: bytes, close: str | None) -> Statement:
+def known_of(lines: list[Line], opening: Balance | None, closing: Balance | None) -> Known:
+    """What the file tells of its balances, where it tells one. The other one is that with its lines."""
+    first = opening.day if opening else lines[0].day if lines else None
+    last = closing.day if closing else None
+    if opening:
+        return Known(first, last, opening.cents)
+    if closing:
+        return Known(first, last, closing.cents - total_of(lines))
+    return Known(first, last, why="the file tells no balance")
+
+
+def read(data: bytes) -> Statement:
     """The statement of a camt.053 file, with the balances that it tells."""
     element = statement_element(data)
     currency = currency_of(element)
-    lines = checked(lines_of(element, currency))
+    booked: list[str] = []
+    notes: list[str] = []
+    lines = checked(lines_of(element, currency, booked), notes)
     balances = balances_of(element, currency)
     opening, closing = opening_of(balances), balances.get("CLBD")
     check_balances(lines, opening, closing)
-    if close and (closing is None or closing.day != close):
+    return Statement(lines, opening, closing, notes + booked, known_of(lines, opening, closing))
+
+
+def check_close(read_statement: Statement, close: str) -> None:
+    """Refuses another day than that of the closing balance."""
+    closing = read_statement.closing
+    if closing is None or closing.day != close:
         raise NotUnderstood(f"the file's closing balance is of {closing.day if closing else 'no day'}, not of {close}")
-    return Statement(lines, opening, closing)

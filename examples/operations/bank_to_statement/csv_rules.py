@@ -1,7 +1,7 @@
 """Reads a file of hledger's CSV rules: what the columns of a bank's CSV are called, and what its lines are made of.
 
 Taken of these rules are `skip`, `separator`, `fields`, `date-format`, `decimal-mark`, assignments of fields, and `if`
-with its patterns, assignments and `skip`. What tells of accounts, balances and order is passed over, and all else
+with its patterns, assignments and `skip`. What tells of accounts and order is passed over, and all else
 refused.
 """
 import re
@@ -13,8 +13,9 @@ from .values import NotUnderstood, quoted, within
 # The fields that a line of a statement is made of, by the names that the rules have for them.
 USED = {"date": "date", "description": "description", "code": "code", "comment": "comment", "currency": "currency",
         "amount": "amount", "amount-in": "amount-in", "amount-out": "amount-out", "currency1": "currency",
-        "amount1": "amount", "amount1-in": "amount-in", "amount1-out": "amount-out"}
-PASSED_OVER = {"account1", "account2", "balance", "balance1", "balance-type", "date2", "intra-day-reversed",
+        "amount1": "amount", "amount1-in": "amount-in", "amount1-out": "amount-out", "balance": "balance",
+        "balance1": "balance"}
+PASSED_OVER = {"account1", "account2", "balance-type", "date2", "intra-day-reversed",
                "newest-first", "status"}
 SEPARATORS = {",": ",", ";": ";", "|": "|", "tab": "\t", "\\t": "\t"}
 

@@ -6,8 +6,9 @@ that holds no value itself (a transaction, a balance) and ends with its closing 
 import re
 from dataclasses import dataclass, field
 
-from .statement import Balance, Line, Statement, checked, total_of
-from .values import NotUnderstood, bank_ref_of, cents_of, day_of, decoded, quoted, with_number, within, words_of
+from .statement import Balance, Known, Line, Statement, checked, not_booked, total_of
+from .values import (NotUnderstood, bank_ref_of, cents_of, day_beside, day_of, decoded, quoted, with_number, within,
+                     words_of)
 
 TOKEN = re.compile(
     r"<!\[CDATA\[(?P<verbatim>.*?)\]\]>|<!--.*?-->|<\?.*?\?>"
@@ -22,6 +23,8 @@ PENDING = "STMTTRNP"
 SECTIONS = {"BANKTRANLIST", "BANKTRANLISTP", TRANSACTION, PENDING, "LEDGERBAL", "AVAILBAL", "BALLIST", "BAL"}
 # The values that a transaction has to have.
 NEEDED = ["DTPOSTED", "TRNAMT", "FITID"]
+# So many elements a file may have.
+MOST = 200_000
 CHARGES = {"FEE", "SRVCHG"}
 
 
@@ -31,7 +34,7 @@ class Tag:
 
     name: str
     is_end: bool
-    value: str
+    parts: list[str] = field(default_factory=list)
 
 
 @dataclass(frozen=True)
@@ -69,16 +72,19 @@ def character_of(entity: re.Match[str]) -> str:
 def tags_of(text: str) -> list[Tag]:
     """The tags of the file, each with the text behind it."""
     tags: list[Tag] = []
+    begun = 0
     at = 0
     while at < len(text):
         token = TOKEN.match(text, at)
         if not token:
             raise NotUnderstood(f"no tag of OFX begins with {quoted(text[at:at + 40])}")
         if token["name"]:
-            tags.append(Tag(token["name"].upper(), bool(token["end"]), ""))
+            begun += not token["end"]
+            if begun > MOST:
+                raise NotUnderstood(f"the file has more than {MOST} elements")
+            tags.append(Tag(token["name"].upper(), bool(token["end"])))
         else:
-            value = token["verbatim"] or ENTITY.sub(character_of, token["text"] or "")
-            tags[-1] = Tag(tags[-1].name, tags[-1].is_end, tags[-1].value + value)
+            tags[-1].parts.append(token["verbatim"] or ENTITY.sub(character_of, token["text"] or ""))
         at = token.end()
     return tags
 
@@ -87,7 +93,7 @@ def sections_of(tags: list[Tag]) -> list[Section]:
     """The sections of the file, in order. What stands in none is in one without a name."""
     sections = [Section("")]
     for tag in tags:
-        value = tag.value.strip()
+        value = "".join(tag.parts).strip()
         if tag.is_end and value:
             raise NotUnderstood(f"{quoted(value)} stands behind the end of {tag.name}")
         if tag.name in SECTIONS:
@@ -160,22 +166,49 @@ def lines_of(sections: list[Section]) -> list[Line]:
     return lines
 
 
-def closed(lines: list[Line], sections: list[Section], close: str) -> Statement:
-    """The statement up to a day. The file's balance is of the moment of its download, in the midst of a day. So a day
-    before closed with that less the lines since, and the first day opened with the close less the lines up to it."""
+def written_on(sections: list[Section]) -> str | None:
+    """The day on which the bank wrote the file; None where it does not tell."""
+    try:
+        return day_of_time(next((it.value("DTSERVER") for it in sections if "DTSERVER" in it.values), ""))
+    except NotUnderstood:
+        return None
+
+
+def balances_of(lines: list[Line], sections: list[Section]) -> Known:
+    """The file's balance is of a moment. If the bank wrote the file on that same day, it is in the midst of the day: so
+    a day before closed with that less the lines since. On a later day it is that with which its own day closed."""
+    if not any(section.name == "LEDGERBAL" for section in sections):
+        raise NotUnderstood("the file tells no balance")
     ledger, period = only(sections, "LEDGERBAL"), only(sections, "BANKTRANLIST")
     balance = Balance(day_of_time(ledger.needed("DTASOF")), cents_of(ledger.needed("BALAMT")))
-    first, last = day_of_time(period.needed("DTSTART")), day_of_time(period.needed("DTEND"))
-    if last < balance.day:
-        raise NotUnderstood(f"the balance is of {balance.day}, and the lines end on {last}: those between are missing")
-    if not first <= close < balance.day:
-        raise NotUnderstood(f"{close} is no day from {first} to the day before that of the balance, {balance.day}")
-    outside = [line.day for line in lines if not first <= line.day <= balance.day]
-    if outside:
-        raise NotUnderstood(f"a line is of {outside[0]}, and the file of {first} to {balance.day}")
-    kept = [line for line in lines if line.day <= close]
-    at_close = balance.cents - total_of(line for line in lines if line.day > close)
-    return Statement(kept, Balance(first, at_close - total_of(kept)), Balance(close, at_close))
+    first, end = day_of_time(period.needed("DTSTART")), day_of_time(period.needed("DTEND"))
+    if end < balance.day:
+        raise NotUnderstood(f"the balance is of {balance.day}, and the lines end on {end}: those between are missing")
+    written = written_on(sections)
+    is_whole = written is not None and written > balance.day
+    last = end if written and is_whole and written > end else day_beside(written if written and is_whole
+                                                                        else balance.day, -1)
+    to = end if is_whole else balance.day
+    outside = [line.day for line in lines if not first <= line.day <= to]
+    return Known(first, last, balance.cents - total_of(line for line in lines if line.day <= balance.day),
+                 "" if is_whole else f"the day before that of the balance, {balance.day}", "",
+                 f"a line is of {outside[0]}, and the file of {first} to {to}" if outside else "")
+
+
+def known_of(lines: list[Line], sections: list[Section]) -> Known:
+    """The same; where there is no balance, why, with the file's days as far as it tells them."""
+    try:
+        return balances_of(lines, sections)
+    except NotUnderstood as reason:
+        return Known(day_at(sections, "DTSTART"), day_at(sections, "DTEND"), why=str(reason))
+
+
+def day_at(sections: list[Section], name: str) -> str | None:
+    """A day of the list of lines; None where there is none."""
+    try:
+        return day_of_time(only(sections, "BANKTRANLIST").needed(name))
+    except NotUnderstood:
+        return None
 
 
 def body_of(text: str) -> str:
@@ -186,11 +219,15 @@ def body_of(text: str) -> str:
     return begin + body
 
 
-def read(data: bytes, close: str | None) -> Statement:
-    """The statement of an OFX file. Balances are told where the statement is to close with a day."""
+def read(data: bytes) -> Statement:
+    """The lines of an OFX file, and what it tells of its balances."""
     tags = tags_of(body_of(decoded(data)))
     check_account(tags)
     sections = sections_of(tags)
     check_strays(sections)
-    lines = checked(lines_of(sections))
-    return closed(lines, sections, close) if close else Statement(lines)
+    notes: list[str] = []
+    lines = checked(lines_of(sections), notes)
+    pending = sum(section.name == PENDING for section in sections)
+    if pending:
+        notes.append(not_booked(pending))
+    return Statement(lines, notes=notes, known=known_of(lines, sections))
