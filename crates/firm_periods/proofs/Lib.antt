@@ -2,6 +2,7 @@ pub mod AccountRules
 pub mod Accounts
 pub mod Approvals
 pub mod AccountsCovered
+pub mod AccountsInOrder
 pub mod ClientsNamed
 pub mod NamedLists
 pub mod ListedOnce

@@ -1,15 +1,19 @@
--- A client's statement of account for a period: the opening balance, each movement with the ledger after it, and the
+-- A client's statement of account for a period: the opening balance, each movement with the balance after it, and the
 -- closing balance.
-use Rattle.std.specs.Prelude.{◌≡◌, ℕ, ◌+◌, ◌*◌, ◌≤◌, Bool, not, ◌&&◌, ◌||◌, ◌==◌, nat_lt, List, [], ◌∷◌, ◌++◌, map, ℤ, pos, ◌+ℤ◌, ◌≤ℤ◌, unsigned_abs}
+use Rattle.std.specs.Prelude.{◌≡◌, ℕ, ◌+◌, ◌*◌, ◌≤◌, Bool, false, not, cond, ◌&&◌, ◌||◌, ◌==◌, nat_lt, List, [], ◌∷◌, ◌++◌, map, ℤ, pos, ◌+ℤ◌, ◌≤ℤ◌, unsigned_abs}
 use Rattle.std.specs.List.{filter, flat_map, AllByRecursion}
 use Rattle.trust_base.specs.Periods.{Span}
 use Rattle.trust_base.specs.Retention.{IsDayAfter}
 use Rattle.trust_base.specs.Limits.{IsCivilDay}
 use Rattle.trust_base.specs.TheConstants.{MAX_AMOUNT}
+use Rattle.matter_rows.specs.declared.payment.PaymentState.{PaymentState}
+use Rattle.matter_rows.specs.declared.payment.PaymentState.TheVariants as payment
 use Rattle.matter_rows.specs.declared.entry.Entry.{Entry}
+use Rattle.matter_rows.specs.declared.entry.Entry.TheVariants as entry
 use Rattle.matter_rows.specs.declared.head.Head.{Head}
 use Rattle.matter_rows.specs.Events.{Event, events_of}
 use Rattle.matter_rows.specs.Rows.{Rows}
+use Rattle.matter_rows.specs.Sound.{Sound}
 use Rattle.matter_parts.specs.declared.kept.Kept.{Kept}
 use Rattle.matter_parts.specs.Parts.{Part, IsWhole}
 use Rattle.firm_rows.specs.Sums.{sum_of}
@@ -45,11 +49,33 @@ numbered_moves n (e ∷ es) = moves_at n e ++ numbered_moves (n + 1) es
 abbrev pub kept_moves : List Kept → List EntryMoved
 kept_moves ks = flat_map (λ k. moves_at k.number k.entry) ks
 
--- by day; on one day what came in before what went out
+-- a payment that was voided on the day of its issue
+abbrev pub is_passing_state : PaymentState → Bool
+is_passing_state payment.Proposed = false
+is_passing_state payment.Declined = false
+is_passing_state (payment.Issued day) = false
+is_passing_state (payment.Cleared c) = false
+is_passing_state (payment.Voided v) = v.issued == v.undone
+
+abbrev pub is_passing : Entry → Bool
+is_passing (entry.Deposit d) = false
+is_passing (entry.Payment p) = is_passing_state p.state
+is_passing (entry.Fee f) = false
+is_passing (entry.Claim c) = false
+
+-- of a day, what went out and did not come back on it stands last
+abbrev pub is_last : EntryMoved → Bool
+is_last v = not (is_passing v.entry) && is_below_zero v.moved.amount
+
+-- what came in stands first; then such payments by number, each with its voiding right behind it
+abbrev pub place : EntryMoved → ℕ
+place v = cond (is_passing v.entry) (2 * v.number + cond (is_below_zero v.moved.amount) 1 2) 0
+
+-- by day; on one day what came in, the payments that were voided on it, and what else went out
 abbrev pub is_before_moved : EntryMoved → EntryMoved → Bool
 is_before_moved a b =
     nat_lt a.moved.day b.moved.day
-    || (a.moved.day == b.moved.day && (not (is_below_zero a.moved.amount) && is_below_zero b.moved.amount))
+    || (a.moved.day == b.moved.day && (not (is_last a) && (is_last b || nat_lt (place a) (place b))))
 
 -- the movements of a period in that order; those that neither comes before the other stay as they were
 abbrev pub account_moves : Span → List EntryMoved → List EntryMoved
@@ -57,7 +83,7 @@ account_moves s vs = in_order is_before_moved (filter (λ v. is_within s.from s.
 
 -- The account.
 
--- a movement with the ledger after it
+-- a movement with the balance after it: the ledger, but for the order within its day
 pub record AccountedMove : Type 0 where
   pub number : ℕ
   pub entry : Entry
@@ -73,7 +99,7 @@ pub record Accounted : Type 0 where
 abbrev pub moved_before : ℕ → List EntryMoved → ℤ
 moved_before day vs = sum_of (λ v. v.moved.amount) (filter (λ v. nat_lt v.moved.day day) vs)
 
--- each movement with the ledger after it, which is z before the first
+-- each movement with the balance after it, which is z before the first
 abbrev pub account_from : ℤ → List EntryMoved → List AccountedMove
 account_from z [] = []
 account_from z (v ∷ vs) =
@@ -135,6 +161,13 @@ abbrev pub ClosingIsNextOpening : Type 0
 ClosingIsNextOpening =
     (s next : Span) (es : List Entry) → s.from ≤ s.to → IsDayAfter s.to next.from → AreCivil es
     → (account_of next es).opening ≡ (account_of s es).closing
+
+-- an account has the movements of each entry in the entry's own order: a voiding stands behind its payment
+abbrev pub EntriesInOrder : Type 0
+EntriesInOrder =
+    (s : Span) (n : ℕ) (rows : Rows) → Sound rows
+    → filter (λ v. v.number == n) (account_moves s (numbered_moves 1 rows.entries))
+    ≡ filter (λ v. v.number == n) (filter (λ v. is_within s.from s.to v.moved) (numbered_moves 1 rows.entries))
 
 -- in a sound firm no balance of an account is below zero
 pub record IsAccountCovered (a : Accounted) : Type 0 where

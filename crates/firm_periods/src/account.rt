@@ -5,14 +5,14 @@ ghost use Rattle.std.specs.List.{filter};
 ghost use Rattle.std.specs.Ordering.{is_lt};
 ghost use Rattle.firm_figures.specs.Doubles.{in_order};
 ghost use Rattle.firm_periods.specs.Named.{is_within};
-ghost use Rattle.firm_periods.specs.Accounts.{IsSmallMove, IsSumMoved, account_kept, accounted, entry_moved, is_before_moved, kept_moves, moved_before, moves_at, sum_before};
+ghost use Rattle.firm_periods.specs.Accounts.{IsSmallMove, IsSumMoved, account_kept, accounted, entry_moved, is_before_moved, is_last, is_passing, kept_moves, moved_before, moves_at, place, sum_before};
 
 use crate::moved::{Moved, moves_of};
 use std::alloc::{AllocError, Global};
 use std::cmp::Ordering;
 use std::marker::Model;
 use trust_base::{Day, EntryNo, Period};
-use trust_matter::{Entry, Kept, Matter};
+use trust_matter::{Entry, Kept, Matter, PaymentState};
 
 // A movement of an entry, with the entry and its number.
 #[derive(Drop)]
@@ -32,7 +32,7 @@ impl<'a> Model for EntryMove<'a> {
     ghost invariant = { λ v. IsSmallMove v.moved };
 }
 
-/// A movement of a matter, with the ledger after it.
+/// A movement of a matter, with the balance after it.
 ///
 /// Contracts see it with the entry behind the reference.
 #[derive(Drop)]
@@ -69,15 +69,46 @@ impl<'a> Model for Account<'a> {
     ghost view = { λ a. record { opening = a.opening; lines = a.lines.items; closing = a.closing } };
 }
 
+// Whether it is a payment that was voided on the day of its issue.
+fn is_passing(entry: &Entry) -> bool
+    ensures { result ≡ is_passing entry.now }
+{
+    match entry {
+        Entry::Payment(payment) => match &payment.state {
+            PaymentState::Voided(voided) => voided.issued.get() == voided.undone.get(),
+            _ => false,
+        },
+        _ => false,
+    }
+}
+
 impl EntryMove<'_> {
-    // By day; on one day what came in before what went out.
+    // Whether it went out, and did not come back on the same day.
+    fn is_last(&self) -> bool
+        ensures { result ≡ is_last self.now }
+    {
+        !is_passing(self.entry) && self.moved.amount < 0
+    }
+
+    // Where it stands among what is not last of a day.
+    fn place(&self) -> u32
+        ensures { result ≡ place self.now }
+    {
+        if is_passing(self.entry) {
+            let step = if self.moved.amount < 0 { 1 } else { 2 };
+            2 * self.number.get() as u32 + step
+        } else {
+            0
+        }
+    }
+
+    // By day; on one day what came in, the payments that were voided on it, and what else went out.
     fn compare(&self, other: &EntryMove<'_>) -> Ordering
         ensures { is_lt result ≡ is_before_moved self.now other.now }
     {
         let by_day = self.moved.day.get().cmp(&other.moved.day.get());
-        let is_out = self.moved.amount < 0;
-        let is_other_out = other.moved.amount < 0;
-        by_day.then(is_out.cmp(&is_other_out))
+        let by_end = self.is_last().cmp(&other.is_last());
+        by_day.then(by_end).then(self.place().cmp(&other.place()))
     }
 }
 
@@ -103,7 +134,7 @@ impl<'a> AccountLine<'a> {
         self.moved
     }
 
-    /// The ledger after the movement, in cents.
+    /// The balance after the movement, in cents: the ledger, but for the order within its day.
     pub fn ledger(&self) -> i128
         ensures { result ≡ self.now.ledger }
     {
@@ -119,7 +150,8 @@ impl<'a> Account<'a> {
         self.opening
     }
 
-    /// The movements of the period, by day; on one day what came in stands before what went out.
+    /// The movements of the period, by day; on one day what came in stands first, then each payment that was voided on
+    /// that day with its voiding right behind it, then what else went out.
     pub fn lines(&self) -> &[AccountLine<'a>]
         ensures { result.now ≡ self.now.lines }
     {
@@ -226,7 +258,7 @@ fn moves_within(
     Ok(moves)
 }
 
-// The movements by day; on one day what came in before what went out.
+// The movements by day; on one day what came in, the payments that were voided on it, and what else went out.
 fn in_order(moves: Vec<EntryMove<'_>>) -> Result<Vec<EntryMove<'_>>, AllocError>
     ensures { IfOk result (λ vs. vs.items ≡ in_order is_before_moved moves.entry.items) }
 {
@@ -235,7 +267,7 @@ fn in_order(moves: Vec<EntryMove<'_>>) -> Result<Vec<EntryMove<'_>>, AllocError>
     Ok(all)
 }
 
-// The account of these movements, each with the ledger after it.
+// The account of these movements, each with the balance after it.
 fn accounted(
     alloc: Global,
     opening: i128,
@@ -264,7 +296,7 @@ fn accounted(
 }
 
 /// The statement of account of a matter for a period, of its loaded entries: what they had moved before it, each
-/// movement in it with the ledger after it, and the ledger after the last. It is complete if all entries of the matter
+/// movement in it with the balance after it, and the ledger after the last. It is complete if all entries of the matter
 /// are loaded. The only error is out of memory.
 pub fn account_of(alloc: Global, matter: &Matter, period: Period) -> Result<Account<'_>, AllocError>
     ensures { IfOk result (λ a. a ≡ account_kept period matter.now.kept) }

@@ -3,7 +3,7 @@
 ghost use Rattle.firm_periods.specs.Named.{AlwaysListedOnce, EachStandsInOne, MovesAreEvents, NamedAreKept, NamesAreOfTheirMatter, PeriodsAgree, WaitsAlwaysAgree};
 ghost use Rattle.firm_periods.specs.Named.{PurgeChangesNoPeriodLeft, PurgeChangesNoWaitingLeft};
 ghost use Rattle.firm_periods.specs.Approvals.{ApprovalsAreKept};
-ghost use Rattle.firm_periods.specs.Accounts.{AccountsAreCovered, ClosingIsLedger, ClosingIsNextOpening, ClosingsAreLines, ClosingsAreTotal, OpeningIsBefore, WholeAccountIsOfRows};
+ghost use Rattle.firm_periods.specs.Accounts.{AccountsAreCovered, ClosingIsLedger, ClosingIsNextOpening, ClosingsAreLines, ClosingsAreTotal, EntriesInOrder, OpeningIsBefore, WholeAccountIsOfRows};
 
 use matter_rows::laws::sound_is_covered;
 
@@ -50,13 +50,14 @@ pub fn purging_changes_no_period()
 }
 
 /// The account of a whole matter is that of its rows. It opens with what the entries had moved before its first day. It
-/// closes with the ledger as of its last day, with which the next period opens. In a sound firm no balance on it is
-/// below zero.
+/// closes with the ledger as of its last day, with which the next period opens. The movements of each entry stand in
+/// their own order. In a sound firm no balance on it is below zero.
 pub fn accounts_agree()
     ensures whole { WholeAccountIsOfRows }
     ensures opening { OpeningIsBefore }
     ensures closing { ClosingIsLedger }
     ensures next { ClosingIsNextOpening }
+    ensures order { EntriesInOrder }
     ensures covered { AccountsAreCovered }
 {}
 

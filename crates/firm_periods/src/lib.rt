@@ -21,8 +21,9 @@
 //! - `laws` `purging_changes_no_period`: in every sound firm a purge changes nothing of a period, and of what waits as
 //!   of a day, whose records are complete afterwards.
 //! - `account_of`; `laws` `accounts_agree`: a matter's statement of account for a period. It closes with the ledger as
-//!   of its last day (`closing`), with which the next period opens (`next`), and in a sound firm no balance on it is
-//!   below zero (`covered`). Of a whole matter it is that of the rows (`whole`).
+//!   of its last day (`closing`), with which the next period opens (`next`), has the movements of each entry in their
+//!   own order (`order`), and in a sound firm no balance on it is below zero (`covered`). Of a whole matter it is that
+//!   of the rows (`whole`).
 //! - `laws` `closings_are_clients`: the accounts of all clients for a period close with the ledgers in the list of the
 //!   clients of its last day (`lines`), and with the firm's own lines add up to its TOTAL (`total`).
 #![tactic(auto)]

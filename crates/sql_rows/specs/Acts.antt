@@ -51,13 +51,44 @@ abbrev pub text_column : Deed → List ℕ
 text_column (deed.Opened lawyer) = lawyer
 text_column (deed.Seated seat) = seat.person
 text_column (deed.Unseated person) = person
-text_column _ = []
+text_column deed.Closed = []
+text_column deed.Deposited = []
+text_column deed.Cancelled = []
+text_column deed.Cleared = []
+text_column deed.Returned = []
+text_column deed.Proposed = []
+text_column deed.Approved = []
+text_column deed.Declined = []
+text_column deed.Withdrawn = []
+text_column deed.Voided = []
+text_column deed.Earned = []
+text_column deed.Disputed = []
+text_column deed.Claimed = []
+text_column (deed.Offered part) = []
+text_column deed.Accepted = []
+text_column deed.Awarded = []
 
 -- the role of a seat, or the part that was offered, in cents; of other deeds 0
 abbrev pub number_column : Deed → ℤ
+number_column (deed.Opened lawyer) = pos 0
 number_column (deed.Seated seat) = role_column seat.role
+number_column (deed.Unseated person) = pos 0
+number_column deed.Closed = pos 0
+number_column deed.Deposited = pos 0
+number_column deed.Cancelled = pos 0
+number_column deed.Cleared = pos 0
+number_column deed.Returned = pos 0
+number_column deed.Proposed = pos 0
+number_column deed.Approved = pos 0
+number_column deed.Declined = pos 0
+number_column deed.Withdrawn = pos 0
+number_column deed.Voided = pos 0
+number_column deed.Earned = pos 0
+number_column deed.Disputed = pos 0
+number_column deed.Claimed = pos 0
 number_column (deed.Offered part) = pos part
-number_column _ = pos 0
+number_column deed.Accepted = pos 0
+number_column deed.Awarded = pos 0
 
 abbrev pub act_columns : MatterAct → table.Act
 act_columns a = record {

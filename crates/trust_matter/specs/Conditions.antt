@@ -114,18 +114,28 @@ is_on_fee (against.Fee k) = true
 
 -- the entry that the ask is about, or the fee or claim that it names, does not exist
 abbrev pub is_missing_for : Ask → Option Entry → Option Entry → Bool
+is_missing_for (ask.OpenMatter a) e other = false
+is_missing_for (ask.AddSeat s) e other = false
+is_missing_for (ask.DropSeat p) e other = false
+is_missing_for (ask.Deposit a) e other = false
 is_missing_for (ask.CancelDeposit n) e other = is_none e
 is_missing_for (ask.Propose a) e other = is_an_entry a.fund && is_none other
 is_missing_for (ask.Approve n) e other = is_none e
 is_missing_for (ask.Decline n) e other = is_none e
 is_missing_for (ask.Withdraw n) e other = is_none e
 is_missing_for (ask.VoidPayment n) e other = is_none e
+is_missing_for (ask.EarnFee a) e other = false
 is_missing_for (ask.RaiseClaim a) e other = is_on_fee a.against && is_none other
 is_missing_for (ask.Offer a) e other = is_none e
 is_missing_for (ask.Accept a) e other = is_none e
 is_missing_for (ask.Award a) e other = is_none e
+is_missing_for ask.CloseMatter e other = false
+is_missing_for ask.Purge e other = false
+is_missing_for ask.Show e other = false
 is_missing_for (ask.ShowEntry n) e other = is_none e
-is_missing_for _ e other = false
+is_missing_for ask.ShowEntries e other = false
+is_missing_for ask.Accounting e other = false
+is_missing_for (ask.Account p) e other = false
 
 -- the entry does not exist
 abbrev pub is_not_there : Facts → Asked → Bool
@@ -168,17 +178,28 @@ is_no_fund (fund.Claim k) other = is_no_general_claim other
 
 -- the entry is not of the kind that the ask is about, or the one that it names is of the wrong kind
 abbrev pub is_of_another_kind_for : Ask → Option Entry → Option Entry → Bool
+is_of_another_kind_for (ask.OpenMatter a) e other = false
+is_of_another_kind_for (ask.AddSeat s) e other = false
+is_of_another_kind_for (ask.DropSeat p) e other = false
+is_of_another_kind_for (ask.Deposit a) e other = false
 is_of_another_kind_for (ask.CancelDeposit n) e other = is_no_deposit e
 is_of_another_kind_for (ask.Propose a) e other = is_no_fund a.fund other
 is_of_another_kind_for (ask.Approve n) e other = is_no_payment e
 is_of_another_kind_for (ask.Decline n) e other = is_no_payment e
 is_of_another_kind_for (ask.Withdraw n) e other = is_no_payment e
 is_of_another_kind_for (ask.VoidPayment n) e other = is_no_payment e
+is_of_another_kind_for (ask.EarnFee a) e other = false
 is_of_another_kind_for (ask.RaiseClaim a) e other = is_on_fee a.against && is_no_fee other
 is_of_another_kind_for (ask.Offer a) e other = is_no_claim e
 is_of_another_kind_for (ask.Accept a) e other = is_no_claim e
 is_of_another_kind_for (ask.Award a) e other = is_no_claim e
-is_of_another_kind_for _ e other = false
+is_of_another_kind_for ask.CloseMatter e other = false
+is_of_another_kind_for ask.Purge e other = false
+is_of_another_kind_for ask.Show e other = false
+is_of_another_kind_for (ask.ShowEntry n) e other = false
+is_of_another_kind_for ask.ShowEntries e other = false
+is_of_another_kind_for ask.Accounting e other = false
+is_of_another_kind_for (ask.Account p) e other = false
 
 abbrev pub is_of_another_kind : Facts → Asked → Bool
 is_of_another_kind f a = is_of_another_kind_for a.ask f.entry f.other
@@ -265,9 +286,28 @@ is_cash_claimant (against.General claimant) = is_cash_label claimant
 is_cash_claimant (against.Fee k) = false
 
 abbrev pub is_cash_for : Ask → Bool
+is_cash_for (ask.OpenMatter a) = false
+is_cash_for (ask.AddSeat s) = false
+is_cash_for (ask.DropSeat p) = false
+is_cash_for (ask.Deposit a) = false
+is_cash_for (ask.CancelDeposit n) = false
 is_cash_for (ask.Propose a) = is_cash_label a.payee
+is_cash_for (ask.Approve n) = false
+is_cash_for (ask.Decline n) = false
+is_cash_for (ask.Withdraw n) = false
+is_cash_for (ask.VoidPayment n) = false
+is_cash_for (ask.EarnFee a) = false
 is_cash_for (ask.RaiseClaim a) = is_cash_claimant a.against
-is_cash_for _ = false
+is_cash_for (ask.Offer a) = false
+is_cash_for (ask.Accept a) = false
+is_cash_for (ask.Award a) = false
+is_cash_for ask.CloseMatter = false
+is_cash_for ask.Purge = false
+is_cash_for ask.Show = false
+is_cash_for (ask.ShowEntry n) = false
+is_cash_for ask.ShowEntries = false
+is_cash_for ask.Accounting = false
+is_cash_for (ask.Account p) = false
 
 -- the payee or the claimant is cash
 abbrev pub is_to_cash : Facts → Asked → Bool
@@ -292,8 +332,28 @@ is_wrong_payee_of (fund.Fee k) other payee = not (is_firm_label payee)
 is_wrong_payee_of (fund.Claim k) other payee = not (is_claimant_of other payee)
 
 abbrev pub is_wrong_payee_for : Ask → Option Entry → Bool
+is_wrong_payee_for (ask.OpenMatter a) other = false
+is_wrong_payee_for (ask.AddSeat s) other = false
+is_wrong_payee_for (ask.DropSeat p) other = false
+is_wrong_payee_for (ask.Deposit a) other = false
+is_wrong_payee_for (ask.CancelDeposit n) other = false
 is_wrong_payee_for (ask.Propose a) other = is_wrong_payee_of a.fund other a.payee
-is_wrong_payee_for _ other = false
+is_wrong_payee_for (ask.Approve n) other = false
+is_wrong_payee_for (ask.Decline n) other = false
+is_wrong_payee_for (ask.Withdraw n) other = false
+is_wrong_payee_for (ask.VoidPayment n) other = false
+is_wrong_payee_for (ask.EarnFee a) other = false
+is_wrong_payee_for (ask.RaiseClaim a) other = false
+is_wrong_payee_for (ask.Offer a) other = false
+is_wrong_payee_for (ask.Accept a) other = false
+is_wrong_payee_for (ask.Award a) other = false
+is_wrong_payee_for ask.CloseMatter other = false
+is_wrong_payee_for ask.Purge other = false
+is_wrong_payee_for ask.Show other = false
+is_wrong_payee_for (ask.ShowEntry n) other = false
+is_wrong_payee_for ask.ShowEntries other = false
+is_wrong_payee_for ask.Accounting other = false
+is_wrong_payee_for (ask.Account p) other = false
 
 -- the fund may not pay this payee
 abbrev pub is_to_wrong_payee : Facts → Asked → Bool

@@ -132,8 +132,9 @@ fn check_caller(matter: &Matter, caller: &Caller, ask: &Ask) -> Result<(), Refus
             Against::Fee(_) => Rule::Dispute,
         },
         Ask::Accept(_) => Rule::Dispute,
-        // What is left is for the cashier alone.
-        _ => Rule::Office,
+        Ask::OpenMatter(_) | Ask::AddSeat(_) | Ask::DropSeat(_) | Ask::CloseMatter | Ask::Purge =>
+            Rule::Office,
+        Ask::Deposit(_) | Ask::CancelDeposit(_) | Ask::Award(_) => Rule::Office,
     };
     let is_allowed = match caller {
         Caller::Cashier => !matches!(rule, Rule::Dispute | Rule::Sign),

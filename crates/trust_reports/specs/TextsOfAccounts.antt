@@ -20,7 +20,7 @@ entry_names (entry.Payment p) = payment_names p
 entry_names (entry.Fee f) = []
 entry_names (entry.Claim c) = []
 
--- a movement: its day, its entry, its signed amount, the ledger after it, why the money moved, and the names
+-- a movement: its day, its entry, its signed amount, the balance after it, why the money moved, and the names
 abbrev pub account_line : ℕ → AccountedMove → List ℕ
 account_line m l =
     line (day_text l.moved.day)

@@ -31,7 +31,7 @@ fn push_names(page: &mut Page, entry: &Entry) -> Result<(), AllocError>
     }
 }
 
-// Appends the entry, its signed amount, the ledger after it, and why the money moved.
+// Appends the entry, its signed amount, the balance after it, and why the money moved.
 fn push_balance(
     page: &mut Page,
     matter: MatterNo,
@@ -137,9 +137,9 @@ impl Printed for AccountPage<'_> {
 }
 
 /// Appends the statement of account of a matter for a period: its number and client, the two days, the ledger before
-/// the period, each movement in it with its signed amount and the ledger after it, and the ledger at its end, in cents.
-/// Labels take 14 places; amounts are right-aligned in 24, and a wider one is printed whole. Prints `-` for the client
-/// of an unopened or purged matter. The account is complete if all entries of the matter are loaded.
+/// the period, each movement in it with its signed amount and the balance after it, and the ledger at its end, in
+/// cents. Labels take 14 places; amounts are right-aligned in 24, and a wider one is printed whole. Prints `-` for the
+/// client of an unopened or purged matter. The account is complete if all entries of the matter are loaded.
 ///
 /// The only error is out of memory; `out` is then unchanged.
 pub fn account_text(
