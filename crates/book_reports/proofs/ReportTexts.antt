@@ -5,14 +5,9 @@ use Rattle.figure_laws.proofs.ClientRows.{clients-kept}
 use Rattle.figure_laws.proofs.ClientTotal as client_total
 use Rattle.figure_laws.proofs.Lists.{journal-kept, retention-kept}
 use Rattle.figure_laws.proofs.Trial.{total-kept, trial-kept}
-use Rattle.std.proofs.Common.{Bool, true, false, cond, refl}
-use Rattle.std.specs.Prelude.{◌==◌}
-use Rattle.firm_rows.specs.declared.matter_act.MatterAct.{MatterAct}
 use Rattle.trust_reports.specs.Texts.{heading}
 use Rattle.trust_reports.specs.TextsOfActs.{act_line, dismissal_line, trail_text}
-use Rattle.firm_audit.specs.Trails.{acts_in}
 unfoldable use Rattle.book_reports.specs.Reports.{trail_report}
-use Rattle.book_reports.specs.Trails.{ActsKept, no_acts, with_act_of}
 
 pub trial-told : (today : ℕ) (firm : Firm) (kept : TrialKept) → FirmSound firm → AreCountable IsRowInRange firm.rows → AreCountable IsFirmLineInRange firm.firm_lines → kept ≡ trial_kept firm → trial_text today kept.lines kept.own (trial_sum kept) ≡ trial_report today firm
 unfolding trial_report
@@ -62,16 +57,7 @@ trail-told today firm acts text is behind =
     ∙ (ap (λ b. b ++ flat_map dismissal_line firm.dismissals) done
     ∙ append_assoc begun (flat_map act_line firm.acts) (flat_map dismissal_line firm.dismissals)))
 
--- the acts of one matter, put behind one another
-acts-put : (s : ActsKept) (acts : List MatterAct) → (fold with_act_of s acts).acts ≡ s.acts ++ acts_in s.matter acts
-acts-put s [] = sym (append-nil s.acts)
-acts-put s (a ∷ acts) =
-    acts-put (with_act_of s a) acts
-    ∙ (append_assoc s.acts (cond (a.matter == s.matter) (a ∷ []) []) (acts_in s.matter acts) ∙ ap (λ xs. s.acts ++ xs) (cases (a.matter == s.matter)))
-  where
-    cases : (b : Bool) → cond b (a ∷ []) [] ++ acts_in s.matter acts ≡ cond b (a ∷ acts_in s.matter acts) (acts_in s.matter acts)
-    cases true = refl
-    cases false = refl
-
-pub acts-listed : (m : ℕ) (firm : Firm) (kept : ActsKept) → kept ≡ fold with_act_of (no_acts m) firm.acts → kept.acts ≡ acts_in m firm.acts
-acts-listed m firm kept is = ap (λ (s : ActsKept). s.acts) is ∙ acts-put (no_acts m) firm.acts
+-- what is put behind one another is all of it
+pub all-put : {A : Type 0} (ys xs : List A) → fold (λ zs x. zs ++ x ∷ []) ys xs ≡ ys ++ xs
+all-put ys [] = sym (append-nil ys)
+all-put ys (x ∷ xs) = all-put (ys ++ x ∷ []) xs ∙ append_assoc ys (x ∷ []) xs

@@ -1,21 +1,9 @@
 -- How the trail of a matter is made.
-use Rattle.std.specs.Prelude.{◌≡◌, ℕ, Bool, ◌==◌, cond, List, [], ◌∷◌, ◌++◌, is_none}
+use Rattle.std.specs.Prelude.{◌≡◌, ℕ, Bool, is_none}
 use Rattle.matter_rows.specs.Rows.{is_purged}
-use Rattle.firm_rows.specs.declared.matter_act.MatterAct.{MatterAct}
 use Rattle.firm_rows.specs.Firm.{Firm, of}
 use Rattle.book_reports.specs.Reports.{matter_trail_report}
 use Rattle.book_reports.specs.declared.matter_trail.MatterTrail.{MatterTrail}
-
--- what the sink stores
-pub record ActsKept : Type 0 where
-  pub matter : ℕ
-  pub acts : List MatterAct
-
-abbrev pub no_acts : ℕ → ActsKept
-no_acts m = record { matter = m; acts = [] }
-
-abbrev pub with_act_of : ActsKept → MatterAct → ActsKept
-with_act_of s a = record s { acts = s.acts ++ cond (a.matter == s.matter) (a ∷ []) [] }
 
 -- the matter was never opened
 abbrev pub is_missing : ℕ → Firm → Bool

@@ -35,8 +35,8 @@ pub fn find_trail<B: Book>(
     ensures read { IsRead result (B.seen book.old) (B.seen book.new) }
 {
     let found = book.matter_for(alloc, matter, None, None)?;
-    let mut acts = MatterActs::new(alloc, matter);
-    book.each_act(&mut acts)?;
+    let mut acts = MatterActs::new(alloc);
+    book.each_act_of(matter, &mut acts)?;
     let mut text = Vec::new(alloc);
     matter_trail_text(today, matter, &acts.finish(), &mut text)?;
     Ok(MatterTrail {

@@ -1,12 +1,13 @@
 -- What the audit of a firm's trail checks, what each flaw of it says, and what it counts.
 use Rattle.std.specs.Prelude.{◌≡◌, ◌≢◌, ◌⊎◌, ◌==◌, ◌+◌, ◌-◌, ◌^◌, ℕ, Bool, true, false, not, ◌&&◌, List, [], ◌∷◌, count_by, fold, is_some, map, min, slice_get, Option, Some, None}
-use Rattle.std.specs.List.{AllByRecursion, filter, list_any, sum_by}
+use Rattle.std.specs.List.{AllByRecursion, list_any, sum_by}
 use Rattle.matter_rows.specs.declared.act.Act.{Act}
 use Rattle.matter_rows.specs.declared.entry.Entry.{Entry}
 use Rattle.matter_rows.specs.declared.seat.Seat.{Seat}
 use Rattle.matter_rows.specs.Rows.{entry_at, is_gone, is_number, unopened}
 use Rattle.matter_parts.specs.declared.kept.Kept.{Kept}
 use Rattle.trust_store.specs.Kept.{rows_in, rows_kept}
+pub use Rattle.trust_store.specs.MatterActs.{acts_in}
 use Rattle.trust_store.specs.declared.plain.KeptMatter.{KeptMatter}
 use Rattle.firm_rows.specs.declared.matter_act.MatterAct.{MatterAct}
 use Rattle.firm_rows.specs.Firm.{EntryRow, Firm, HeadRow, Row, SeatRow, acts_of, of}
@@ -73,10 +74,6 @@ abbrev pub IsEntryFlaw : Dossier → ℕ → Type 0
 IsEntryFlaw p n = IsOfNoEntry p n ⊎ (¬ IsApproved p n)
 
 -- All of a firm.
-
--- the acts of one matter among these
-abbrev pub acts_in : ℕ → List MatterAct → List MatterAct
-acts_in m acts = filter (λ a. a.matter == m) acts
 
 abbrev pub dossier_of : ℕ → Firm → Dossier
 dossier_of m firm = record { rows = of m firm; acts = acts_of m firm }

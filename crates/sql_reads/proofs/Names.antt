@@ -19,8 +19,8 @@ pub use Rattle.sql_rows.specs.Standing.{StandsSound, firm_in}
 pub use Rattle.sql_rows.specs.Steps.{head_at}
 pub use Rattle.sql_schema.specs.declared.layout.Layout.{Layout}
 pub use Rattle.sql_tables.proofs.Calls.{IsQuery, answers, asked_left, fails_kept, kept_either, kept_unchanged, leaves_on, leaves_then}
-pub use Rattle.sql_tables.proofs.Means.{act_scan_asks, act_scan_selects, balance_read_asks, balance_read_selects, balance_scan_asks, balance_scan_selects, dismissal_scan_asks, dismissal_scan_selects, entries_read_asks, entries_read_selects, entry_read_asks, entry_read_selects, exception_scan_asks, exception_scan_selects, firm_scan_asks, firm_scan_selects, head_read_asks, head_read_selects, head_scan_asks, head_scan_selects, journal_scan_asks, journal_scan_selects, next_head_asks, next_head_selects, seats_read_asks, seats_read_selects}
-pub use Rattle.sql_tables.proofs.ReadLemmas.{act_scan_answer, balance_read_answer, balance_scan_answer, dismissal_scan_answer, entries_read_answer, entry_read_answer, exception_scan_answer, firm_scan_answer, head_read_answer, head_scan_answer, journal_scan_answer, next_head_answer, seats_read_answer}
+pub use Rattle.sql_tables.proofs.Means.{act_scan_asks, act_scan_selects, acts_read_asks, acts_read_selects, balance_read_asks, balance_read_selects, balance_scan_asks, balance_scan_selects, dismissal_scan_asks, dismissal_scan_selects, entries_read_asks, entries_read_selects, entry_read_asks, entry_read_selects, exception_scan_asks, exception_scan_selects, firm_scan_asks, firm_scan_selects, head_read_asks, head_read_selects, head_scan_asks, head_scan_selects, journal_scan_asks, journal_scan_selects, next_head_asks, next_head_selects, seats_read_asks, seats_read_selects}
+pub use Rattle.sql_tables.proofs.ReadLemmas.{act_scan_answer, acts_read_answer, balance_read_answer, balance_scan_answer, dismissal_scan_answer, entries_read_answer, entry_read_answer, exception_scan_answer, firm_scan_answer, head_read_answer, head_scan_answer, journal_scan_answer, next_head_answer, seats_read_answer}
 pub use Rattle.sql_tables.specs.Given.{head_given}
 pub use Rattle.sql_tables.specs.Lists.{Lists, lists_in}
 pub use Rattle.sql_tables.specs.Reading.{IsKept, IsSelect, LeavesAll}

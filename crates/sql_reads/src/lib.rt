@@ -38,6 +38,8 @@
 //!   `StoredActs` and `StoredDismissals` (each says what its `hands` is): a sink takes each row of the firm's list in
 //!   its order, fewer than 2^64, one at a time while the connection lends them, so that memory does not grow with them;
 //!   at an error it has taken a prefix of them (`handed`); nothing changes (`left`).
+//! - `each_act_of`: the same of the acts of one matter, as the firm has them (`handed`, `left`). That it looks at no
+//!   other row of the trail is its query's, and cases try it.
 #![tactic(auto)]
 
 mod columns;
@@ -50,7 +52,7 @@ mod query;
 pub use firm::all_rows;
 pub use lists::{
     Listing, StoredActs, StoredBalances, StoredDismissals, StoredExceptions, StoredFirmLines,
-    StoredMovements, balance_at, each_listed, firm_ledger,
+    StoredMovements, balance_at, each_act_of, each_listed, firm_ledger,
 };
 pub use matter::{each_row, matter_for, opened_matters, whole_matter};
 pub use query::fault_of;

@@ -8,7 +8,10 @@ ghost use Rattle.sqlite_value.specs.Order.{column};
 ghost use Rattle.sqlite.specs.Held.{state};
 ghost use Rattle.sqlite.specs.State.{HasCleanDisk};
 ghost use Rattle.trust_base.specs.Limits.{IsBankAmount};
+ghost use Rattle.firm_rows.specs.Countable.{IsActInRange};
 ghost use Rattle.firm_rows.specs.FirmLines.{kept_balance};
+ghost use Rattle.firm_rows.specs.Handing.{AreHanded};
+ghost use Rattle.trust_store.specs.MatterActs.{acts_in};
 ghost use Rattle.sql_schema.specs.declared.layout.Layout.{Layout};
 ghost use Rattle.sql_tables.specs.Reading.{IsSelect, LeavesAll};
 ghost use Rattle.sql_tables.specs.Rows.{FirmLine as LineRow, firm_line_values};
@@ -29,10 +32,14 @@ use sql_rows::{
 use sqlite::{Alter, Connection, Row};
 use sqlite_value::value::ValueRef;
 use std::alloc::Global;
-use trust_base::{BankAmount, Day, StoreFault};
+use trust_base::{BankAmount, Day, MatterNo, StoreFault};
 
 // The lines of the firm's own, in order of acceptance.
 const FIRM_LINES: &str = "SELECT day, bank_ref, amount, text FROM firm_line ORDER BY seq";
+
+// The acts of a matter, in order of acceptance.
+const ACTS_OF: &str =
+    "SELECT matter, entry, day, deed, caller, text, number FROM trail WHERE matter = ?1 ORDER BY seq";
 
 /// A list of the firm's rows, which a sink can be handed one row at a time.
 pub trait Listing<K>: RowTaking<K> {
@@ -253,6 +260,26 @@ pub fn each_listed<S: Alter, K, L: Listing<K>>(
     ensures left { LeavesAll result (state S.Store conn.old) (state S.Store conn.new) }
 {
     hand_rows(conn, listing.select::<S>(), &[], listing, sink).and(Ok(()))
+}
+
+/// Passes each act of a matter to the sink, in order of acceptance. No other row of the trail is looked at. Stops with
+/// `Memory` if memory runs out, and with `Store` at a row of the matter's that is invalid or past the 2^64 - 1st; the
+/// sink keeps those before it. Holds one row at a time.
+pub fn each_act_of<S: Alter, K: ActSink>(
+    conn: &mut Connection<S>,
+    alloc: Global,
+    matter: MatterNo,
+    sink: &mut K,
+) -> Result<(), StoreFault>
+    requires { conn.old.in_transaction ≡ false }
+    ensures mode { conn.new.in_transaction ≡ false }
+    ensures handed { (l : Layout) → HasCleanDisk (state S.Store conn.new) → StandsSound l (state S.Store conn.old).now
+        → AreHanded K.remembered IsActInRange (acts_in matter (firm_in l (state S.Store conn.old).now.trees).acts)
+        result sink.old sink.new }
+    ensures left { LeavesAll result (state S.Store conn.old) (state S.Store conn.new) }
+{
+    let key = [ValueRef::Int(matter.get() as i64)];
+    hand_rows(conn, ACTS_OF, &key, &StoredActs { alloc }, sink).and(Ok(()))
 }
 
 // Adds a line. Returns `Store` if the lines would add up to a balance that the firm may not have.

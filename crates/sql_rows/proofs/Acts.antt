@@ -17,6 +17,7 @@ use Rattle.sql_rows.specs.Acts.{IsAct}
 use Rattle.sql_rows.specs.Meaning.{deed_from}
 use Rattle.sql_rows.proofs.KeyedRows.{int_eq-nat, not_zero}
 use Rattle.sql_rows.proofs.RowOrder.{read-filter_agrees}
+use Rattle.trust_store.specs.MatterActs.{acts_in}
 use Rattle.sql_rows.proofs.Seats.{role_back}
 
 -- The columns of an act give it back.
@@ -144,6 +145,16 @@ filter_passed p q all (x ∷ xs) = grind (arith, all x, filter_passed p q all xs
 
 int_same : (a b : ℤ) → int_eq a b ≡ true → a ≡ b
 int_same a b is = (Decides-int_eq a b).0 is
+
+-- the rows of a matter stand for its acts
+pub acts_of_matter : (m : ℕ) → 1 ≤ m → (xs : List table.Act) → AllByRecursion IsWrittenAct (acts_among xs)
+    → map act_from (filter (is_act_of (pos m)) xs) ≡ acts_in m (map act_from (acts_among xs))
+acts_of_matter m one xs all =
+    ap (map act_from)
+    (sym (filter_passed (is_act_of (pos m)) (λ x. not (is_act_of (pos 0) x))
+    (λ x own. ap not (ap (λ z. int_eq z (pos 0)) (int_same x.matter (pos m) own) ∙ of_matter m one)) xs))
+    ∙ read-filter_agrees act_from (is_act_of (pos m)) (λ a. a.matter == m) (acts_among xs)
+    (all_weaker IsWrittenAct _ (same_matter m) (acts_among xs) all)
 
 -- such a row is one more act, and no dismissal
 among_added : (m : ℕ) (x : table.Act) (xs : List table.Act) → 1 ≤ m → x.matter ≡ pos m

@@ -5,7 +5,7 @@ use Rattle.sqlite_resolve.specs.Compile.{first}
 use Rattle.sql_tables.specs.declared.statements.SqlStatement.{SqlStatement}
 use Rattle.sql_tables.specs.declared.statements.SqlStatement.TheVariants as statement
 use Rattle.sql_tables.proofs.Calls.{IsQuery, IsCommand, looked_at, seen_as, asking, commands, queries, begins}
-use Rattle.sql_tables.specs.Texts.{head_read_text, head_read_query, head_read_names, next_head_text, next_head_query, next_head_names, head_scan_text, head_scan_query, head_scan_names, seats_read_text, seats_read_query, seats_read_names, entries_read_text, entries_read_query, entries_read_names, entry_read_text, entry_read_query, entry_read_names, balance_read_text, balance_read_query, balance_read_names, journal_scan_text, journal_scan_query, journal_scan_names, firm_scan_text, firm_scan_query, firm_scan_names, exception_scan_text, exception_scan_query, exception_scan_names, balance_scan_text, balance_scan_query, balance_scan_names, head_write_text, head_write_command, totals_write_text, totals_write_command, closed_write_text, closed_write_command, purged_write_text, purged_write_command, entry_write_text, entry_write_command, left_write_text, left_write_command, seat_insert_text, seat_insert_command, seat_delete_text, seat_delete_command, journal_insert_text, journal_insert_command, firm_insert_text, firm_insert_command, exception_insert_text, exception_insert_command, exception_delete_text, exception_delete_command, balance_insert_text, balance_insert_command, purge_seats_text, purge_seats_command, purge_entries_text, purge_entries_command, purge_journal_text, purge_journal_command, act_scan_text, act_scan_query, act_scan_names, dismissal_scan_text, dismissal_scan_query, dismissal_scan_names, act_insert_text, act_insert_command, purge_acts_text, purge_acts_command}
+use Rattle.sql_tables.specs.Texts.{head_read_text, head_read_query, head_read_names, next_head_text, next_head_query, next_head_names, head_scan_text, head_scan_query, head_scan_names, seats_read_text, seats_read_query, seats_read_names, entries_read_text, entries_read_query, entries_read_names, entry_read_text, entry_read_query, entry_read_names, balance_read_text, balance_read_query, balance_read_names, journal_scan_text, journal_scan_query, journal_scan_names, firm_scan_text, firm_scan_query, firm_scan_names, exception_scan_text, exception_scan_query, exception_scan_names, balance_scan_text, balance_scan_query, balance_scan_names, head_write_text, head_write_command, totals_write_text, totals_write_command, closed_write_text, closed_write_command, purged_write_text, purged_write_command, entry_write_text, entry_write_command, left_write_text, left_write_command, seat_insert_text, seat_insert_command, seat_delete_text, seat_delete_command, journal_insert_text, journal_insert_command, firm_insert_text, firm_insert_command, exception_insert_text, exception_insert_command, exception_delete_text, exception_delete_command, balance_insert_text, balance_insert_command, purge_seats_text, purge_seats_command, purge_entries_text, purge_entries_command, purge_journal_text, purge_journal_command, act_scan_text, act_scan_query, act_scan_names, dismissal_scan_text, dismissal_scan_query, dismissal_scan_names, acts_read_text, acts_read_query, acts_read_names, act_insert_text, act_insert_command, purge_acts_text, purge_acts_command}
 
 head_read_seen : looked_at (first head_read_text) ≡ seen_as true (asking head_read_query head_read_names)
 unfolding everything
@@ -200,6 +200,16 @@ dismissal_scan_asks = queries dismissal_scan_text dismissal_scan_query dismissal
 
 pub dismissal_scan_selects : IsSelect dismissal_scan_text
 dismissal_scan_selects = begins dismissal_scan_text dismissal_scan_query dismissal_scan_names dismissal_scan_seen
+
+acts_read_seen : looked_at (first acts_read_text) ≡ seen_as true (asking acts_read_query acts_read_names)
+unfolding everything
+acts_read_seen = refl
+
+pub acts_read_asks : (l : Layout) → IsQuery (book_schema l) acts_read_text (acts_read_query l) acts_read_names
+acts_read_asks = queries acts_read_text acts_read_query acts_read_names acts_read_seen
+
+pub acts_read_selects : IsSelect acts_read_text
+acts_read_selects = begins acts_read_text acts_read_query acts_read_names acts_read_seen
 
 act_insert_seen : looked_at (first act_insert_text) ≡ seen_as false act_insert_command
 unfolding everything

@@ -4,7 +4,7 @@ use Rattle.std.specs.Prelude.{not, pos}
 use Rattle.sqlite_sql.specs.declared.ops.CompareOp.TheVariants.{Ne}
 use Rattle.sql_schema.specs.Schema.{act_tree}
 use Rattle.sql_tables.specs.Rows.{Act, act_row, act_values, acts_among, acts_in, dismissals_among, is_act_of}
-use Rattle.sql_tables.specs.Texts.{act_scan_query, dismissal_scan_query}
+use Rattle.sql_tables.specs.Texts.{act_scan_query, acts_read_query, dismissal_scan_query}
 use Rattle.sql_tables.proofs.Calls.{no_lets}
 use Rattle.sql_tables.proofs.Kept.{all_kept}
 
@@ -64,6 +64,11 @@ pub dismissal_scan_answer : (l : Layout) (now : Database) → Stands l now → (
 dismissal_scan_answer l now s rows answer =
     let source = last_table (overlay now.trees []) (act_tree l) act_row (λ (x : Act). x.seq) (acts_in l now.trees) (no_lets now.trees _ ∙ s.acts.stored) s.acts.rise (at_end (overlay now.trees [])) in
     sym (map-id rows) ∙ answer_by_keys (dismissal_scan_query l) (overlay now.trees []) [] source (is_act_of (pos 0)) (λ x. last_term (at_ints false Eq x.matter (pos 0))) (λ (r : Row). r) act_values (λ x. refl) refl refl (λ a b. last_key (value_cmp-Int a.seq b.seq)) rows answer
+
+pub acts_read_answer : (l : Layout) (now : Database) (m : ℤ) → Stands l now → (rows : List Row) → IsAnswer (acts_read_query l) (overlay now.trees []) (Int m ∷ []) rows → rows ≡ map act_values (filter (is_act_of m) (acts_in l now.trees))
+acts_read_answer l now m s rows answer =
+    let source = last_table (overlay now.trees []) (act_tree l) act_row (λ (x : Act). x.seq) (acts_in l now.trees) (no_lets now.trees _ ∙ s.acts.stored) s.acts.rise (at_end (overlay now.trees [])) in
+    sym (map-id rows) ∙ answer_by_keys (acts_read_query l) (overlay now.trees []) (Int m ∷ []) source (is_act_of m) (λ x. last_term (at_ints false Eq x.matter m)) (λ (r : Row). r) act_values (λ x. refl) refl refl (λ a b. last_key (value_cmp-Int a.seq b.seq)) rows answer
 
 pub exception_scan_answer : (l : Layout) (now : Database) → Stands l now → (rows : List Row) → IsAnswer (exception_scan_query l) (overlay now.trees []) [] rows → rows ≡ map exception_values (sort_by exception_cmp (exceptions_in l now.trees))
 exception_scan_answer l now s rows answer =

@@ -544,6 +544,26 @@ abbrev pub dismissal_scan_names : List (List ℕ)
 dismissal_scan_names = codes "matter" ∷ codes "entry" ∷ codes "day" ∷ codes "deed" ∷ codes "caller" ∷ codes "text" ∷
     codes "number" ∷ []
 
+abbrev pub acts_read_text : List ℕ
+acts_read_text = codes "SELECT matter, entry, day, deed, caller, text, number FROM trail WHERE matter = ?1 ORDER BY seq"
+
+abbrev pub acts_read_query : Layout → Query
+acts_read_query l = record {
+  from = inner (act_tree l) end;
+  filter = op2 (Compare Eq Binary) (col 1 2) (col 0 0) ∷ [];
+  group = None;
+  project = col 1 2 ∷ col 1 3 ∷ col 1 4 ∷ col 1 5 ∷ col 1 6 ∷ col 1 7 ∷ col 1 8 ∷ [];
+  distinct = false;
+  collations = [];
+  order = (col 1 0, record { collation = Binary; descending = false }) ∷ [];
+  limit = lit (Int (negsuc 0));
+  offset = lit (Int (pos 0));
+}
+
+abbrev pub acts_read_names : List (List ℕ)
+acts_read_names = codes "matter" ∷ codes "entry" ∷ codes "day" ∷ codes "deed" ∷ codes "caller" ∷ codes "text" ∷
+    codes "number" ∷ []
+
 abbrev pub act_insert_text : List ℕ
 act_insert_text =
     codes "INSERT INTO trail (matter, entry, day, deed, caller, text, number) VALUES (?1, ?2, ?3, ?4, ?5, ?6, ?7)"

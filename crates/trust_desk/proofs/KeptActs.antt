@@ -1,21 +1,18 @@
--- The acts of one matter among all.
-use Rattle.std.proofs.Common.{◌≡◌, ℕ, Bool, true, false, cond, List, [], ◌∷◌, ◌++◌, refl, sym, ap, ◌∙◌, append-nil, append_assoc, fold, map}
-use Rattle.std.specs.Prelude.{◌==◌}
-use Rattle.firm_audit.specs.Trails.{acts_among, acts_in}
+-- The acts of one matter, put behind one another.
+use Rattle.std.proofs.Common.{◌≡◌, ℕ, List, [], ◌∷◌, ◌++◌, sym, ◌∙◌, append-nil, append_assoc, fold, map}
 use Rattle.firm_rows.specs.declared.matter_act.MatterAct.{MatterAct}
 use Rattle.firm_rows.specs.Firm.{Firm, acts_of}
-use Rattle.trust_desk.specs.Acts.{ActsKept, none_kept, with_act_of}
+use Rattle.matter_rows.specs.declared.act.Act.{Act}
+use Rattle.trust_store.specs.MatterActs.{acts_in}
 
-acts-put : (s : ActsKept) (acts : List MatterAct) → (fold with_act_of s acts).acts ≡ s.acts ++ acts_among s.matter acts
-acts-put s [] = sym (append-nil s.acts)
-acts-put s (a ∷ acts) =
-    acts-put (with_act_of s a) acts
-    ∙ (append_assoc s.acts (cond (a.matter == s.matter) (a.act ∷ []) []) (acts_among s.matter acts) ∙ ap (λ xs. s.acts ++ xs) (cases (a.matter == s.matter)))
-  where
-    cases : (b : Bool) → cond b (a.act ∷ []) [] ++ acts_among s.matter acts ≡ map (λ (x : MatterAct). x.act) (cond b (a ∷ acts_in s.matter acts) (acts_in s.matter acts))
-    cases true = refl
-    cases false = refl
+abbrev pub put_act : List Act → MatterAct → List Act
+put_act acts a = acts ++ a.act ∷ []
 
--- a sink that began with none has those of its matter
-pub acts-kept : (m : ℕ) (firm : Firm) (kept : ActsKept) → kept ≡ fold with_act_of (none_kept m) firm.acts → kept.acts ≡ acts_of m firm
-acts-kept m firm kept is = ap (λ (s : ActsKept). s.acts) is ∙ acts-put (none_kept m) firm.acts
+acts-put : (acts : List Act) (more : List MatterAct) → fold put_act acts more ≡ acts ++ map (λ (a : MatterAct). a.act) more
+acts-put acts [] = sym (append-nil acts)
+acts-put acts (a ∷ more) =
+    acts-put (acts ++ a.act ∷ []) more ∙ append_assoc acts (a.act ∷ []) (map (λ (x : MatterAct). x.act) more)
+
+-- a sink that began with none has those of the matter
+pub acts-kept : (m : ℕ) (firm : Firm) (kept : List Act) → kept ≡ fold put_act [] (acts_in m firm.acts) → kept ≡ acts_of m firm
+acts-kept m firm kept is = is ∙ acts-put [] (acts_in m firm.acts)

@@ -1,10 +1,9 @@
 //! Who did what in a matter, told to all who may read it.
 
-ghost use Rattle.std.specs.Prelude.{◌≡◌, IfOk, None};
+ghost use Rattle.std.specs.Prelude.{◌≡◌, ◌++◌, ◌∷◌, [], IfOk, None};
 ghost use Rattle.firm_rows.specs.Firm.{acts_of, of};
 ghost use Rattle.trust_store.specs.Calls.{IsRead};
 ghost use Rattle.trust_store.specs.Named.{IsPartFor};
-ghost use Rattle.trust_desk.specs.Acts.{none_kept, with_act_of};
 ghost use Rattle.trust_desk.specs.Answered.{IsAnswered};
 ghost use Rattle.trust_desk.specs.Heard.{Heard, OfActs, kind_of};
 
@@ -17,49 +16,45 @@ use trust_base::{Day, MatterNo, OwnedBytes, Refusal, StoreFault};
 use trust_matter::{Act, Ask, Caller, Matter, decide};
 use trust_store::Book;
 
-// Keeps the acts of one matter among those that it receives.
+// Keeps the acts that it receives.
 //
-// Contracts see it as the matter and its acts so far.
+// Contracts see it as the acts so far.
 #[derive(Drop)]
 struct ActsOfMatter {
-    matter: MatterNo,
     acts: Vec<Act>,
 }
 
 impl Model for ActsOfMatter {
-    ghost use Rattle.trust_desk.specs.Acts.{ActsKept};
+    ghost use Rattle.std.specs.Prelude.{List};
+    ghost use Rattle.matter_rows.specs.declared.act.Act.{Act};
 
-    ghost Value = { ActsKept };
+    ghost Value = { List Act };
 
-    ghost view = { λ s. record { matter = s.matter; acts = s.acts.items } };
+    ghost view = { λ s. s.acts.items };
 }
 
 impl ActsOfMatter {
     // None so far.
-    fn new(alloc: Global, matter: MatterNo) -> ActsOfMatter
-        ensures { result ≡ none_kept matter }
+    fn new(alloc: Global) -> ActsOfMatter
+        ensures { result ≡ [] }
     {
         ActsOfMatter {
-            matter,
             acts: Vec::new(alloc),
         }
     }
 
     // The acts, in the order of acceptance.
     fn finish(self) -> Vec<Act>
-        ensures { result.items ≡ self.acts }
+        ensures { result.items ≡ self }
     {
         self.acts
     }
 }
 
 impl ActSink for ActsOfMatter {
-    ghost remembered = { with_act_of };
+    ghost remembered = { λ acts act. acts ++ act.act ∷ [] };
 
     fn act(&mut self, act: &MatterAct) -> Result<(), AllocError> {
-        if act.matter.get() != self.matter.get() {
-            return Ok(());
-        }
         let act = act.act.copied()?;
         self.acts.push(act)?;
         Ok(())
@@ -84,8 +79,8 @@ fn find_dossier<B: Book>(alloc: Global, book: &mut B, no: MatterNo) -> Result<Do
     ensures read { IsRead result (B.seen book.old) (B.seen book.new) }
 {
     let matter = book.matter_for(alloc, no, None, None)?;
-    let mut kept = ActsOfMatter::new(alloc, no);
-    book.each_act(&mut kept)?;
+    let mut kept = ActsOfMatter::new(alloc);
+    book.each_act_of(no, &mut kept)?;
     Ok(Dossier {
         matter,
         acts: kept.finish(),

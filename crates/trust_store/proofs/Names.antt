@@ -34,6 +34,7 @@ pub use Rattle.trust_base.specs.declared.line.Line.{Line}
 pub use Rattle.firm_rows.specs.Handing.{HandedOver}
 pub use Rattle.trust_store.specs.Calls.{IsWrite, IsWriteIf}
 pub use Rattle.trust_store.specs.Kept.{AreKept, AreKeptWhole, Ascends, IsBefore, IsKeptAs, IsKeptWhole, StandsAt, WouldStandAt, firm_of, joined, kept_pairs, matters_with, place, rows_in, rows_kept, seek, told}
+pub use Rattle.trust_store.specs.MatterActs.{acts_in}
 pub use Rattle.trust_store.specs.Named.{IsPartFor, LineIsHeld, NamedAreHeld, drawn_on, is_named, is_number}
 pub use Rattle.trust_store.specs.declared.plain.KeptMatter.{KeptMatter}
 pub use Rattle.std.proofs.lemmas.Int.{ints}

@@ -11,6 +11,7 @@ ghost use Rattle.firm_rows.specs.FirmSound.{IsVerdictOn, IsFirmVerdict, IsBalanc
 ghost use Rattle.firm_rows.specs.Handing.{AreHanded};
 ghost use Rattle.trust_store.specs.Calls.{IsRead, IsWrite, IsWriteIf};
 ghost use Rattle.trust_store.specs.Kept.{AreKeptWhole, firm_of_all};
+ghost use Rattle.trust_store.specs.MatterActs.{acts_in};
 ghost use Rattle.trust_store.specs.Named.{IsPartFor};
 
 use crate::all_rows::AllRows;
@@ -122,6 +123,18 @@ pub trait Book {
     fn each_act<S: ActSink>(&mut self, sink: &mut S) -> Result<(), StoreFault>
         ensures handed { (seen self.new).clean → (seen self.old).stands
             → AreHanded S.remembered IsActInRange (seen self.old).firm.acts result sink.old sink.new }
+        ensures read { IsRead result (seen self.old) (seen self.new) };
+
+    /// Passes each act of one matter to the sink, in the order of acceptance. Reads no other matter's acts. Stops if
+    /// the sink runs out of memory.
+    fn each_act_of<S: ActSink>(
+        &mut self,
+        matter: MatterNo,
+        sink: &mut S,
+    ) -> Result<(), StoreFault>
+        ensures handed { (seen self.new).clean → (seen self.old).stands
+            → AreHanded S.remembered IsActInRange (acts_in matter (seen self.old).firm.acts)
+            result sink.old sink.new }
         ensures read { IsRead result (seen self.old) (seen self.new) };
 
     /// Passes each dismissal to the sink, in the order of acceptance. Stops if the sink runs out of memory.

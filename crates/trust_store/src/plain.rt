@@ -4,12 +4,13 @@ ghost use Rattle.std.specs.Prelude.{◌≡◌, ◌↔◌, IsTrue, ◌≤◌, ◌
 ghost use Rattle.matter_parts.specs.declared.edit.Edit.TheVariants.{Nothing};
 ghost use Rattle.matter_parts.specs.Parts.{IsWhole, AreNumbered};
 ghost use Rattle.matter_parts.specs.Changes.{IsChange, changed};
-ghost use Rattle.firm_rows.specs.Countable.{IsRowInRange, MOST_ROWS};
+ghost use Rattle.firm_rows.specs.Countable.{IsActInRange, IsRowInRange, MOST_ROWS};
 ghost use Rattle.firm_rows.specs.Firm.{empty_firm, headed, of, acts_left, acts_without, joined_act, joined_movement, kept_movements, moved_without, is_of_matter, pairs, head_pairs, seat_pairs, after_change, after_stray, after_match, own_movement, with_dismissal, with_firm_line, with_balance_row};
 ghost use Rattle.firm_rows.specs.FirmLines.{IsOwnBalance, balance_of, as_firm_line, balance_row, kept_balance};
 ghost use Rattle.firm_rows.specs.FirmSound.{FirmSound};
 ghost use Rattle.firm_rows.specs.Handing.{AreHanded, FoldsFront};
 ghost use Rattle.trust_store.specs.Named.{IsPartFor};
+ghost use Rattle.trust_store.specs.MatterActs.{acts_in};
 ghost use Rattle.trust_store.specs.Kept.{Ascends, AreKeptWhole, IsKeptAs, joined, kept_pairs, rows_kept, rows_in, seek};
 
 use crate::Book;
@@ -236,6 +237,14 @@ impl Book for PlainBook {
 
     fn each_act<S: ActSink>(&mut self, sink: &mut S) -> Result<(), StoreFault> {
         Ok(hand_acts(&self.acts, sink)?)
+    }
+
+    fn each_act_of<S: ActSink>(
+        &mut self,
+        matter: MatterNo,
+        sink: &mut S,
+    ) -> Result<(), StoreFault> {
+        Ok(hand_acts_of(&self.acts, matter, sink)?)
     }
 
     fn each_dismissal<S: DismissalSink>(&mut self, sink: &mut S) -> Result<(), StoreFault> {
@@ -697,6 +706,22 @@ fn hand_entries<S: RowSink>(number: MatterNo, kept: &[Kept], sink: &mut S) -> Re
 {
     for k in kept {
         sink.entry(number, k.number, &k.entry)?;
+    }
+    Ok(())
+}
+
+// Passes each act of a matter to the sink, in order.
+fn hand_acts_of<S: ActSink>(
+    acts: &[MatterAct],
+    matter: MatterNo,
+    sink: &mut S,
+) -> Result<(), AllocError>
+    ensures { AreHanded S.remembered IsActInRange (acts_in matter acts.now) result sink.old sink.new }
+{
+    for act in acts {
+        if act.matter.get() == matter.get() {
+            sink.act(act)?;
+        }
     }
     Ok(())
 }

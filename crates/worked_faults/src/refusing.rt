@@ -138,6 +138,17 @@ impl<B: Book> Book for RefusingBook<B> {
         }
     }
 
+    fn each_act_of<S: ActSink>(
+        &mut self,
+        matter: MatterNo,
+        sink: &mut S,
+    ) -> Result<(), StoreFault> {
+        match self.inner.each_act_of(matter, sink) {
+            Ok(()) => Ok(()),
+            Err(fault) => Err(told(&mut self.refusals, fault)),
+        }
+    }
+
     fn each_dismissal<S: DismissalSink>(&mut self, sink: &mut S) -> Result<(), StoreFault> {
         match self.inner.each_dismissal(sink) {
             Ok(()) => Ok(()),

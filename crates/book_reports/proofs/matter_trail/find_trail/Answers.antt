@@ -1,10 +1,10 @@
-use Rattle.book_reports.proofs.Names.{rules, ◌≡◌, ◌++◌, fold, ap, ◌∙◌, Firm, arith, ints, nat_tests, counted}
+use Rattle.book_reports.proofs.Names.{rules, ◌≡◌, [], ◌∷◌, ◌++◌, fold, ap, ◌∙◌, Firm, arith, ints, nat_tests, counted}
 use Rattle.matter_rows.specs.Rows.{is_purged}
 use Rattle.trust_reports.specs.TextsOfActs.{matter_trail_text}
 unfoldable use Rattle.book_reports.specs.Reports.{matter_trail_report}
-use Rattle.book_reports.specs.Trails.{with_act_of}
 use Rattle.book_reports.proofs.ReadCalls.{handed-before, read-then}
-use Rattle.book_reports.proofs.ReportTexts.{acts-listed}
+use Rattle.trust_store.specs.MatterActs.{acts_in}
+use Rattle.book_reports.proofs.ReportTexts.{all-put}
 use Rattle.book_reports.proofs.matter_trail.find_trail.Goals as goal
 
 pub returns-clause-told : goal.returns-clause-told
@@ -14,11 +14,12 @@ returns-clause-told g c =
     let B = g.B.Book in
     let firm : Firm = (B.seen c.args.book.now).firm in
     let first = c.in_ok-found.ensures in
-    let second = c.in_ok-each_act.ensures in
+    let second = c.in_ok-each_act_of.ensures in
     let served = second.read.was_clean clean in
     let part = (first.found served stands).is_part in
-    let acts = handed-before (λ (f : Firm). f.acts) (first.read.same served stands) (second.handed clean (first.read.still_stands served stands)) in
-    let listed = acts-listed c.args.matter firm c.each_act.new.sink (acts.all ∙ ap (λ s. fold with_act_of s firm.acts) c.new-acts.ensures) in
+    let acts = handed-before (λ (f : Firm). acts_in c.args.matter f.acts) (first.read.same served stands) (second.handed clean (first.read.still_stands served stands)) in
+    let own = acts_in c.args.matter firm.acts in
+    let listed = acts.all ∙ (ap (λ s. fold (λ xs x. xs ++ x ∷ []) s own) c.new-acts.ensures ∙ all-put [] own) in
     let lent : c.deref.result.now ≡ c.finish.result.items = search rules in
     record {
       missing = grind (arith, ints, nat_tests, part.head);
@@ -31,5 +32,5 @@ returns-clause-told g c =
 
 pub returns-clause-read : goal.returns-clause-read
 returns-clause-read g c =
-    let all = read-then c.in_ok-found.ensures.read c.in_ok-each_act.ensures.read in
+    let all = read-then c.in_ok-found.ensures.read c.in_ok-each_act_of.ensures.read in
     grind (arith, ints, nat_tests, counted)
