@@ -127,11 +127,7 @@ pub trait Book {
 
     /// Passes each act of one matter to the sink, in the order of acceptance. Reads no other matter's acts. Stops if
     /// the sink runs out of memory.
-    fn each_act_of<S: ActSink>(
-        &mut self,
-        matter: MatterNo,
-        sink: &mut S,
-    ) -> Result<(), StoreFault>
+    fn each_act_of<S: ActSink>(&mut self, matter: MatterNo, sink: &mut S) -> Result<(), StoreFault>
         ensures handed { (seen self.new).clean → (seen self.old).stands
             → AreHanded S.remembered IsActInRange (acts_in matter (seen self.old).firm.acts)
             result sink.old sink.new }
