@@ -1,8 +1,9 @@
 -- The reports as of a day and of a period, from what was read.
 use Rattle.book_reports.proofs.Names.{Seen, ◌≡◌, ℕ, false, List, [], ◌∷◌, ◌++◌, Ok, IsRead, ap, subst, append_assoc, ◌∙◌, Firm, has_no_statement, reconciliation_report, AreCountable, IsFirmLineInRange, IsRowInRange}
-use Rattle.trust_base.specs.Periods.{Span, first_of_month, month_to}
+use Rattle.std.specs.Prelude.{◌||◌}
+use Rattle.trust_base.specs.Periods.{Span, month_to}
 use Rattle.firm_periods.specs.Doubles.{in_order}
-use Rattle.firm_periods.specs.Named.{NamedKept, is_earlier, is_purged_since, listed, named_kept, named_sum}
+use Rattle.firm_periods.specs.Named.{NamedKept, is_earlier, is_purged_within, listed, named_kept, named_sum}
 use Rattle.firm_periods.specs.declared.named_sink.Pick.{Pick}
 use Rattle.firm_periods.specs.declared.named_sink.Pick.TheVariants as pick
 use Rattle.trust_reports.specs.TextsOfPeriods.{disbursements_text, outstanding_text, receipts_text}
@@ -14,7 +15,7 @@ use Rattle.trust_reports.specs.TextsOfActs.{approvals_text}
 use Rattle.book_reports.specs.declared.day_reports.Limits.{Limits}
 use Rattle.book_reports.specs.declared.day_reports.ReadList.{ReadList}
 use Rattle.book_reports.specs.DayReports.{IsAppended, IsListed}
-use Rattle.book_reports.specs.Reports.{approvals_report, clients_report, disbursements_report, is_period_purged, month_report, outstanding_report, parts, receipts_report}
+use Rattle.book_reports.specs.Reports.{approvals_report, clients_report, disbursements_report, is_period_purged, is_purged_at, month_report, outstanding_report, parts, receipts_report}
 
 -- What was read of a list.
 pub named-listed : (pick : Pick) (firm : Firm) (kept : NamedKept) (named : ReadList)
@@ -33,7 +34,7 @@ named-listed pick firm kept named rows own is moves total purged =
 pub receipts-told : (a b : Seen) {k : ReadList} (s : Span) (limits : Limits) (old new : List ℕ)
     → (b.clean → a.stands → IsListed (pick.Receipts s) a.firm k)
     → limits.lacks_statement ≡ false → limits.is_purged ≡ k.is_purged → new ≡ old ++ receipts_text s k.list.moves.items k.list.total
-    → b.clean → a.stands → IsAppended limits false (is_purged_since s.from a.firm) old (receipts_report s a.firm) new
+    → b.clean → a.stands → IsAppended limits false (is_purged_within s a.firm) old (receipts_report s a.firm) new
 unfolding receipts_report
 receipts-told a b s limits old new listed none cut text clean stands =
     let is = listed clean stands in
@@ -42,7 +43,7 @@ receipts-told a b s limits old new listed none cut text clean stands =
 pub disbursements-told : (a b : Seen) {k : ReadList} (s : Span) (limits : Limits) (old new : List ℕ)
     → (b.clean → a.stands → IsListed (pick.Disbursements s) a.firm k)
     → limits.lacks_statement ≡ false → limits.is_purged ≡ k.is_purged → new ≡ old ++ disbursements_text s k.list.moves.items k.list.total
-    → b.clean → a.stands → IsAppended limits false (is_purged_since s.from a.firm) old (disbursements_report s a.firm) new
+    → b.clean → a.stands → IsAppended limits false (is_purged_within s a.firm) old (disbursements_report s a.firm) new
 unfolding disbursements_report
 disbursements-told a b s limits old new listed none cut text clean stands =
     let is = listed clean stands in
@@ -54,7 +55,7 @@ pub outstanding-told : {a b c : Seen} {k j : ReadList} (day : ℕ) (limits : Lim
     → IsRead (Ok j) b c → (c.clean → b.stands → IsListed (pick.Outstanding day) b.firm j)
     → limits.lacks_statement ≡ false → limits.is_purged ≡ j.is_purged
     → new ≡ old ++ outstanding_text day k.list.moves.items k.list.total j.list.moves.items j.list.total
-    → c.clean → a.stands → IsAppended limits false (is_period_purged day a.firm) old (outstanding_report day a.firm) new
+    → c.clean → a.stands → IsAppended limits false (is_purged_at day a.firm) old (outstanding_report day a.firm) new
 unfolding outstanding_report
 outstanding-told {a} {b} {c} {k} {j} day limits old new first here second there none cut text clean stands =
     let served = second.was_clean clean in
@@ -70,7 +71,7 @@ outstanding-told {a} {b} {c} {k} {j} day limits old new first here second there 
 pub approvals-told : (a b : Seen) {kept : ApprovalsKept} (s : Span) (lines : List IssuedPayment) (limits : Limits) (old new : List ℕ)
     → (b.clean → a.stands → kept ≡ approvals_kept s a.firm)
     → lines ≡ approvals_of kept → limits.lacks_statement ≡ false → limits.is_purged ≡ kept.purged → new ≡ old ++ approvals_text s lines
-    → b.clean → a.stands → IsAppended limits false (is_purged_since s.from a.firm) old (approvals_report s a.firm) new
+    → b.clean → a.stands → IsAppended limits false (is_purged_within s a.firm) old (approvals_report s a.firm) new
 unfolding approvals_report
 approvals-told a b {kept} s lines limits old new told listed none cut text clean stands =
     let is = told clean stands in
@@ -89,17 +90,17 @@ packet t a b c d e f = simp append_assoc
 pub month-told : {a b c d e f g : Seen} {k1 k2 k3 k4 k5 k6 : Limits} {t0 t1 t2 t3 t4 t5 t6 u1 u2 u3 u4 u5 : List ℕ} (day : ℕ) (s : Span) → s ≡ month_to day
     → IsRead (Ok k1) a b → (b.clean → a.stands → IsAppended k1 (has_no_statement day a.firm) (is_period_purged day a.firm) t0 (reconciliation_report day a.firm) t1)
     → u1 ≡ t1 ++ 10 ∷ []
-    → IsRead (Ok k2) b c → (c.clean → b.stands → IsAppended k2 false (is_period_purged day b.firm) u1 (clients_report day b.firm) t2)
+    → IsRead (Ok k2) b c → (c.clean → b.stands → IsAppended k2 false (is_purged_at day b.firm) u1 (clients_report day b.firm) t2)
     → u2 ≡ t2 ++ 10 ∷ []
-    → IsRead (Ok k3) c d → (d.clean → c.stands → IsAppended k3 false (is_period_purged day c.firm) u2 (outstanding_report day c.firm) t3)
+    → IsRead (Ok k3) c d → (d.clean → c.stands → IsAppended k3 false (is_purged_at day c.firm) u2 (outstanding_report day c.firm) t3)
     → u3 ≡ t3 ++ 10 ∷ []
-    → IsRead (Ok k4) d e → (e.clean → d.stands → IsAppended k4 false (is_purged_since s.from d.firm) u3 (receipts_report s d.firm) t4)
+    → IsRead (Ok k4) d e → (e.clean → d.stands → IsAppended k4 false (is_purged_within s d.firm) u3 (receipts_report s d.firm) t4)
     → u4 ≡ t4 ++ 10 ∷ []
-    → IsRead (Ok k5) e f → (f.clean → e.stands → IsAppended k5 false (is_purged_since s.from e.firm) u4 (disbursements_report s e.firm) t5)
+    → IsRead (Ok k5) e f → (f.clean → e.stands → IsAppended k5 false (is_purged_within s e.firm) u4 (disbursements_report s e.firm) t5)
     → u5 ≡ t5 ++ 10 ∷ []
-    → IsRead (Ok k6) f g → (g.clean → f.stands → IsAppended k6 false (is_purged_since s.from f.firm) u5 (approvals_report s f.firm) t6)
+    → IsRead (Ok k6) f g → (g.clean → f.stands → IsAppended k6 false (is_purged_within s f.firm) u5 (approvals_report s f.firm) t6)
     → g.clean → a.stands
-    → IsAppended (record { lacks_statement = k1.lacks_statement; is_purged = k6.is_purged }) (has_no_statement day a.firm) (is_purged_since (first_of_month day) a.firm) t0 (month_report day a.firm) t6
+    → IsAppended (record { lacks_statement = k1.lacks_statement; is_purged = k1.is_purged || k6.is_purged }) (has_no_statement day a.firm) (is_period_purged day a.firm || is_purged_within (month_to day) a.firm) t0 (month_report day a.firm) t6
 unfolding month_report
 month-told {a} {b} {c} {d} {e} {f} {g} {k1} {k2} {k3} {k4} {k5} {k6} {t0} {t1} {t2} {t3} {t4} {t5} {t6} {u1} {u2} {u3} {u4} {u5} day s month r1 h1 e1 r2 h2 e2 r3 h3 e3 r4 h4 e4 r5 h5 e5 r6 h6 c6 s0 =
     let c5 = r6.was_clean c6 in
@@ -118,16 +119,16 @@ month-told {a} {b} {c} {d} {e} {f} {g} {k1} {k2} {k3} {k4} {k5} {k6} {t0} {t1} {
     let f4 : e.firm ≡ a.firm = r4.same c4 s3 ∙ f3 in
     let f5 : f.firm ≡ a.firm = r5.same c5 s4 ∙ f4 in
     let p1 = h1 c1 s0 in
-    let p2 = subst (λ (x : Firm). IsAppended k2 false (is_period_purged day x) u1 (clients_report day x) t2) f1 (h2 c2 s1) in
-    let p3 = subst (λ (x : Firm). IsAppended k3 false (is_period_purged day x) u2 (outstanding_report day x) t3) f2 (h3 c3 s2) in
-    let p4 = subst (λ (x : Firm). IsAppended k4 false (is_purged_since s.from x) u3 (receipts_report s x) t4) f3 (h4 c4 s3) in
-    let p5 = subst (λ (x : Firm). IsAppended k5 false (is_purged_since s.from x) u4 (disbursements_report s x) t5) f4 (h5 c5 s4) in
-    let p6 = subst (λ (x : Firm). IsAppended k6 false (is_purged_since s.from x) u5 (approvals_report s x) t6) f5 (h6 c6 s5) in
-    subst (λ (x : Span). IsAppended (record { lacks_statement = k1.lacks_statement; is_purged = k6.is_purged }) (has_no_statement day a.firm) (is_purged_since x.from a.firm) t0
+    let p2 = subst (λ (x : Firm). IsAppended k2 false (is_purged_at day x) u1 (clients_report day x) t2) f1 (h2 c2 s1) in
+    let p3 = subst (λ (x : Firm). IsAppended k3 false (is_purged_at day x) u2 (outstanding_report day x) t3) f2 (h3 c3 s2) in
+    let p4 = subst (λ (x : Firm). IsAppended k4 false (is_purged_within s x) u3 (receipts_report s x) t4) f3 (h4 c4 s3) in
+    let p5 = subst (λ (x : Firm). IsAppended k5 false (is_purged_within s x) u4 (disbursements_report s x) t5) f4 (h5 c5 s4) in
+    let p6 = subst (λ (x : Firm). IsAppended k6 false (is_purged_within s x) u5 (approvals_report s x) t6) f5 (h6 c6 s5) in
+    subst (λ (x : Span). IsAppended (record { lacks_statement = k1.lacks_statement; is_purged = k1.is_purged || k6.is_purged }) (has_no_statement day a.firm) (is_period_purged day a.firm || is_purged_within x a.firm) t0
     (parts (reconciliation_report day a.firm) (clients_report day a.firm ∷ outstanding_report day a.firm ∷ receipts_report x a.firm ∷ disbursements_report x a.firm ∷ approvals_report x a.firm ∷ [])) t6) month
     (record {
       stated = p1.stated;
-      cut = p6.cut;
+      cut = λ i. p1.cut i || p6.cut i;
       text =
           p6.text
           ∙ (ap (λ t. t ++ approvals_report s a.firm) (e5 ∙ ap (λ t. t ++ 10 ∷ []) (p5.text

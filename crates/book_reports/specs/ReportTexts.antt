@@ -1,8 +1,8 @@
 -- The text of each report of a firm, and when its records are not complete.
-use Rattle.std.specs.Prelude.{ℕ, Bool, false, List}
+use Rattle.std.specs.Prelude.{ℕ, Bool, false, ◌||◌, List}
 use Rattle.firm_rows.specs.Firm.{Firm}
-use Rattle.trust_base.specs.Periods.{Span, first_of_month}
-use Rattle.book_reports.specs.Reports.{approvals_report, clients_report, disbursements_report, exceptions_report, has_no_statement, is_period_purged, is_purged_since, journal_report, month_report, outstanding_report, own_card_report, receipts_report, retention_report, trail_report, trial_report}
+use Rattle.trust_base.specs.Periods.{Span, month_to}
+use Rattle.book_reports.specs.Reports.{approvals_report, clients_report, disbursements_report, exceptions_report, has_no_statement, is_period_purged, is_purged_at, is_purged_within, journal_report, month_report, outstanding_report, own_card_report, receipts_report, retention_report, trail_report, trial_report}
 use Rattle.book_reports.specs.declared.report.DayReport.{DayReport}
 use Rattle.book_reports.specs.declared.report.DayReport.TheVariants.{Clients, Month, Outstanding}
 use Rattle.book_reports.specs.declared.report.PeriodReport.{PeriodReport}
@@ -31,11 +31,12 @@ lacks_statement Clients day firm = false
 lacks_statement Outstanding day firm = false
 lacks_statement Month day firm = has_no_statement day firm
 
--- the records that the report is made of are no longer complete: of the day, or of its month up to it
+-- a matter was purged whose records the report wants: one that was open as of the day, or, of the packet of month's
+-- end, one for which a part of it is refused
 abbrev pub is_day_report_purged : DayReport → ℕ → Firm → Bool
-is_day_report_purged Clients day firm = is_period_purged day firm
-is_day_report_purged Outstanding day firm = is_period_purged day firm
-is_day_report_purged Month day firm = is_purged_since (first_of_month day) firm
+is_day_report_purged Clients day firm = is_purged_at day firm
+is_day_report_purged Outstanding day firm = is_purged_at day firm
+is_day_report_purged Month day firm = is_period_purged day firm || is_purged_within (month_to day) firm
 
 -- the text of a report of a period
 abbrev pub period_report_text : PeriodReport → Span → Firm → List ℕ

@@ -6,8 +6,8 @@ use Rattle.firm_rows.specs.FirmLines.{balance_of}
 use Rattle.firm_audit.specs.Trails.{acts_in}
 use Rattle.trust_reports.specs.Clients.{client_lines, clients_total}
 use Rattle.trust_reports.specs.Figures.{closing_on, own_by}
-pub use Rattle.trust_reports.specs.Purged.{is_period_purged}
-pub use Rattle.firm_periods.specs.Named.{is_purged_since}
+pub use Rattle.trust_reports.specs.Purged.{is_period_purged, is_purged_at}
+pub use Rattle.firm_periods.specs.Named.{is_purged_within}
 use Rattle.firm_periods.specs.Approvals.{approvals}
 use Rattle.firm_periods.specs.Named.{disbursements, out_named, receipts, sum_moved, transit_named}
 use Rattle.trust_reports.specs.Reconciliations.{ReconciliationTold, reconciliation_on}

@@ -2,11 +2,10 @@
 
 ghost use Rattle.std.specs.Prelude.{◌≡◌, IfOk, false};
 ghost use Rattle.firm_periods.specs.Approvals.{approvals_kept};
-ghost use Rattle.trust_base.specs.Periods.{first_of_month};
 ghost use Rattle.book_reports.specs.DayReports.{IsAppended, IsListed};
 ghost use Rattle.book_reports.specs.Kept.{IsKeptOf};
 ghost use Rattle.book_reports.specs.ReportTexts.{day_report_text, is_day_report_purged, lacks_statement, period_report_text};
-ghost use Rattle.book_reports.specs.Reports.{approvals_report, clients_report, disbursements_report, has_no_statement, is_period_purged, is_purged_since, month_report, outstanding_report, receipts_report, reconciliation_report};
+ghost use Rattle.book_reports.specs.Reports.{approvals_report, clients_report, disbursements_report, has_no_statement, is_period_purged, is_purged_at, is_purged_within, month_report, outstanding_report, receipts_report, reconciliation_report};
 ghost use Rattle.trust_store.specs.Calls.{IsRead};
 
 use crate::cleared_lines::{Beside, ClearedLines};
@@ -91,14 +90,14 @@ fn append_clients<B: Book>(
     text: &mut Vec<u8>,
 ) -> Result<Limits, StoreFault>
     ensures told { (B.seen book.new).clean → (B.seen book.old).stands → IfOk result (λ limits. IsAppended limits
-        false (is_period_purged as_of (B.seen book.old).firm)
+        false (is_purged_at as_of (B.seen book.old).firm)
         text.old.items (clients_report as_of (B.seen book.old).firm) text.new.items) }
     ensures read { IsRead result (B.seen book.old) (B.seen book.new) }
 {
     let mut clients = ClientsSink::new(alloc, as_of);
     book.each_row(&mut clients)?;
     book.each_firm_line(&mut clients)?;
-    let is_purged = clients.is_period_purged();
+    let is_purged = clients.is_day_purged();
     let list = clients.finish();
     clients_text(as_of, &list.lines, list.own, list.total, text)?;
     Ok(Limits {
@@ -136,7 +135,7 @@ fn append_outstanding<B: Book>(
     text: &mut Vec<u8>,
 ) -> Result<Limits, StoreFault>
     ensures told { (B.seen book.new).clean → (B.seen book.old).stands → IfOk result (λ limits. IsAppended limits
-        false (is_period_purged as_of (B.seen book.old).firm)
+        false (is_purged_at as_of (B.seen book.old).firm)
         text.old.items (outstanding_report as_of (B.seen book.old).firm) text.new.items) }
     ensures read { IsRead result (B.seen book.old) (B.seen book.new) }
 {
@@ -157,7 +156,7 @@ fn append_receipts<B: Book>(
     text: &mut Vec<u8>,
 ) -> Result<Limits, StoreFault>
     ensures told { (B.seen book.new).clean → (B.seen book.old).stands → IfOk result (λ limits. IsAppended limits
-        false (is_purged_since period.from (B.seen book.old).firm)
+        false (is_purged_within period (B.seen book.old).firm)
         text.old.items (receipts_report period (B.seen book.old).firm) text.new.items) }
     ensures read { IsRead result (B.seen book.old) (B.seen book.new) }
 {
@@ -177,7 +176,7 @@ fn append_disbursements<B: Book>(
     text: &mut Vec<u8>,
 ) -> Result<Limits, StoreFault>
     ensures told { (B.seen book.new).clean → (B.seen book.old).stands → IfOk result (λ limits. IsAppended limits
-        false (is_purged_since period.from (B.seen book.old).firm)
+        false (is_purged_within period (B.seen book.old).firm)
         text.old.items (disbursements_report period (B.seen book.old).firm) text.new.items) }
     ensures read { IsRead result (B.seen book.old) (B.seen book.new) }
 {
@@ -213,7 +212,7 @@ fn append_approvals<B: Book>(
     text: &mut Vec<u8>,
 ) -> Result<Limits, StoreFault>
     ensures told { (B.seen book.new).clean → (B.seen book.old).stands → IfOk result (λ limits. IsAppended limits
-        false (is_purged_since period.from (B.seen book.old).firm)
+        false (is_purged_within period (B.seen book.old).firm)
         text.old.items (approvals_report period (B.seen book.old).firm) text.new.items) }
     ensures read { IsRead result (B.seen book.old) (B.seen book.new) }
 {
@@ -238,7 +237,7 @@ pub fn append_period_report<B: Book>(
     text: &mut Vec<u8>,
 ) -> Result<Limits, StoreFault>
     ensures told { (B.seen book.new).clean → (B.seen book.old).stands → IfOk result (λ limits. IsAppended limits
-        false (is_purged_since period.from (B.seen book.old).firm)
+        false (is_purged_within period (B.seen book.old).firm)
         text.old.items (period_report_text report period (B.seen book.old).firm) text.new.items) }
     ensures read { IsRead result (B.seen book.old) (B.seen book.new) }
 {
@@ -258,7 +257,7 @@ fn append_month<B: Book>(
     text: &mut Vec<u8>,
 ) -> Result<Limits, StoreFault>
     ensures told { (B.seen book.new).clean → (B.seen book.old).stands → IfOk result (λ limits. IsAppended limits
-        (has_no_statement day (B.seen book.old).firm) (is_purged_since (first_of_month day) (B.seen book.old).firm)
+        (has_no_statement day (B.seen book.old).firm) (is_day_report_purged DayReport.Month day (B.seen book.old).firm)
         text.old.items (month_report day (B.seen book.old).firm) text.new.items) }
     ensures read { IsRead result (B.seen book.old) (B.seen book.new) }
 {
@@ -277,7 +276,7 @@ fn append_month<B: Book>(
     let cut = append_approvals(alloc, book, month, text)?;
     Ok(Limits {
         lacks_statement: stated.lacks_statement,
-        is_purged: cut.is_purged,
+        is_purged: stated.is_purged || cut.is_purged,
     })
 }
 

@@ -5,8 +5,8 @@ use Rattle.trust_base.specs.Periods.{Span, month_to}
 use Rattle.matter_rows.specs.declared.act.Caller.{Caller}
 use Rattle.trust_matter.specs.Step.{first}
 use Rattle.firm_rows.specs.Firm.{Firm}
-use Rattle.firm_figures.specs.Purged.{is_period_purged}
-use Rattle.firm_periods.specs.Named.{is_purged_since}
+use Rattle.firm_figures.specs.Purged.{is_period_purged, is_purged_at}
+use Rattle.firm_periods.specs.Named.{is_purged_within}
 use Rattle.firm_lists.specs.Listed.{matters_body, waiting_body}
 use Rattle.exception_reasons.specs.Reasons.{reasons_body}
 use Rattle.statement_match.specs.Books.{held_of}
@@ -47,14 +47,14 @@ unfolding has_no_statement is_period_purged reconciliation_report
 reconciliation-ignores part caller day today firm = refl
 
 pub day_report-ignores : (part : Part) (caller : Caller) (report : DayReport) (day today : ℕ) → shows part (Asks (requests.AsOf caller report day)) ≡ false → Ignores part (day_report_for caller report day today)
-unfolding has_no_statement is_period_purged is_purged_since reconciliation_report clients_report outstanding_report receipts_report disbursements_report approvals_report month_report
+unfolding has_no_statement is_period_purged is_purged_at is_purged_within reconciliation_report clients_report outstanding_report receipts_report disbursements_report approvals_report month_report
 day_report-ignores part caller Clients day today silent firm = refl
 day_report-ignores part caller Outstanding day today silent firm = refl
 day_report-ignores TheActs caller Month day today silent firm = absurd (false≢true (sym silent))
 day_report-ignores TheDismissals caller Month day today silent firm = refl
 
 pub period_report-ignores : (part : Part) (caller : Caller) (report : PeriodReport) (period : Span) (today : ℕ) → shows part (Asks (requests.Within caller report period)) ≡ false → Ignores part (period_report_for caller report period today)
-unfolding is_purged_since receipts_report disbursements_report approvals_report
+unfolding is_purged_within receipts_report disbursements_report approvals_report
 period_report-ignores part caller Receipts period today silent firm = refl
 period_report-ignores part caller Disbursements period today silent firm = refl
 period_report-ignores TheActs caller Approvals period today silent firm = absurd (false≢true (sym silent))
@@ -67,7 +67,7 @@ unfolding month_report
 month_is caller day today firm = refl
 
 pub month-ignores : (part : Part) (caller : Caller) (approvals : List ℕ) (day : ℕ) → Ignores part (λ (f : Firm). text_unless (first (day_report_conditions caller Month day f)) (month_with approvals day f))
-unfolding has_no_statement is_period_purged is_purged_since reconciliation_report clients_report outstanding_report receipts_report disbursements_report
+unfolding has_no_statement is_period_purged is_purged_at is_purged_within reconciliation_report clients_report outstanding_report receipts_report disbursements_report
 month-ignores part caller approvals day firm = refl
 
 -- The acts of a matter.

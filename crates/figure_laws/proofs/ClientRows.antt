@@ -1,6 +1,6 @@
 -- What the sink of the list of clients keeps of rows in order.
-use Rattle.figure_laws.proofs.Names.{◌≡◌, ℕ, ◌*◌, ◌<◌, Bool, true, false, cond, List, [], ◌∷◌, ◌++◌, length, map, refl, sym, ap, ◌∙◌, subst, arith, append_assoc, append-nil, ℤ, pos, ◌+ℤ◌, ◌==◌, ◌||◌, fold, list_any, AllByRecursion, int_wrap, w128, FitsSigned, ints, int_wrap-add_left, int_wrap_fits, nat_tests, map-append, Head, Entry, sum_of, sum-same, sum-filter, Row, HeadRow, SeatRow, EntryRow, Firm, of, IsInOrder, AreCountable, IsRowInRange, IsFirmLineInRange, FirmLine, is_dated_by, own_by, added, at, of_row, rows-entries, ledger_share_by, is_purged_after, is_period_purged, all-map, IsAmount, entry_amount}
-use Rattle.firm_figures.specs.Purged.{is_head_purged_after}
+use Rattle.figure_laws.proofs.Names.{◌≡◌, ℕ, ◌*◌, ◌<◌, Bool, true, false, cond, List, [], ◌∷◌, ◌++◌, length, map, refl, sym, ap, ◌∙◌, subst, arith, append_assoc, append-nil, ℤ, pos, ◌+ℤ◌, ◌==◌, ◌||◌, fold, list_any, AllByRecursion, int_wrap, w128, FitsSigned, ints, int_wrap-add_left, int_wrap_fits, nat_tests, map-append, Head, Entry, sum_of, sum-same, sum-filter, Row, HeadRow, SeatRow, EntryRow, Firm, of, IsInOrder, AreCountable, IsRowInRange, IsFirmLineInRange, FirmLine, is_dated_by, own_by, added, at, of_row, rows-entries, ledger_share_by, is_row_purged_at, is_purged_at, all-map, IsAmount, entry_amount}
+use Rattle.firm_figures.specs.Purged.{is_head_purged_at}
 use Rattle.firm_figures.proofs.Sizes.{IsWithin, MOST, CENTS, WHOLE, sum-within, wider, tested, bank-within, amount-within, out-within, none-within, narrow}
 use Rattle.firm_figures.specs.declared.clients_sink.ClientLine.{ClientLine}
 use Rattle.firm_figures.specs.Clients.{is_listed, client_in, ledger_as_of, open_heads, client_line, client_lines, ClientsKept, no_clients, add_to_last, with_client_row, with_client_own}
@@ -188,7 +188,7 @@ head-bits false m h ls = ap (map in_bits) (sym (append-nil ls))
 
 fold-bits : (p : ℕ) (ls : List ClientLine) (z : ℤ) (t : Bool) (xs : List (ℕ × Row)) → (fold with_client_row (record { day = p; own = z; lines = map in_bits ls; purged = t }) xs).lines ≡ map in_bits (fold (placed_row p) ls xs)
 fold-bits p ls z t [] = refl
-fold-bits p ls z t ((m, HeadRow h) ∷ xs) = (λ i. (fold with_client_row (record { day = p; own = z; lines = head-bits (is_listed p h) m h ls i; purged = is_head_purged_after p h || t }) xs).lines) ∙ fold-bits p (ls ++ opened p m h) z (is_head_purged_after p h || t) xs
+fold-bits p ls z t ((m, HeadRow h) ∷ xs) = (λ i. (fold with_client_row (record { day = p; own = z; lines = head-bits (is_listed p h) m h ls i; purged = is_head_purged_at p h || t }) xs).lines) ∙ fold-bits p (ls ++ opened p m h) z (is_head_purged_at p h || t) xs
 fold-bits p ls z t ((m, SeatRow seat) ∷ xs) = fold-bits p ls z t xs
 fold-bits p ls z t ((m, EntryRow n e) ∷ xs) = (λ i. (fold with_client_row (record { day = p; own = z; lines = add-bits m (ledger_share_by p e) ls i; purged = t }) xs).lines) ∙ fold-bits p (place_line m (ledger_share_by p e) ls) z t xs
 
@@ -223,9 +223,9 @@ lines-kept p firm order is =
 
 -- What else the rows leave.
 
-rows-rest : (s : ClientsKept) (xs : List (ℕ × Row)) → fold with_client_row s xs ≡ record s { lines = (fold with_client_row s xs).lines; purged = list_any (is_purged_after s.day) xs || s.purged }
+rows-rest : (s : ClientsKept) (xs : List (ℕ × Row)) → fold with_client_row s xs ≡ record s { lines = (fold with_client_row s xs).lines; purged = list_any (is_row_purged_at s.day) xs || s.purged }
 rows-rest s [] = refl
-rows-rest s ((m, HeadRow h) ∷ xs) = rows-rest (with_client_row s (m, HeadRow h)) xs ∙ (λ i. record s { lines = (fold with_client_row s ((m, HeadRow h) ∷ xs)).lines; purged = turn (list_any (is_purged_after s.day) xs) (is_head_purged_after s.day h) s.purged i })
+rows-rest s ((m, HeadRow h) ∷ xs) = rows-rest (with_client_row s (m, HeadRow h)) xs ∙ (λ i. record s { lines = (fold with_client_row s ((m, HeadRow h) ∷ xs)).lines; purged = turn (list_any (is_row_purged_at s.day) xs) (is_head_purged_at s.day h) s.purged i })
   where
     turn : (a b c : Bool) → (a || (b || c)) ≡ ((b || a) || c)
     turn a b c = grind arith
@@ -248,14 +248,14 @@ or-none : (a : Bool) → (a || false) ≡ a
 or-none a = grind arith
 
 pub clients-kept : ClientsAreKept
-unfolding is_period_purged
+unfolding is_purged_at
 clients-kept p firm order some few =
     let own = sum-filter (is_dated_by p) (λ (l : FirmLine). l.amount) firm.firm_lines in
     let none : pos 0 +ℤ sum_of (λ (l : FirmLine). cond (is_dated_by p l) l.amount (pos 0)) firm.firm_lines ≡ own_by p firm = omega (arith, ints, own) in
     let fits = subst (IsWithin WHOLE) (sym own) (own-within p firm.firm_lines few) in
-    let s : ClientsKept = record { day = p; own = pos 0; lines = client_lines p firm; purged = is_period_purged p firm } in
+    let s : ClientsKept = record { day = p; own = pos 0; lines = client_lines p firm; purged = is_purged_at p firm } in
     let rows : fold with_client_row (no_clients p) firm.rows ≡ record s { own = int_wrap w128 (pos 0) } =
-    rows-rest (no_clients p) firm.rows ∙ (λ i. record { day = p; own = sym zero-wrapped i; lines = lines-kept p firm order some i; purged = or-none (list_any (is_purged_after p) firm.rows) i }) in
+    rows-rest (no_clients p) firm.rows ∙ (λ i. record { day = p; own = sym zero-wrapped i; lines = lines-kept p firm order some i; purged = or-none (list_any (is_row_purged_at p) firm.rows) i }) in
     ap (λ t. fold with_client_own t firm.firm_lines) rows
     ∙ (own-from s (pos 0) firm.firm_lines
     ∙ (λ i. record s { own = (ap (int_wrap w128) none ∙ int_wrap_fits w128 (own_by p firm) (narrow _ fits)) i }))

@@ -52,8 +52,8 @@ pub use Rattle.firm_figures.specs.Figures.{back_on, banked_on, booked_on, closin
 pub use Rattle.firm_figures.specs.Listing.{Listed, early_lines, early_list, line_where, none_listed, out_list, transit_list, with_exception_listed, with_row_listed}
 pub use Rattle.firm_figures.specs.Lists.{TrialKept, add_last, is_open, journal_from, last_sum, no_trial, open_matters, trial_lines, trial_total, with_moved, with_trial_own, with_trial_row}
 pub use Rattle.firm_figures.specs.Openings.{AreClosings, BalancesKept, after_closing, is_closing_before, is_opening_by, latest_before, no_balances, opening_line, openings_after, openings_kept, with_balance_kept}
-pub use Rattle.firm_figures.specs.Purged.{AreListsLeft, IsClosedBy, PeriodKept, is_purged_after, whole_period, with_row_purged}
-unfoldable pub use Rattle.firm_figures.specs.Purged.{is_period_purged}
+pub use Rattle.firm_figures.specs.Purged.{AreListsLeft, IsClosedBy, IsOpenedAfter, PeriodKept, is_purged_after, is_row_purged_at, whole_period, with_row_purged}
+unfoldable pub use Rattle.firm_figures.specs.Purged.{is_period_purged, is_purged_at}
 pub use Rattle.firm_figures.specs.Reconciling.{Tallies, all_taken, early_share, figures_kept, finished, first_of, ledger_share_by, matched_share, no_tallies, outstanding_share, transit_share, with_balance_told, with_exception, with_movement, with_own, with_row}
 unfoldable pub use Rattle.firm_figures.specs.Reconciling.{added, less}
 pub use Rattle.firm_figures.specs.declared.day_lists.EntryLine.{EntryLine}

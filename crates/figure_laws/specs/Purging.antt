@@ -5,7 +5,7 @@ use Rattle.firm_rows.specs.Firm.{Firm, of, after_change}
 use Rattle.firm_rows.specs.FirmSound.{FirmSound}
 use Rattle.firm_figures.specs.Clients.{client_lines}
 use Rattle.firm_figures.specs.Figures.{figures_on}
-use Rattle.firm_figures.specs.Purged.{IsPurge, is_period_purged, IsClosedBy, AreListsLeft}
+use Rattle.firm_figures.specs.Purged.{IsPurge, is_period_purged, is_purged_at, IsClosedBy, AreListsLeft}
 
 -- purging a matter of a sound firm changes no figure of the day on which it was closed or of a later day, whatever the
 -- closing balance is, or if there is none
@@ -36,9 +36,10 @@ PurgeChangesNoListLeft =
     → FirmSound firm → IsPurge m firm change → is_period_purged p (after_change m change firm) ≡ false
     → AreListsLeft p firm (after_change m change firm)
 
--- purging a matter of a sound firm changes nothing of the list of a day whose records are complete afterwards
+-- purging a matter of a sound firm changes nothing of the list of the clients of a day if no purged matter was open as
+-- of it
 abbrev pub PurgeChangesNoClientLeft : Type 0
 PurgeChangesNoClientLeft =
     (p m : ℕ) (change : MatterChange) (firm : Firm)
-    → FirmSound firm → IsPurge m firm change → is_period_purged p (after_change m change firm) ≡ false
+    → FirmSound firm → IsPurge m firm change → is_purged_at p (after_change m change firm) ≡ false
     → client_lines p (after_change m change firm) ≡ client_lines p firm

@@ -1,5 +1,5 @@
 -- A matter that was closed by a day stands on none of that day's lists; and when a purged one was closed.
-use Rattle.firm_figures.proofs.Names.{◌≡◌, ℕ, ◌≤◌, Bool, false, List, [], ◌∷◌, Option, Some, None, ap, subst, arith, pos, ◌≤ℤ◌, ◌||◌, nat_lt, AllByRecursion, IsSome, filter, list_any, ints, nat_tests, Head, Entry, Rows, purged_head, closed_on, held_share, pending_share, held_deposit, held, pending, days_of, IsBy, IsRanged, IsHeaded, IsAtRest, IsAtRestIfClosed, Sound, Covered, Row, Firm, of, head_pairs, seat_pairs, entry_pairs, pairs, put, is_in_transit, is_outstanding, is_banked_early, is_back_early, Edit, IsPlace, MatterChange, changed_by, purged_by, with_acts, acts_without, acted, after_change, after_edit, IsClosedBy, IsPurge, is_day_after, is_period_purged, is_purged_after}
+use Rattle.firm_figures.proofs.Names.{◌≡◌, ℕ, ◌≤◌, Bool, false, List, [], ◌∷◌, Option, Some, None, ap, subst, arith, pos, ◌≤ℤ◌, ◌||◌, nat_lt, AllByRecursion, IsSome, filter, list_any, ints, nat_tests, Head, Entry, Rows, purged_head, closed_on, held_share, pending_share, held_deposit, held, pending, days_of, IsBy, IsRanged, IsHeaded, IsAtRest, IsAtRestIfClosed, Sound, Covered, Row, Firm, of, head_pairs, seat_pairs, entry_pairs, pairs, put, is_in_transit, is_outstanding, is_banked_early, is_back_early, Edit, IsPlace, MatterChange, changed_by, purged_by, with_acts, acts_without, acted, after_change, after_edit, IsClosedBy, IsOpenedAfter, IsPurge, is_day_after, is_period_purged, is_purged_after, is_purged_at, is_row_purged_at, inl, inr, refl, ◌<◌, ◌⊎◌, nat_le, cases_Bool}
 use Rattle.std.proofs.lemmas.Bool.{false≢true}
 use Rattle.std.proofs.lemmas.List.Folds.{list_any-append}
 use Rattle.trust_matter.specs.edit.Edit.TheVariants as edit
@@ -85,13 +85,43 @@ none-put t m rows joined none =
 closed-by : (p m day last : ℕ) (o : Option Head) → IsSome (closed_on o) → list_any (is_purged_after p) (head_pairs m (purged_head o day last)) ≡ false → IsClosedBy p o
 closed-by p m day last o closed none = grind (arith, nat_tests, false≢true, is_day_after, or-first, nat_lt)
 
+-- where no head of the firm passes a test after a purge, that of the purged matter does not
+pub purged_head-left : (t : ℕ × Row → Bool) (m : ℕ) (change : MatterChange) (firm : Firm) (purge : IsPurge m firm change)
+    → list_any t (after_change m change firm).rows ≡ false
+    → IsSome (closed_on (of m firm).head)
+    × (list_any t (head_pairs m (purged_head (of m firm).head purge.day change.last)) ≡ false)
+purged_head-left t m change firm purge whole =
+    let left : Rows = changed_by (edit.Purge purge.day) change.last (of m firm) in
+    let same : after_change m change firm ≡ with_acts (acts_without m firm.acts) (purged_by m left firm) =
+    ap (λ (e : Edit). acted m e change.act (after_edit m e change.last firm)) purge.clears in
+    let none : list_any t (put m left firm.rows) ≡ false = subst (λ (f : Firm). list_any t f.rows ≡ false) same whole in
+    let place : IsPlace (of m firm) (edit.Purge purge.day) = subst (IsPlace (of m firm)) purge.clears purge.fits.place in
+    (place.0, none-put t m left firm.rows none)
+
 -- after a purge no matter that was closed after the day is purged, and so not this one
 pub closed-left : (p m : ℕ) (change : MatterChange) (firm : Firm) → IsPurge m firm change → is_period_purged p (after_change m change firm) ≡ false → IsClosedBy p (of m firm).head
 unfolding is_period_purged
 closed-left p m change firm purge whole =
-    let left : Rows = changed_by (edit.Purge purge.day) change.last (of m firm) in
-    let same : after_change m change firm ≡ with_acts (acts_without m firm.acts) (purged_by m left firm) =
-    ap (λ (e : Edit). acted m e change.act (after_edit m e change.last firm)) purge.clears in
-    let none : list_any (is_purged_after p) (put m left firm.rows) ≡ false = subst (λ (f : Firm). list_any (is_purged_after p) f.rows ≡ false) same whole in
-    let place : IsPlace (of m firm) (edit.Purge purge.day) = subst (IsPlace (of m firm)) purge.clears purge.fits.place in
-    closed-by p m purge.day change.last (of m firm).head place.0 (none-put (is_purged_after p) m left firm.rows none)
+    let left = purged_head-left (is_purged_after p) m change firm purge whole in
+    closed-by p m purge.day change.last (of m firm).head left.0 left.1
+
+-- a purged matter that was not open as of the day was closed by it, or opened after it
+apart-by : (p m day last : ℕ) (o : Option Head) → IsSome (closed_on o)
+    → list_any (is_row_purged_at p) (head_pairs m (purged_head o day last)) ≡ false
+    → IsClosedBy p o ⊎ IsOpenedAfter p o
+apart-by p m day last None closed none = absurd closed
+apart-by p m day last (Some h) closed none = elim (cases_Bool (nat_le h.opened p)) [
+  | inl by ↦ inl (closed-by p m day last (Some h) closed (rw by at none))
+  | inr after ↦ inr (not-by after)
+]
+  where
+    not-by : nat_le h.opened p ≡ false → p < h.opened
+    not-by is = grind (arith, nat_tests)
+
+pub apart-left : (p m : ℕ) (change : MatterChange) (firm : Firm) → IsPurge m firm change
+    → is_purged_at p (after_change m change firm) ≡ false
+    → IsClosedBy p (of m firm).head ⊎ IsOpenedAfter p (of m firm).head
+unfolding is_purged_at
+apart-left p m change firm purge whole =
+    let left = purged_head-left (is_row_purged_at p) m change firm purge whole in
+    apart-by p m purge.day change.last (of m firm).head left.0 left.1

@@ -5,6 +5,7 @@ pub mod EntryDays
 pub mod Lasts
 pub mod LatestClosing
 pub mod OneMatter
+pub mod OpenedAfter
 pub mod Shares
 pub mod Sizes
 pub mod Sorted

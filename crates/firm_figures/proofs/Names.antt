@@ -19,7 +19,7 @@ unfoldable pub use Rattle.matter_rows.specs.Sound.{days_of}
 pub use Rattle.matter_rows.specs.declared.entry.Entry.{Entry}
 pub use Rattle.matter_rows.specs.declared.head.Head.{Head}
 pub use Rattle.matter_rows.specs.declared.seat.Seat.{Seat}
-pub use Rattle.std.proofs.Common.{Bool, List, None, Option, Some, [], ap, append_assoc, arith, cond, false, get_or, length, map, not, refl, rules, set, subst, suc, sym, take, true, w64, zero, ℕ, ◌*◌, ◌++◌, ◌+◌, ◌-◌, ◌<◌, ◌∙◌, ◌∷◌, ◌≡◌, ◌≤◌}
+pub use Rattle.std.proofs.Common.{Bool, List, None, Option, Some, [], ap, append_assoc, arith, cond, false, get_or, inl, inr, length, map, not, refl, rules, set, subst, suc, sym, take, true, w64, zero, ℕ, ◌*◌, ◌++◌, ◌+◌, ◌-◌, ◌<◌, ◌∙◌, ◌∷◌, ◌≡◌, ◌≤◌}
 pub use Rattle.std.proofs.lemmas.Bool.Decides.{nat_tests}
 pub use Rattle.std.proofs.lemmas.Grind.{common_steps}
 pub use Rattle.std.proofs.lemmas.Int.{fits_signed_from_abs, int_wrap-add_left, ints, to_z-of_z, wraps}
@@ -34,7 +34,7 @@ pub use Rattle.std.specs.List.{AllByRecursion, filter, flat_map, list_any}
 pub use Rattle.std.specs.List.Sorted.{IsSortedBy, IsStableBy, ties}
 pub use Rattle.std.specs.Option.{option_or}
 pub use Rattle.std.specs.Ordering.{is_eq, is_lt, nat_cmp, ordering_reverse, ordering_then}
-pub use Rattle.std.specs.Prelude.{IsSome, fold, if◌then◌else◌, nat_le, nat_lt, negsuc, pos, ℤ, ◌&&◌, ◌+ℤ◌, ◌-ℤ◌, ◌==◌, ◌||◌, ◌≤ℤ◌, is_some}
+pub use Rattle.std.specs.Prelude.{IsSome, fold, if◌then◌else◌, nat_le, nat_lt, negsuc, pos, ℤ, ◌&&◌, ◌+ℤ◌, ◌-ℤ◌, ◌==◌, ◌||◌, ◌≤ℤ◌, ◌⊎◌, is_some}
 pub use Rattle.std.specs.declared.cmp.Ordering.TheVariants.{Equal, Less}
 pub use Rattle.trust_base.specs.Limits.{IsAmount, IsBankAmount}
 pub use Rattle.trust_matter.specs.Changes.{IsPlace, MatterChange, changed_by}
@@ -44,10 +44,11 @@ pub use Rattle.firm_figures.specs.Figures.{back_on, banked_on, booked_on, early,
 pub use Rattle.firm_figures.specs.Listing.{entry_line}
 pub use Rattle.firm_figures.specs.Lists.{add_last}
 pub use Rattle.firm_figures.specs.Openings.{AreClosings, is_closing_before, latest_before, openings_after}
-pub use Rattle.firm_figures.specs.Purged.{IsClosedBy, IsPurge, is_day_after, is_purged_after}
-unfoldable pub use Rattle.firm_figures.specs.Purged.{is_period_purged}
+pub use Rattle.firm_figures.specs.Purged.{IsClosedBy, IsOpenedAfter, IsPurge, is_day_after, is_purged_after, is_row_purged_at}
+unfoldable pub use Rattle.firm_figures.specs.Purged.{is_period_purged, is_purged_at}
 pub use Rattle.firm_figures.specs.Reconciling.{early_share, ledger_share_by, matched_share, outstanding_share, transit_share}
 unfoldable pub use Rattle.firm_figures.specs.Reconciling.{added, less}
 pub use Rattle.firm_figures.specs.declared.day_lists.Issued.{Issued}
 pub use Rattle.firm_figures.specs.declared.trial_sink.TrialLine.{TrialLine}
 pub use Rattle.matter_rows.specs.Clearings.{cleared_amount}
+pub use Rattle.std.proofs.lemmas.Bool.{cases_Bool}

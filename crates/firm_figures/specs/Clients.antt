@@ -13,7 +13,7 @@ use Rattle.firm_rows.specs.Firm.{Row, HeadRow, SeatRow, EntryRow, Firm, of}
 use Rattle.firm_rows.specs.FirmSound.{FirmSound}
 use Rattle.firm_figures.specs.declared.clients_sink.ClientLine.{ClientLine}
 use Rattle.firm_figures.specs.Figures.{is_by, is_dated_by, is_event_by, own_by}
-use Rattle.firm_figures.specs.Purged.{is_head_purged_after, is_period_purged}
+use Rattle.firm_figures.specs.Purged.{is_head_purged_at, is_purged_at}
 use Rattle.firm_figures.specs.Reconciling.{added, ledger_share_by}
 
 -- The list.
@@ -85,7 +85,7 @@ with_client_row s (m, HeadRow h) = record s {
   lines = cond (is_listed s.day h)
       (s.lines ++ (record { matter = m; client = client_in h.holder; ledger = pos 0 } ∷ []))
       s.lines;
-  purged = is_head_purged_after s.day h || s.purged;
+  purged = is_head_purged_at s.day h || s.purged;
 }
 with_client_row s (m, SeatRow seat) = s
 with_client_row s (m, EntryRow n e) = record s { lines = add_to_last m (ledger_share_by s.day e) s.lines }
@@ -93,13 +93,13 @@ with_client_row s (m, EntryRow n e) = record s { lines = add_to_last m (ledger_s
 abbrev pub with_client_own : ClientsKept → FirmLine → ClientsKept
 with_client_own s l = record s { own = added s.own (cond (is_dated_by s.day l) l.amount (pos 0)) }
 
--- the list, and whether the records of the day are no longer complete
+-- the list, and whether it is no longer complete
 abbrev pub clients_of : ℕ → Firm → ClientsKept
 clients_of p firm = record {
   day = p;
   own = own_by p firm;
   lines = client_lines p firm;
-  purged = is_period_purged p firm;
+  purged = is_purged_at p firm;
 }
 
 -- the sum of what is stored, in 128 bits

@@ -7,7 +7,7 @@ ghost use Rattle.firm_figures.specs.declared.clients_sink.ClientLine.{ClientLine
 
 use crate::day_lists::EntryDays;
 use crate::figures::{added, together};
-use crate::heads::{is_head_purged_after, is_open_by};
+use crate::heads::{is_head_purged_at, is_open_by};
 use firm_rows::{FirmLine, FirmLineSink, MatterRow, MatterRowSink};
 use std::alloc::{AllocError, Global};
 use std::marker::Model;
@@ -33,8 +33,7 @@ pub struct ClientList {
 
 /// Lists the clients' ledgers as of a day, and adds up the firm's own lines.
 ///
-/// Contracts see it as the day, the lines, the firm's balance, and whether the records of the day are no longer
-/// complete.
+/// Contracts see it as the day, the lines, the firm's balance, and whether the list is no longer complete.
 #[derive(Drop)]
 pub struct ClientsSink {
     day: Day,
@@ -100,8 +99,8 @@ impl ClientsSink {
         }
     }
 
-    /// Whether a matter that was closed after the day was purged. The day's records are then no longer complete.
-    pub fn is_period_purged(&self) -> bool
+    /// Whether a matter that was open as of the day was purged. The list is then no longer complete.
+    pub fn is_day_purged(&self) -> bool
         ensures { result ≡ self.now.purged }
     {
         self.purged
@@ -138,7 +137,7 @@ impl MatterRowSink for ClientsSink {
                         })?;
                     }
                 }
-                if is_head_purged_after(head, self.day) {
+                if is_head_purged_at(head, self.day) {
                     self.purged = true;
                 }
             }

@@ -2,7 +2,7 @@
 
 ghost use Rattle.std.specs.Prelude.{◌≡◌};
 ghost use Rattle.firm_figures.specs.Clients.{is_open_by};
-ghost use Rattle.firm_figures.specs.Purged.{is_head_purged_after};
+ghost use Rattle.firm_figures.specs.Purged.{is_head_purged_after, is_head_purged_at};
 
 use trust_base::Day;
 use trust_matter::{Head, Holder};
@@ -19,11 +19,19 @@ pub(crate) fn is_open_by(head: &Head, day: Day) -> bool
 }
 
 /// Whether the matter was closed after a day, and purged since. The day's records are then no longer complete.
-pub(crate) fn is_head_purged_after(head: &Head, day: Day) -> bool
+pub fn is_head_purged_after(head: &Head, day: Day) -> bool
     ensures { result ≡ is_head_purged_after day head.now }
 {
     match (&head.holder, head.closed) {
         (Holder::Purged(_), Some(closed)) => day.get() < closed.get(),
         _ => false,
     }
+}
+
+/// Whether the matter was open as of a day, and purged since. The lists of the day's clients, and of what waited for
+/// the bank then, are then no longer complete.
+pub fn is_head_purged_at(head: &Head, day: Day) -> bool
+    ensures { result ≡ is_head_purged_at day head.now }
+{
+    head.opened.get() <= day.get() && is_head_purged_after(head, day)
 }

@@ -17,6 +17,8 @@
 //! - `ClientsSink`: the clients' ledgers as of a day, with their clients, in 128 bits.
 //! - `is_in_transit`, `is_outstanding`, `added`: whether an entry waits for the bank as of a day, as the reconciliation
 //!   has it; a sum in 128 bits.
+//! - `is_head_purged_after`, `is_head_purged_at`: whether a matter was purged that was closed after a day, or was open
+//!   as of it.
 #![tactic(auto)]
 
 mod clients_sink;
@@ -34,6 +36,7 @@ pub use day_lists::{
 };
 pub use figures::{ReconciliationFigures, added};
 pub use firm_rows::Owner;
+pub use heads::{is_head_purged_after, is_head_purged_at};
 pub use journal_sink::{JournalLine, JournalSink};
 pub use reconciliation::{Reconciliation, ReconciliationSink};
 pub use retention_sink::{RetentionLine, RetentionSink};

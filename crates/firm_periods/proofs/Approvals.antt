@@ -1,14 +1,14 @@
 -- What the sink of approvals stores of a firm are the payments of its period, each with who approved it.
 use Rattle.firm_periods.proofs.Names.{◌≡◌, ℕ, Bool, true, false, cond, List, [], ◌∷◌, ◌++◌, map, Option, Some, None, refl, sym, ap, ◌∙◌, append-nil, append_assoc, arith, ◌&&◌, ◌||◌, fold, flat_map, list_any, Row, HeadRow, SeatRow, EntryRow, Firm, in_order, IsStrictWeakOrder, ranks_by}
 use Rattle.std.proofs.lemmas.Cmp.{on_total, nat_cmp_total}
-use Rattle.matter_rows.specs.Rows.{is_number, is_of_nobody}
+use Rattle.matter_rows.specs.Rows.{is_number}
 use Rattle.trail_laws.specs.Signed.{is_approval}
 use Rattle.matter_rows.specs.declared.act.Caller.{Caller}
 use Rattle.firm_rows.specs.declared.matter_act.MatterAct.{MatterAct}
 use Rattle.firm_periods.specs.declared.approvals_sink.IssuedPayment.{IssuedPayment}
 use Rattle.std.specs.Prelude.{◌==◌}
 use Rattle.trust_base.specs.Periods.{Span}
-use Rattle.firm_periods.specs.Named.{is_day_from, is_purged_from, is_purged_since}
+use Rattle.firm_periods.specs.Named.{is_head_purged_within, is_purged_within, is_row_purged_within}
 use Rattle.firm_periods.specs.Approvals.{ApprovalsAreKept, ApprovalsKept, approvals_kept, approved_by, approver_in, approves_in, is_issued_earlier, issued_in_row, issued_of_entry, no_approvals, with_approval, with_issued_row}
 
 -- by the day of issue is an order
@@ -69,9 +69,9 @@ rows-lines s ((m, EntryRow n e) ∷ rows) =
 either : (a b c : Bool) → (b || (a || c)) ≡ ((a || b) || c)
 either a b c = grind arith
 
-rows-purged : (s : ApprovalsKept) (rows : List (ℕ × Row)) → (fold with_issued_row s rows).purged ≡ (list_any (is_purged_from s.period.from) rows || s.purged)
+rows-purged : (s : ApprovalsKept) (rows : List (ℕ × Row)) → (fold with_issued_row s rows).purged ≡ (list_any (is_row_purged_within s.period) rows || s.purged)
 rows-purged s [] = refl
-rows-purged s ((m, HeadRow h) ∷ rows) = rows-purged (with_issued_row s (m, HeadRow h)) rows ∙ either (is_of_nobody h.holder && is_day_from s.period.from h.closed) (list_any (is_purged_from s.period.from) rows) s.purged
+rows-purged s ((m, HeadRow h) ∷ rows) = rows-purged (with_issued_row s (m, HeadRow h)) rows ∙ either (is_head_purged_within s.period h) (list_any (is_row_purged_within s.period) rows) s.purged
 rows-purged s ((m, SeatRow seat) ∷ rows) = rows-purged s rows
 rows-purged s ((m, EntryRow n e) ∷ rows) = rows-purged (with_issued_row s (m, EntryRow n e)) rows
 
@@ -104,12 +104,12 @@ module _ (s : Span) (firm : Firm) where
   approved-kept : (v : IssuedPayment) → approved_by kept.acts v ≡ approved_by firm.acts v
   approved-kept v = ap (λ who. record v { approver = who }) (approver-kept v.matter v.number)
 
-  purged-kept : kept.purged ≡ is_purged_since s.from firm
-  unfolding is_purged_since
+  purged-kept : kept.purged ≡ is_purged_within s firm
+  unfolding is_purged_within
   purged-kept =
       rows-purged after_acts firm.rows
-      ∙ ((λ i. list_any (is_purged_from (acts-period (no_approvals s) firm.acts i).from) firm.rows || acts-purged (no_approvals s) firm.acts i)
-      ∙ or-nothing (list_any (is_purged_from s.from) firm.rows))
+      ∙ ((λ i. list_any (is_row_purged_within (acts-period (no_approvals s) firm.acts i)) firm.rows || acts-purged (no_approvals s) firm.acts i)
+      ∙ or-nothing (list_any (is_row_purged_within s) firm.rows))
 
 pub approvals-kept : ApprovalsAreKept
 approvals-kept s firm = record {

@@ -1,6 +1,8 @@
 -- What the sink stores of a firm is the list that it was made for.
-use Rattle.firm_periods.proofs.Names.{◌≡◌, ℕ, ◌+◌, ◌*◌, ◌≤◌, Bool, true, false, cond, List, [], ◌∷◌, ◌++◌, length, map, Option, None, refl, sym, ap, ◌∙◌, subst, append-nil, append_assoc, arith, ℤ, pos, ◌+ℤ◌, ◌-ℤ◌, ◌&&◌, ◌||◌, fold, filter, flat_map, list_any, AllByRecursion, int_wrap, w128, int_wrap_fits, ints, Entry, entry_amount, IsAmount, FirmLine, Row, HeadRow, SeatRow, EntryRow, Firm, AreCountable, IsRowInRange, IsFirmLineInRange, in_order, is_in_transit, is_outstanding, is_day_after, is_period_purged, is_purged_after, added}
-use Rattle.matter_rows.specs.Rows.{is_of_nobody}
+use Rattle.firm_periods.proofs.Names.{◌≡◌, ℕ, ◌+◌, ◌*◌, ◌≤◌, Bool, true, false, cond, List, [], ◌∷◌, ◌++◌, length, map, Option, None, refl, sym, ap, ◌∙◌, subst, append-nil, append_assoc, arith, ℤ, pos, ◌+ℤ◌, ◌-ℤ◌, ◌&&◌, ◌||◌, fold, filter, flat_map, list_any, AllByRecursion, int_wrap, w128, int_wrap_fits, ints, Entry, entry_amount, IsAmount, FirmLine, Row, HeadRow, SeatRow, EntryRow, Firm, AreCountable, IsRowInRange, IsFirmLineInRange, in_order, is_in_transit, is_outstanding, added}
+use Rattle.trust_base.specs.Periods.{Span}
+use Rattle.matter_rows.specs.declared.head.Head.{Head}
+use Rattle.firm_figures.specs.Purged.{is_head_purged_at, is_purged_at, is_row_purged_at}
 use Rattle.matter_rows.specs.declared.entry.Entry.TheVariants as entry
 use Rattle.matter_rows.specs.declared.deposit.Deposit.{Deposit}
 use Rattle.matter_rows.specs.declared.payment.Payment.{Payment}
@@ -9,7 +11,7 @@ use Rattle.firm_periods.specs.declared.moved.Moved.{Moved}
 use Rattle.firm_periods.specs.declared.moved.NamedMove.{NamedMove}
 use Rattle.firm_periods.specs.declared.named_sink.Pick.{Pick}
 use Rattle.firm_periods.specs.declared.named_sink.Pick.TheVariants as pick
-use Rattle.firm_periods.specs.Named.{moves_of, booking_of, client_of, named, named_in, own_moved, own_named, is_earlier, sum_moved, NamedKept, none_named, own_pick, pick_of, with_named_own, with_named_row, named_kept, named_sum, is_cut, is_day_cut, listed, NamedAreKept, is_purged_since, is_purged_from, is_received_within, is_disbursed_within}
+use Rattle.firm_periods.specs.Named.{moves_of, booking_of, client_of, named, named_in, own_moved, own_named, is_earlier, sum_moved, NamedKept, none_named, own_pick, pick_of, with_named_own, with_named_row, named_kept, named_sum, is_cut, is_head_cut, is_head_purged_within, is_row_purged_within, listed, NamedAreKept, is_purged_within, is_received_within, is_disbursed_within}
 use Rattle.firm_periods.proofs.Named.{order-sum}
 
 -- All that a list takes, in the order of the rows.
@@ -62,7 +64,7 @@ lines-kept p firm =
 -- Whether it is cut.
 
 abbrev is_row_cut : Pick → ℕ × Row → Bool
-is_row_cut p (m, HeadRow h) = is_of_nobody h.holder && is_day_cut p h.closed
+is_row_cut p (m, HeadRow h) = is_head_cut p h
 is_row_cut p (m, SeatRow seat) = false
 is_row_cut p (m, EntryRow n e) = false
 
@@ -83,22 +85,22 @@ any-same : (f g : ℕ × Row → Bool) → ((q : ℕ × Row) → f q ≡ g q) �
 any-same f g each [] = refl
 any-same f g each (q ∷ rows) = λ i. each q i || any-same f g each rows i
 
-from-same : (from : ℕ) (p : Pick) → ((closed : Option ℕ) → is_day_cut p closed ≡ is_day_cut (pick.Receipts (record { from = from; to = from })) closed) → (q : ℕ × Row) → is_row_cut p q ≡ is_purged_from from q
-from-same from p each (m, HeadRow h) = ap (λ b. is_of_nobody h.holder && b) (each h.closed)
-from-same from p each (m, SeatRow seat) = refl
-from-same from p each (m, EntryRow n e) = refl
+within-same : (s : Span) (p : Pick) → ((h : Head) → is_head_cut p h ≡ is_head_purged_within s h) → (q : ℕ × Row) → is_row_cut p q ≡ is_row_purged_within s q
+within-same s p each (m, HeadRow h) = each h
+within-same s p each (m, SeatRow seat) = refl
+within-same s p each (m, EntryRow n e) = refl
 
-after-same : (day : ℕ) (p : Pick) → ((closed : Option ℕ) → is_day_cut p closed ≡ is_day_after day closed) → (q : ℕ × Row) → is_row_cut p q ≡ is_purged_after day q
-after-same day p each (m, HeadRow h) = ap (λ b. is_of_nobody h.holder && b) (each h.closed)
-after-same day p each (m, SeatRow seat) = refl
-after-same day p each (m, EntryRow n e) = refl
+at-same : (day : ℕ) (p : Pick) → ((h : Head) → is_head_cut p h ≡ is_head_purged_at day h) → (q : ℕ × Row) → is_row_cut p q ≡ is_row_purged_at day q
+at-same day p each (m, HeadRow h) = each h
+at-same day p each (m, SeatRow seat) = refl
+at-same day p each (m, EntryRow n e) = refl
 
 any-cut : (p : Pick) (firm : Firm) → list_any (is_row_cut p) firm.rows ≡ is_cut p firm
-unfolding is_purged_since is_period_purged
-any-cut (pick.Receipts s) firm = any-same _ _ (from-same s.from (pick.Receipts s) (λ closed. refl)) firm.rows
-any-cut (pick.Disbursements s) firm = any-same _ _ (from-same s.from (pick.Disbursements s) (λ closed. refl)) firm.rows
-any-cut (pick.Transit p) firm = any-same _ _ (after-same p (pick.Transit p) (λ closed. refl)) firm.rows
-any-cut (pick.Outstanding p) firm = any-same _ _ (after-same p (pick.Outstanding p) (λ closed. refl)) firm.rows
+unfolding is_purged_within is_purged_at
+any-cut (pick.Receipts s) firm = any-same _ _ (within-same s (pick.Receipts s) (λ h. refl)) firm.rows
+any-cut (pick.Disbursements s) firm = any-same _ _ (within-same s (pick.Disbursements s) (λ h. refl)) firm.rows
+any-cut (pick.Transit p) firm = any-same _ _ (at-same p (pick.Transit p) (λ h. refl)) firm.rows
+any-cut (pick.Outstanding p) firm = any-same _ _ (at-same p (pick.Outstanding p) (λ h. refl)) firm.rows
 
 or-nothing : (b : Bool) → (b || false) ≡ b
 or-nothing b = grind arith

@@ -36,7 +36,6 @@ pub use Rattle.trust_matter.specs.Changes.{MatterChange, changed_by}
 pub use Rattle.trust_matter.specs.edit.Edit.{Edit}
 pub use Rattle.firm_figures.specs.Doubles.{in_order, put_in_order}
 pub use Rattle.firm_figures.specs.Figures.{booked_on, entries_in, is_event_by, is_in_transit, is_moved_by, is_outstanding, journal, outstanding, transit, day_where}
-pub use Rattle.firm_figures.specs.Purged.{IsClosedBy, IsPurge, is_day_after, is_purged_after}
-unfoldable pub use Rattle.firm_figures.specs.Purged.{is_period_purged}
+pub use Rattle.firm_figures.specs.Purged.{IsClosedBy, IsPurge}
 pub use Rattle.firm_figures.specs.Reconciling.{outstanding_share, transit_share}
 unfoldable pub use Rattle.firm_figures.specs.Reconciling.{added}

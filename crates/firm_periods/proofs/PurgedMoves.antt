@@ -1,13 +1,20 @@
--- A purge changes no list whose records are complete afterwards.
-use Rattle.firm_periods.proofs.Names.{◌≡◌, ℕ, zero, suc, ◌+◌, ◌≤◌, Bool, true, false, cond, List, [], ◌∷◌, ◌++◌, Option, Some, None, refl, sym, ap, ◌∙◌, subst, arith, nat_lt, flat_map, filter, list_any, nat_tests, AllByRecursion, recursion_from_All, filter_passes, all-map, Covered, IsBy, IsHeaded, IsAtRestIfClosed, Sound, days_of, Head, Seat, Entry, Rows, MatterChange, Edit, changed_by, Row, HeadRow, SeatRow, EntryRow, Firm, acted, acts_without, after_change, after_edit, purged_by, with_acts, of, pairs, put, head_pairs, seat_pairs, entry_pairs, FirmSound, IsClosedBy, IsPurge, is_period_purged, is_purged_after, is_in_transit, is_outstanding, passing, flat_map-append, in_order}
+-- A purge changes no list of days on which no purged matter was open.
+use Rattle.firm_periods.proofs.Names.{◌≡◌, ℕ, zero, suc, ◌+◌, ◌≤◌, Bool, true, false, cond, List, [], ◌∷◌, ◌++◌, Option, Some, None, refl, sym, ap, ◌∙◌, subst, arith, nat_lt, flat_map, filter, list_any, nat_tests, AllByRecursion, recursion_from_All, filter_passes, all-map, Covered, IsBy, IsHeaded, IsAtRestIfClosed, Sound, days_of, Head, Seat, Entry, Rows, MatterChange, Edit, changed_by, Row, HeadRow, SeatRow, EntryRow, Firm, acted, acts_without, after_change, after_edit, purged_by, with_acts, of, pairs, put, head_pairs, seat_pairs, entry_pairs, FirmSound, IsClosedBy, IsPurge, is_in_transit, is_outstanding, passing, flat_map-append, in_order}
 use Rattle.trust_matter.specs.edit.Edit.TheVariants as edit
 use Rattle.firm_rows.proofs.Trail.{sound-trail}
 use Rattle.firm_rows.proofs.Changed.{of_other-purged_by}
 use Rattle.firm_rows.proofs.Kept.{stays-sound}
-use Rattle.firm_figures.proofs.ClosedBy.{IsUnlisted, all-later, closed-left, closed-unlisted}
+use Rattle.firm_figures.proofs.ClosedBy.{all-later, apart-left, purged_head-left}
+use Rattle.firm_figures.proofs.OpenedAfter.{DoesNotWait, IsLater, apart-waits, opened-later}
+use Rattle.firm_figures.specs.Purged.{IsOpenedAfter}
+use Rattle.matter_rows.specs.Rows.{closed_on, purged_head}
+use Rattle.trust_base.specs.Periods.{Span}
+use Rattle.std.proofs.Common.{inl, inr, ◌<◌}
+use Rattle.std.proofs.lemmas.Bool.{cases_Bool}
+use Rattle.std.specs.Prelude.{IsSome, nat_le, ◌⊎◌}
 use Rattle.firm_periods.specs.declared.moved.Moved.{Moved}
 use Rattle.firm_periods.specs.declared.moved.NamedMove.{NamedMove}
-use Rattle.firm_periods.specs.Named.{booking_of, client_in_head, is_disbursed_within, is_earlier, is_purged_from, is_purged_since, is_received_within, moves_of, moves_where, named, named_in, own_moved, own_named, row_named, PurgeChangesNoPeriodLeft, PurgeChangesNoWaitingLeft}
+use Rattle.firm_periods.specs.Named.{booking_of, client_in_head, is_disbursed_within, is_day_from, is_earlier, is_purged_within, is_received_within, is_row_purged_within, moves_of, moves_where, named, named_in, own_moved, own_named, row_named, PurgeChangesNoPeriodLeft, PurgeChangesNoWaitingLeft}
 use Rattle.firm_periods.proofs.ClientsNamed.{names-own}
 use Rattle.std.specs.Prelude.{map, ◌||◌, ◌≢◌}
 
@@ -103,13 +110,56 @@ disbursed-none : (k to : ℕ) (e : Entry) → IsBy k e → filter (is_disbursed_
 unfolding days_of
 disbursed-none k to e is = grind (arith, nat_tests)
 
--- closed on a day or later is closed after the day before
-any-same : (f g : ℕ × Row → Bool) → ((q : ℕ × Row) → f q ≡ g q) → (rows : List (ℕ × Row)) → list_any f rows ≡ list_any g rows
-any-same f g each [] = refl
-any-same f g each (q ∷ rows) = λ i. each q i || any-same f g each rows i
+-- nor is anything of an entry that was made after the period
+received-later : (from to : ℕ) (e : Entry) → IsLater to e → filter (is_received_within from to) (moves_of e) ≡ []
+received-later from to e is = grind (arith, nat_tests, is.made, is.rising)
 
-from-after : (k : ℕ) (q : ℕ × Row) → is_purged_from (suc k) q ≡ is_purged_after k q
-from-after k q = grind (arith, nat_tests)
+disbursed-later : (from to : ℕ) (e : Entry) → IsLater to e → filter (is_disbursed_within from to) (moves_of e) ≡ []
+disbursed-later from to e is = grind (arith, nat_tests, is.made, is.rising)
+
+-- A purged matter that was not open in a period.
+
+-- it was closed before the period, or opened after it
+pub IsApart : Span → Option Head → Type 0
+IsApart s o = ((k : ℕ) × ((s.from ≡ suc k) × IsClosedBy k o)) ⊎ IsOpenedAfter s.to o
+
+day-before : (from : ℕ) (c : Option ℕ) → is_day_from from c ≡ false → IsSome c → (k : ℕ) × ((from ≡ suc k) × ((day : ℕ) × ((c ≡ Some day) × (day ≤ k))))
+day-before from None late some = absurd some
+day-before zero (Some day) late some = absurd (grind (arith, nat_tests))
+day-before (suc k) (Some day) late some = (k, (refl, (day, (refl, grind (arith, nat_tests)))))
+
+apart-from : (s : Span) (m day last : ℕ) (o : Option Head) → IsSome (closed_on o)
+    → list_any (is_row_purged_within s) (head_pairs m (purged_head o day last)) ≡ false → IsApart s o
+unfolding IsApart
+apart-from s m day last None closed none = absurd closed
+apart-from s m day last (Some h) closed none = elim (cases_Bool (nat_le h.opened s.to)) [
+  | inl by ↦ inl (day-before s.from h.closed (before by) closed)
+  | inr after ↦ inr (not-by after)
+]
+  where
+    before : nat_le h.opened s.to ≡ true → is_day_from s.from h.closed ≡ false
+    before by = let late : (is_day_from s.from h.closed || false) ≡ false = rw by at none in grind (arith, late)
+
+    not-by : nat_le h.opened s.to ≡ false → s.to < h.opened
+    not-by is = grind (arith, nat_tests)
+
+pub apart-within : (s : Span) (m : ℕ) (change : MatterChange) (firm : Firm) → IsPurge m firm change
+    → is_purged_within s (after_change m change firm) ≡ false → IsApart s (of m firm).head
+unfolding is_purged_within
+apart-within s m change firm purge whole =
+    let left = purged_head-left (is_row_purged_within s) m change firm purge whole in
+    apart-from s m purge.day change.last (of m firm).head left.0 left.1
+
+-- what a test lets through of no entry of days by the one before the period, nor of one made after it
+none-apart : (s : Span) (P : Entry → Type 0) (rows : Rows) → Sound rows → IsApart s rows.head
+    → ((k : ℕ) → s.from ≡ suc k → (e : Entry) → IsBy k e → P e) → ((e : Entry) → IsLater s.to e → P e)
+    → AllByRecursion P rows.entries
+unfolding IsApart
+none-apart s P rows sound apart before behind = elim apart [
+  | inl closed ↦
+      all-map (IsBy closed.0) P rows.entries (before closed.0 closed.1.0) (closed-by-days closed.0 rows sound closed.1.1)
+  | inr opened ↦ all-map (IsLater s.to) P rows.entries behind (opened-later s.to rows sound opened)
+]
 
 module _ (law : Covered) (m : ℕ) (change : MatterChange) (firm : Firm) (sound : FirmSound firm) (purge : IsPurge m firm change) where
   abbrev made : Firm
@@ -133,13 +183,17 @@ module _ (law : Covered) (m : ℕ) (change : MatterChange) (firm : Firm) (sound 
   where-left test none = λ i. named-left (λ e. filter test (moves_of e)) none i ++ map own_named (filter (λ l. test (own_moved l)) (own-left i))
 
 pub period-left : Covered → PurgeChangesNoPeriodLeft
-unfolding is_purged_since is_period_purged
-period-left law zero to m change firm sound purge days whole = absurd (omega (arith, days))
-period-left law (suc k) to m change firm sound purge days whole =
-    let after : is_period_purged k (after_change m change firm) ≡ false = sym (any-same (is_purged_from (suc k)) (is_purged_after k) (from-after k) (after_change m change firm).rows) ∙ whole in
-    let all = closed-by-days k (of m firm) (sound.matters m) (closed-left k m change firm purge after) in (
-      ap (in_order is_earlier) (where-left law m change firm sound purge (is_received_within (suc k) to) (all-map (IsBy k) _ (of m firm).entries (received-none k to) all)),
-      ap (in_order is_earlier) (where-left law m change firm sound purge (is_disbursed_within (suc k) to) (all-map (IsBy k) _ (of m firm).entries (disbursed-none k to) all)),
+period-left law s m change firm sound purge whole =
+    let apart = apart-within s m change firm purge whole in
+    let rows = of m firm in (
+      ap (in_order is_earlier)
+          (where-left law m change firm sound purge (is_received_within s.from s.to)
+          (none-apart s _ rows (sound.matters m) apart
+          (λ k from e is. rw from (received-none k s.to e is)) (received-later s.from s.to))),
+      ap (in_order is_earlier)
+          (where-left law m change firm sound purge (is_disbursed_within s.from s.to)
+          (none-apart s _ rows (sound.matters m) apart
+          (λ k from e is. rw from (disbursed-none k s.to e is)) (disbursed-later s.from s.to))),
     )
 
 waits-none : (b : Bool) (vs : List Moved) → b ≡ false → cond b (booking_of vs) [] ≡ []
@@ -147,7 +201,7 @@ waits-none b vs is = ap (λ c. cond c (booking_of vs) []) is
 
 pub waiting-left : Covered → PurgeChangesNoWaitingLeft
 waiting-left law p m change firm sound purge whole =
-    let none = closed-unlisted p law (of m firm) (sound.matters m) (closed-left p m change firm purge whole) in (
-      ap (in_order is_earlier) (named-left law m change firm sound purge (λ e. cond (is_in_transit p e) (booking_of (moves_of e)) []) (all-map (IsUnlisted p) _ (of m firm).entries (λ e u. waits-none (is_in_transit p e) (moves_of e) u.transit) none)),
-      ap (in_order is_earlier) (named-left law m change firm sound purge (λ e. cond (is_outstanding p e) (booking_of (moves_of e)) []) (all-map (IsUnlisted p) _ (of m firm).entries (λ e u. waits-none (is_outstanding p e) (moves_of e) u.out) none)),
+    let none = apart-waits p law (of m firm) (sound.matters m) (apart-left p m change firm purge whole) in (
+      ap (in_order is_earlier) (named-left law m change firm sound purge (λ e. cond (is_in_transit p e) (booking_of (moves_of e)) []) (all-map (DoesNotWait p) _ (of m firm).entries (λ e u. waits-none (is_in_transit p e) (moves_of e) u.transit) none)),
+      ap (in_order is_earlier) (named-left law m change firm sound purge (λ e. cond (is_outstanding p e) (booking_of (moves_of e)) []) (all-map (DoesNotWait p) _ (of m firm).entries (λ e u. waits-none (is_outstanding p e) (moves_of e) u.out) none)),
     )

@@ -7,12 +7,14 @@ use Rattle.matter_rows.specs.declared.act.Caller.{Caller}
 use Rattle.matter_rows.specs.declared.payment.Payment.{Payment}
 use Rattle.matter_rows.specs.declared.entry.Entry.{Entry}
 use Rattle.matter_rows.specs.declared.entry.Entry.TheVariants as entry
-use Rattle.matter_rows.specs.Rows.{is_of_nobody}
 use Rattle.trail_laws.specs.Signed.{approves, is_approval, issue_days}
+use Rattle.trust_matter.specs.Changes.{MatterChange}
 use Rattle.firm_rows.specs.declared.matter_act.MatterAct.{MatterAct}
-use Rattle.firm_rows.specs.Firm.{Row, HeadRow, SeatRow, EntryRow, Firm}
+use Rattle.firm_rows.specs.Firm.{Row, HeadRow, SeatRow, EntryRow, Firm, after_change}
+use Rattle.firm_rows.specs.FirmSound.{FirmSound}
 use Rattle.firm_figures.specs.Doubles.{in_order}
-use Rattle.firm_periods.specs.Named.{is_day_from, is_purged_since}
+use Rattle.firm_figures.specs.Purged.{IsPurge}
+use Rattle.firm_periods.specs.Named.{is_head_purged_within, is_purged_within}
 use Rattle.firm_periods.specs.declared.approvals_sink.IssuedPayment.{IssuedPayment}
 
 -- Who approved.
@@ -74,7 +76,7 @@ with_approval s a = record s { acts = s.acts ++ cond (is_approval a.act.deed) (a
 
 abbrev pub with_issued_row : ApprovalsKept → ℕ × Row → ApprovalsKept
 with_issued_row s (m, HeadRow h) = record s {
-  purged = (is_of_nobody h.holder && is_day_from s.period.from h.closed) || s.purged;
+  purged = is_head_purged_within s.period h || s.purged;
 }
 with_issued_row s (m, SeatRow seat) = s
 with_issued_row s (m, EntryRow n e) = record s { lines = s.lines ++ issued_of_entry s.period m n e }
@@ -90,7 +92,16 @@ approvals_of s = in_order is_issued_earlier (map (approved_by s.acts) s.lines)
 -- what the sink stores makes that list; and whether it is cut by a purge
 pub record AreApprovalsKept (s : Span) (firm : Firm) : Type 0 where
   pub lines : approvals_of (approvals_kept s firm) ≡ approvals s firm
-  pub purged : (approvals_kept s firm).purged ≡ is_purged_since s.from firm
+  pub purged : (approvals_kept s firm).purged ≡ is_purged_within s firm
 
 abbrev pub ApprovalsAreKept : Type 0
 ApprovalsAreKept = (s : Span) (firm : Firm) → AreApprovalsKept s firm
+
+-- What a purge leaves.
+
+-- purging a matter of a sound firm changes nothing of the approvals of a period if no purged matter was open in it
+abbrev pub PurgeChangesNoApprovalLeft : Type 0
+PurgeChangesNoApprovalLeft =
+    (s : Span) (m : ℕ) (change : MatterChange) (firm : Firm)
+    → FirmSound firm → IsPurge m firm change → is_purged_within s (after_change m change firm) ≡ false
+    → approvals s (after_change m change firm) ≡ approvals s firm

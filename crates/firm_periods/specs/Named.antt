@@ -2,6 +2,7 @@
 use Rattle.std.specs.Prelude.{◌≡◌, ℕ, ◌≤◌, Bool, true, false, not, ◌&&◌, ◌||◌, nat_le, nat_lt, cond, List, [], ◌∷◌, ◌++◌, map, ℤ, pos, negsuc, ◌+ℤ◌, ◌-ℤ◌, Option, Some, None, fold, option_to_list}
 use Rattle.std.specs.List.{filter, flat_map, list_any}
 use Rattle.std.specs.Ordering.{is_lt, nat_cmp}
+use Rattle.trust_base.specs.Periods.{Span}
 use Rattle.matter_rows.specs.declared.head.Head.{Head}
 use Rattle.matter_rows.specs.declared.head.Holder.{Holder}
 use Rattle.matter_rows.specs.declared.head.Holder.TheVariants as holder
@@ -30,7 +31,7 @@ use Rattle.firm_periods.specs.declared.named_sink.Pick.TheVariants as pick
 use Rattle.firm_figures.specs.Doubles.{in_order}
 use Rattle.firm_figures.specs.Figures.{is_in_transit, is_outstanding, journal, outstanding, transit}
 use Rattle.trust_matter.specs.Changes.{MatterChange}
-use Rattle.firm_figures.specs.Purged.{IsPurge, is_day_after, is_period_purged}
+use Rattle.firm_figures.specs.Purged.{IsPurge, is_head_purged_at, is_purged_at}
 use Rattle.firm_figures.specs.Reconciling.{added}
 
 -- What an entry has moved.
@@ -174,16 +175,19 @@ abbrev pub is_day_from : ℕ → Option ℕ → Bool
 is_day_from from None = false
 is_day_from from (Some day) = nat_le from day
 
--- the matter was purged, and had been closed on a day or later
-abbrev pub is_purged_from : ℕ → ℕ × Row → Bool
-is_purged_from from (m, HeadRow head) = is_of_nobody head.holder && is_day_from from head.closed
-is_purged_from from (m, SeatRow seat) = false
-is_purged_from from (m, EntryRow number entry) = false
+-- the matter was purged, and had been open in the period: opened on its last day or before, and closed on its first day
+-- or later
+abbrev pub is_head_purged_within : Span → Head → Bool
+is_head_purged_within s head = nat_le head.opened s.to && (is_of_nobody head.holder && is_day_from s.from head.closed)
 
--- some matter that was closed on the first day of a period or later was purged, so its movements in it are no longer
--- told
-unfoldable pub is_purged_since : ℕ → Firm → Bool
-is_purged_since from firm = list_any (is_purged_from from) firm.rows
+abbrev pub is_row_purged_within : Span → ℕ × Row → Bool
+is_row_purged_within s (m, HeadRow head) = is_head_purged_within s head
+is_row_purged_within s (m, SeatRow seat) = false
+is_row_purged_within s (m, EntryRow number entry) = false
+
+-- some matter that was open in the period was purged, so its movements in it are no longer told
+unfoldable pub is_purged_within : Span → Firm → Bool
+is_purged_within s firm = list_any (is_row_purged_within s) firm.rows
 
 -- Laws.
 
@@ -247,19 +251,19 @@ WaitsAlwaysAgree = (p : ℕ) (firm : Firm) → WaitsAgree p firm
 
 -- What a purge leaves.
 
--- purging a matter of a sound firm changes nothing of a period whose records are complete afterwards
+-- purging a matter of a sound firm changes nothing of a period if no purged matter was open in it
 abbrev pub PurgeChangesNoPeriodLeft : Type 0
 PurgeChangesNoPeriodLeft =
-    (from to m : ℕ) (change : MatterChange) (firm : Firm)
-    → FirmSound firm → IsPurge m firm change → 1 ≤ from → is_purged_since from (after_change m change firm) ≡ false
-    → (receipts from to (after_change m change firm) ≡ receipts from to firm)
-    × (disbursements from to (after_change m change firm) ≡ disbursements from to firm)
+    (s : Span) (m : ℕ) (change : MatterChange) (firm : Firm)
+    → FirmSound firm → IsPurge m firm change → is_purged_within s (after_change m change firm) ≡ false
+    → (receipts s.from s.to (after_change m change firm) ≡ receipts s.from s.to firm)
+    × (disbursements s.from s.to (after_change m change firm) ≡ disbursements s.from s.to firm)
 
--- nor of what waits as of a day whose records are
+-- nor of what waits as of a day if none was open as of it
 abbrev pub PurgeChangesNoWaitingLeft : Type 0
 PurgeChangesNoWaitingLeft =
     (p m : ℕ) (change : MatterChange) (firm : Firm)
-    → FirmSound firm → IsPurge m firm change → is_period_purged p (after_change m change firm) ≡ false
+    → FirmSound firm → IsPurge m firm change → is_purged_at p (after_change m change firm) ≡ false
     → (transit_named p (after_change m change firm) ≡ transit_named p firm)
     × (out_named p (after_change m change firm) ≡ out_named p firm)
 
@@ -279,19 +283,19 @@ own_pick (pick.Disbursements s) v = is_disbursed_within s.from s.to v
 own_pick (pick.Transit p) v = false
 own_pick (pick.Outstanding p) v = false
 
--- whether a purged matter that was closed then may have had movements that it takes
-abbrev pub is_day_cut : Pick → Option ℕ → Bool
-is_day_cut (pick.Receipts s) closed = is_day_from s.from closed
-is_day_cut (pick.Disbursements s) closed = is_day_from s.from closed
-is_day_cut (pick.Transit p) closed = is_day_after p closed
-is_day_cut (pick.Outstanding p) closed = is_day_after p closed
+-- whether a matter with this head was purged that may have had movements that it takes
+abbrev pub is_head_cut : Pick → Head → Bool
+is_head_cut (pick.Receipts s) head = is_head_purged_within s head
+is_head_cut (pick.Disbursements s) head = is_head_purged_within s head
+is_head_cut (pick.Transit p) head = is_head_purged_at p head
+is_head_cut (pick.Outstanding p) head = is_head_purged_at p head
 
--- whether a list is no longer complete: of a period from its first day on, of a day after it
+-- whether a list is no longer complete
 abbrev pub is_cut : Pick → Firm → Bool
-is_cut (pick.Receipts s) firm = is_purged_since s.from firm
-is_cut (pick.Disbursements s) firm = is_purged_since s.from firm
-is_cut (pick.Transit p) firm = is_period_purged p firm
-is_cut (pick.Outstanding p) firm = is_period_purged p firm
+is_cut (pick.Receipts s) firm = is_purged_within s firm
+is_cut (pick.Disbursements s) firm = is_purged_within s firm
+is_cut (pick.Transit p) firm = is_purged_at p firm
+is_cut (pick.Outstanding p) firm = is_purged_at p firm
 
 -- what the sink stores
 pub record NamedKept : Type 0 where
@@ -306,7 +310,7 @@ none_named pick = record { pick = pick; client = None; lines = []; purged = fals
 abbrev pub with_named_row : NamedKept → ℕ × Row → NamedKept
 with_named_row s (m, HeadRow h) = record s {
   client = client_of h.holder;
-  purged = (is_of_nobody h.holder && is_day_cut s.pick h.closed) || s.purged;
+  purged = is_head_cut s.pick h || s.purged;
 }
 with_named_row s (m, SeatRow seat) = s
 with_named_row s (m, EntryRow n e) = record s { lines = s.lines ++ flat_map (named s.client m n e) (pick_of s.pick e) }

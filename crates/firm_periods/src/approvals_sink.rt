@@ -7,14 +7,14 @@ ghost use Rattle.firm_figures.specs.Doubles.{in_order};
 ghost use Rattle.firm_rows.specs.Firm.{EntryRow};
 ghost use Rattle.firm_periods.specs.Approvals.{ApprovalsKept, approvals_of, approved_by, approver_in, approves_in, is_issued_earlier, no_approvals, with_approval, with_issued_row};
 
-use crate::named_sink::Pick;
+use crate::purged::is_head_purged_within;
 use firm_rows::{ActSink, MatterAct, MatterRow, MatterRowSink};
 use std::alloc::{AllocError, Global};
 use std::cmp::Ordering;
 use std::collections::HashMap;
 use std::marker::Model;
 use trust_base::{Day, EntryNo, MatterNo, Period};
-use trust_matter::{Caller, Deed, Entry, Holder, Payment};
+use trust_matter::{Caller, Deed, Entry, Payment};
 
 /// An issued payment: its entry, the day of its issue, and who approved it; None if no act says so.
 #[derive(Drop)]
@@ -137,8 +137,8 @@ impl ApprovalsSink {
         }
     }
 
-    /// Whether a purged matter may have had a payment that was issued in the period: it was closed on the period's
-    /// first day or later. The list is then no longer complete.
+    /// Whether a purged matter may have had a payment that was issued in the period: it was open in it. The list is
+    /// then no longer complete.
     pub fn is_period_purged(&self) -> bool
         ensures { result ≡ self.now.purged }
     {
@@ -203,10 +203,7 @@ impl MatterRowSink for ApprovalsSink {
     fn matter_row(&mut self, matter: MatterNo, row: MatterRow<'_>) -> Result<(), AllocError> {
         match row {
             MatterRow::Head(head) => {
-                if let Holder::Purged(_) = &head.holder {
-                    let is_cut = Pick::Disbursements(self.period).is_cut_by(head.closed);
-                    self.purged = self.purged || is_cut;
-                }
+                self.purged = self.purged || is_head_purged_within(head, self.period);
                 Ok(())
             }
             MatterRow::Seat(_seat) => Ok(()),

@@ -2,7 +2,7 @@
 
 ghost use Rattle.firm_periods.specs.Named.{AlwaysListedOnce, EachStandsInOne, MovesAreEvents, NamedAreKept, NamesAreOfTheirMatter, PeriodsAgree, WaitsAlwaysAgree};
 ghost use Rattle.firm_periods.specs.Named.{PurgeChangesNoPeriodLeft, PurgeChangesNoWaitingLeft};
-ghost use Rattle.firm_periods.specs.Approvals.{ApprovalsAreKept};
+ghost use Rattle.firm_periods.specs.Approvals.{ApprovalsAreKept, PurgeChangesNoApprovalLeft};
 ghost use Rattle.firm_periods.specs.Accounts.{AccountsAreCovered, ClosingIsLedger, ClosingIsNextOpening, ClosingsAreLines, ClosingsAreTotal, EntriesInOrder, OpeningIsBefore, WholeAccountIsOfRows};
 
 use matter_rows::laws::sound_is_covered;
@@ -40,10 +40,11 @@ pub fn names_are_of_their_matter()
     ensures { NamesAreOfTheirMatter }
 {}
 
-/// Purging a matter of a sound firm changes nothing of a period, and of what waits as of a day, whose records are
-/// complete afterwards.
+/// Purging a matter of a sound firm changes nothing of the receipts, the disbursements and the approvals of a period
+/// if no purged matter was open in it, nor of what waits as of a day if none was open then.
 pub fn purging_changes_no_period()
     ensures periods { PurgeChangesNoPeriodLeft }
+    ensures approvals { PurgeChangesNoApprovalLeft }
     ensures waiting { PurgeChangesNoWaitingLeft }
 {
     sound_is_covered();

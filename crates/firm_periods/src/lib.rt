@@ -18,8 +18,10 @@
 //! - `laws` `each_stands_in_one`: **each movement of a period stands in its receipts or in its disbursements, once**,
 //!   and nothing else does.
 //! - `laws` `names_are_of_their_matter`: in every sound firm each line names the client of its matter.
-//! - `laws` `purging_changes_no_period`: in every sound firm a purge changes nothing of a period, and of what waits as
-//!   of a day, whose records are complete afterwards.
+//! - `laws` `purging_changes_no_period`: in every sound firm a purge changes nothing of the receipts, the disbursements
+//!   and the approvals of a period if no purged matter was open in it, nor of what waits as of a day if none was open
+//!   then (`periods`, `approvals`, `waiting`).
+//! - `is_head_purged_within`: whether a matter was purged that was open in a period.
 //! - `account_of`; `laws` `accounts_agree`: a matter's statement of account for a period. It closes with the ledger as
 //!   of its last day (`closing`), with which the next period opens (`next`), has the movements of each entry in their
 //!   own order (`order`), and in a sound firm no balance on it is below zero (`covered`). Of a whole matter it is that
@@ -33,8 +35,10 @@ mod approvals_sink;
 pub mod laws;
 mod moved;
 mod named_sink;
+mod purged;
 
 pub use account::{Account, AccountLine, account_of};
 pub use approvals_sink::{ApprovalsSink, IssuedPayment};
 pub use moved::{Cause, MoveNames, Moved, NamedMove};
 pub use named_sink::{NamedList, NamedSink, Pick};
+pub use purged::is_head_purged_within;

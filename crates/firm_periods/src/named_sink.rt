@@ -4,18 +4,19 @@ ghost use Rattle.std.specs.Prelude.{◌≡◌, ◌++◌, ◌+◌, ◌<◌, ◌�
 ghost use Rattle.firm_figures.specs.Doubles.{in_order};
 ghost use Rattle.firm_figures.specs.Reconciling.{added};
 ghost use Rattle.firm_rows.specs.Firm.{EntryRow};
-ghost use Rattle.firm_periods.specs.Named.{NamedKept, is_day_cut, is_earlier, named_sum, none_named, own_named, own_pick, pick_of, with_named_own, with_named_row};
+ghost use Rattle.firm_periods.specs.Named.{NamedKept, is_earlier, is_head_cut, named_sum, none_named, own_named, own_pick, pick_of, with_named_own, with_named_row};
 ghost use Rattle.firm_periods.specs.declared.moved.NamedMove.{NamedMove};
 
 use crate::moved::{
     Cause, MoveNames, Moved, NamedMove, if_disbursed, if_received, moves_of, name_move,
 };
-use firm_figures::{added, is_in_transit, is_outstanding};
+use crate::purged::is_head_purged_within;
+use firm_figures::{added, is_head_purged_at, is_in_transit, is_outstanding};
 use firm_rows::{FirmLine, FirmLineSink, MatterRow, MatterRowSink, Owner};
 use std::alloc::{AllocError, Global};
 use std::marker::Model;
 use trust_base::{Day, EntryNo, Label, MatterNo, Period};
-use trust_matter::{Entry, Holder};
+use trust_matter::{Entry, Head, Holder};
 
 /// Which movements a list takes.
 #[derive(Clone, Copy)]
@@ -48,18 +49,15 @@ impl Pick {
         }
     }
 
-    // Whether a purged matter that was closed on this day may have had movements that a list takes.
-    pub(crate) fn is_cut_by(self, closed: Option<Day>) -> bool
-        ensures { result ≡ is_day_cut self closed }
+    // Whether a matter with this head was purged that may have had movements that a list takes.
+    fn is_cut_by(self, head: &Head) -> bool
+        ensures { result ≡ is_head_cut self head.now }
     {
-        let Some(closed) = closed else {
-            return false;
-        };
         match self {
             Pick::Receipts(period) | Pick::Disbursements(period) => {
-                period.from().get() <= closed.get()
+                is_head_purged_within(head, period)
             }
-            Pick::Transit(day) | Pick::Outstanding(day) => day.get() < closed.get(),
+            Pick::Transit(day) | Pick::Outstanding(day) => is_head_purged_at(head, day),
         }
     }
 
@@ -146,8 +144,8 @@ impl NamedSink {
         }
     }
 
-    /// Whether a purged matter may have had movements that the list takes: it was closed on the period's first day or
-    /// later, or after the day. The list is then no longer complete.
+    /// Whether a purged matter may have had movements that the list takes: it was open in the period, or as of the day.
+    /// The list is then no longer complete.
     pub fn is_period_purged(&self) -> bool
         ensures { result ≡ self.now.purged }
     {
@@ -197,7 +195,7 @@ impl MatterRowSink for NamedSink {
                 }
                 Holder::Purged(_) => {
                     self.client = None;
-                    self.purged = self.purged || self.pick.is_cut_by(head.closed);
+                    self.purged = self.purged || self.pick.is_cut_by(head);
                     Ok(())
                 }
             },

@@ -8,7 +8,7 @@ use Rattle.firm_rows.specs.Firm.{Firm}
 use Rattle.trust_base.specs.Periods.{Span}
 use Rattle.matter_rows.specs.declared.act.Caller.{Caller}
 use Rattle.book_reports.specs.ReportTexts.{day_report_text, is_day_report_purged, lacks_statement, period_report_text, report_text}
-use Rattle.book_reports.specs.Reports.{has_no_statement, is_period_purged, is_purged_since, matter_trail_report, reconciliation_report}
+use Rattle.book_reports.specs.Reports.{has_no_statement, is_period_purged, is_purged_within, matter_trail_report, reconciliation_report}
 use Rattle.book_reports.specs.Trails.{is_gone_since, is_missing}
 use Rattle.book_reports.specs.declared.day_reports.Limits.{Limits}
 use Rattle.book_reports.specs.declared.report.DayReport.{DayReport}
@@ -61,12 +61,12 @@ abbrev pub day_report_for : Caller → DayReport → ℕ → ℕ → Firm → Re
 day_report_for caller report day today firm =
     text_unless (first (day_report_conditions caller report day firm)) (day_report_text report day firm)
 
--- each refusal of a report of a period with its condition, in the order of their numbers: a matter that was closed on
--- its first day or later has been purged since
+-- each refusal of a report of a period with its condition, in the order of their numbers: a matter that was open in it
+-- has been purged since
 abbrev pub period_report_conditions : Caller → Span → Firm → List (Bool × Refusal)
 period_report_conditions caller period firm =
     (is_not_of_firm caller, refusals.NotAllowed rule.Firm)
-    ∷ (is_purged_since period.from firm, refusals.PeriodPurged)
+    ∷ (is_purged_within period firm, refusals.PeriodPurged)
     ∷ []
 
 -- the result of a report of a period, on any business day: its text, or the refusal with the least number whose

@@ -24,7 +24,7 @@ returns-clause-told g c =
     ∙ clients-told c.args.as_of firm c.each_firm_line.new.sink sound rows.countable lines.countable kept in
     record {
       stated = refl;
-      cut = c.is_period_purged-is_purged.ensures ∙ ap (λ s. s.purged) kept;
+      cut = c.is_day_purged-is_purged.ensures ∙ ap (λ s. s.purged) kept;
       text = written ∙ ap (λ t. c.args.text.now.items ++ t) told;
     }
 
