@@ -23,8 +23,8 @@
 //!   a crash too (`read`). An error wants no cause.
 //! - `find_unread`: it reads, and any of its reads may fail: the book stays as it is, also after a crash if the store
 //!   still serves (`reads`), as it does after an Ok (`serves`). No clause says what it finds.
-//! - `tell_rows`, `tell_earlier`, `tell_outstanding`: the book stays as it is, after a crash too. No clause says what
-//!   is reported.
+//! - `tell_rows`, `tell_earlier`, `tell_outstanding`, `tell_waiting`, `tell_purged`: the book stays as it is, after a
+//!   crash too. No clause says what is reported.
 //!
 //! A report keeps sums and what it prints; the reconciliation also keeps the payments issued and not voided by its day,
 //! of which it lists those with another's instrument, and the balances dated by its day.
@@ -37,6 +37,7 @@ mod day_reports;
 mod matter_acts;
 mod matter_trail;
 mod outstanding;
+mod purged;
 mod report;
 mod text_sink;
 mod unread;
@@ -48,7 +49,8 @@ pub use cleared_lines::{ClearedLines, tell_earlier, tell_rows};
 pub use day_reports::{Limits, append_day_report, append_period_report, append_reconciliation};
 pub use firm_audit::{Flaw, TrailCounts, TrailFlaw, TrailFound};
 pub use matter_trail::{MatterTrail, find_trail};
-pub use outstanding::tell_outstanding;
+pub use outstanding::{tell_outstanding, tell_waiting};
+pub use purged::{WantedRecords, tell_purged};
 pub use report::{DayReport, PeriodReport, Report};
 pub use unread::{Unread, find_unread};
-pub use watching::{AppliedLine, ClearedLine, EarlierWatch, PaymentWatch, RowWatch};
+pub use watching::{AppliedLine, ClearedLine, EarlierWatch, PaymentWatch, PurgedWatch, RowWatch};

@@ -1,7 +1,7 @@
 // Watchers, which are told of rows to go with a report.
 
 use firm_rows::Owner;
-use trust_base::{BankText, Day, EntryNo};
+use trust_base::{BankText, Day, EntryNo, MatterNo};
 
 /// A bank line that is in the book: one that cleared something or took it back, or one of the firm's own.
 #[derive(Drop)]
@@ -41,8 +41,15 @@ pub trait RowWatch {
     fn worked_on(&self, last: Day);
 }
 
-/// Is told which payments of a matter the bank has not shown. Nothing depends on whether it succeeds.
+/// Is told which payments the bank has not shown. Nothing depends on whether it succeeds.
 pub trait PaymentWatch {
-    /// Called for the payment of this number, which was issued on this day and which no line of the bank has cleared.
-    fn outstanding(&self, number: EntryNo, issued: Day);
+    /// Called for the payment of this number of a matter, which was issued on this day and which no line of the bank has
+    /// cleared.
+    fn outstanding(&self, matter: MatterNo, number: EntryNo, issued: Day);
+}
+
+/// Is told which purged matters had records that a report wants. Nothing depends on whether it succeeds.
+pub trait PurgedWatch {
+    /// Called for a matter that was purged, with the days on which it was opened and closed.
+    fn purged(&self, matter: MatterNo, opened: Day, closed: Day);
 }

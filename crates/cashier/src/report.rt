@@ -11,13 +11,13 @@ ghost use Rattle.trust_store.specs.Calls.{IsRead};
 
 use crate::exception_telling::ExceptionTelling;
 use crate::outcome::{Outcome, outcome_of_reply, write_reply};
-use crate::report_telling::{NowReport, NowTelling, PaymentTelling, TwiceTelling};
+use crate::report_telling::{NowReport, NowTelling, PaymentTelling, PurgedTelling, TwiceTelling};
 use cashier_remarks::{Remark, Remarks, ReportRemark};
 use command_line::ReportCommand;
 use std::alloc::Global;
 use std::io::Write;
-use trust_base::{Day, StoreFault};
-use trust_desk::{ClearedLines, Desk, Report, Request, RowWatch};
+use trust_base::{Day, MatterNo, Refusal, StoreFault};
+use trust_desk::{Body, ClearedLines, DayReport, Desk, Report, Request, RowWatch, WantedRecords};
 use trust_matter::{Ask, Caller};
 use trust_store::Book;
 
@@ -47,19 +47,22 @@ fn request_for(command: ReportCommand) -> Request
 }
 
 // Prints a report of a desk's book on a business day, or the line of its refusal. What its rows show beside it is kept
-// in `lines`.
+// in `lines`, and in `is_purged` whether it is refused since a matter was purged.
 fn print_report<W: Write, B: Book>(
     alloc: Global,
     command: ReportCommand,
     today: Day,
     desk: &mut Desk<B>,
     lines: &mut ClearedLines,
+    is_purged: &mut bool,
     writer: &mut W,
 ) -> Outcome
     ensures kept { KeepsBook (CountsStore Outcome.StoreFault result) (B.seen desk.old) (B.seen desk.new) }
     ensures began { result ≢ Outcome.CommandLine }
-    // If the text was written, the store has met no fault.
+    // If the text or a refusal was written, the store has met no fault.
     ensures serves { result ≡ Outcome.Done → (B.seen desk.new).sure → (B.seen desk.old).clean
+        → (B.seen desk.old).stands → (B.seen desk.new).clean }
+    ensures refuses { result ≡ Outcome.Refused → (B.seen desk.new).sure → (B.seen desk.old).clean
         → (B.seen desk.old).stands → (B.seen desk.new).clean }
     ensures ends { IfServed (B.seen desk.old) (B.seen desk.new)
         (PrintsReport today command (output_of W.contents writer.old writer.new) result) }
@@ -67,6 +70,7 @@ fn print_report<W: Write, B: Book>(
         (LeavesSame (B.seen desk.old) (B.seen desk.new)) }
 {
     let reply = desk.answer_beside(alloc, &request_for(command), today, lines);
+    *is_purged = matches!(&reply.body, Body::Refused(Refusal::PeriodPurged));
     let Ok(()) = write_reply(writer, &reply) else {
         return Outcome::OutputFault;
     };
@@ -111,15 +115,61 @@ fn tell_reasons<M: Remarks, B: Book>(alloc: Global, remarks: &M, desk: &mut Desk
 // Reports which payments on an account of a matter the bank has long not shown, and which fault ended that, if any.
 fn tell_payments<M: Remarks, B: Book>(
     alloc: Global,
+    matter: MatterNo,
     telling: &PaymentTelling<'_, M>,
     desk: &mut Desk<B>,
 )
     ensures { (told : Result Unit StoreFault) × IsRead told (B.seen desk.old) (B.seen desk.new) }
 {
-    if let Err(fault) = desk.tell_outstanding(alloc, telling.matter, telling) {
+    if let Err(fault) = desk.tell_outstanding(alloc, matter, telling) {
         telling
             .remarks
             .tell(&Remark::Report(ReportRemark::RowsEnd(fault)));
+    }
+}
+
+// Reports which payments of all matters the bank has long not shown, and which fault ended that, if any.
+fn tell_waiting<M: Remarks, B: Book>(
+    alloc: Global,
+    telling: &PaymentTelling<'_, M>,
+    desk: &mut Desk<B>,
+)
+    ensures { (told : Result Unit StoreFault) × IsRead told (B.seen desk.old) (B.seen desk.new) }
+{
+    if let Err(fault) = desk.tell_waiting(alloc, telling) {
+        telling
+            .remarks
+            .tell(&Remark::Report(ReportRemark::RowsEnd(fault)));
+    }
+}
+
+// Which matters' records a report wants; None for one that wants those of all that are there.
+fn records_wanted(command: ReportCommand) -> Option<WantedRecords> {
+    match command {
+        ReportCommand::Reconcile(day) => Some(WantedRecords::ClosedAfter(day)),
+        ReportCommand::AsOf(DayReport::Clients | DayReport::Outstanding, day) => {
+            Some(WantedRecords::OpenAt(day))
+        }
+        ReportCommand::AsOf(DayReport::Month, day) => Some(WantedRecords::OfMonth(day)),
+        ReportCommand::Within(_, period) => Some(WantedRecords::OpenWithin(period)),
+        ReportCommand::Ledger(_)
+        | ReportCommand::Account(_, _)
+        | ReportCommand::Trail(_)
+        | ReportCommand::Firm(_) => None,
+    }
+}
+
+// Reports for which purged matters a report was refused, and which fault ended that, if any.
+fn tell_purged<M: Remarks, B: Book>(
+    alloc: Global,
+    remarks: &M,
+    desk: &mut Desk<B>,
+    wanted: WantedRecords,
+)
+    ensures { (told : Result Unit StoreFault) × IsRead told (B.seen desk.old) (B.seen desk.new) }
+{
+    if let Err(fault) = desk.tell_purged(alloc, wanted, &PurgedTelling { remarks }) {
+        remarks.tell(&Remark::Report(ReportRemark::RowsEnd(fault)));
     }
 }
 
@@ -138,8 +188,9 @@ fn tell_of_day_to_come<M: Remarks>(remarks: &M, command: ReportCommand, today: D
 /// Prints a report of a desk's book on a business day, as the cashier: its text as it is, or the line of its refusal.
 /// After a report up to a day that has not come, a person is told so. After the exceptions, why each is one, or that an
 /// import would now accept it. After these and a reconciliation, which bank lines look like the same line. After a
-/// trial balance or a journal of a day that `is_past`, that there is later work. After an account, which of its
-/// payments the bank has not shown for more than 180 days. The contract does not say what is told. A fault that ends it
+/// trial balance or a journal of a day that `is_past`, that there is later work. After an account, a reconciliation,
+/// what waits for the bank, and a packet of month's end, which of its payments the bank has not shown for more than 180
+/// days. After a refusal because of purged matters, which they are. The contract does not say what is told. A fault that ends it
 /// is reported too, but is not a fault of the run. If nobody is told, the book is not read for it.
 ///
 /// The outcome is `Done` if the text was written, and `Refused` if the line of a refusal was. If the store failed or
@@ -173,17 +224,52 @@ pub fn run_report<M: Remarks, W: Write, B: Book>(
         | ReportCommand::Trail(_)
         | ReportCommand::Firm(_) => ClearedLines::none(alloc),
     };
-    let outcome = print_report(alloc, command, today, desk, &mut lines, writer);
-    let Outcome::Done = outcome else {
-        return outcome;
-    };
+    let mut is_purged = false;
+    let outcome = print_report(
+        alloc,
+        command,
+        today,
+        desk,
+        &mut lines,
+        &mut is_purged,
+        writer,
+    );
     if !remarks.are_told() {
         return outcome;
     }
+    if let Outcome::Refused = outcome {
+        if let Some(wanted) = records_wanted(command) {
+            if is_purged {
+                tell_purged(alloc, remarks, desk, wanted);
+            }
+        }
+        return outcome;
+    }
+    let Outcome::Done = outcome else {
+        return outcome;
+    };
     tell_of_day_to_come(remarks, command, today);
     match &command {
         ReportCommand::Firm(Report::Exceptions) => tell_reasons(alloc, remarks, desk, today),
-        ReportCommand::Reconcile(_) => tell_lines(remarks, &TwiceTelling { remarks }, lines),
+        ReportCommand::Reconcile(day) => {
+            tell_lines(remarks, &TwiceTelling { remarks }, lines);
+            let last = *day;
+            let telling = PaymentTelling {
+                last,
+                today,
+                remarks,
+            };
+            tell_waiting(alloc, &telling, desk)
+        }
+        ReportCommand::AsOf(DayReport::Outstanding | DayReport::Month, day) => {
+            let last = *day;
+            let telling = PaymentTelling {
+                last,
+                today,
+                remarks,
+            };
+            tell_waiting(alloc, &telling, desk)
+        }
         ReportCommand::Firm(Report::Trial) if is_past => {
             let report = NowReport::Trial;
             let telling = NowTelling {
@@ -203,16 +289,16 @@ pub fn run_report<M: Remarks, W: Write, B: Book>(
             tell_rows(alloc, remarks, &telling, desk, today)
         }
         ReportCommand::Account(no, period) => {
+            let last = period.to();
             let telling = PaymentTelling {
-                matter: *no,
-                period: *period,
+                last,
                 today,
                 remarks,
             };
-            tell_payments(alloc, &telling, desk)
+            tell_payments(alloc, *no, &telling, desk)
         }
         ReportCommand::Firm(_)
-        | ReportCommand::AsOf(_, _)
+        | ReportCommand::AsOf(DayReport::Clients, _)
         | ReportCommand::Within(_, _)
         | ReportCommand::Trail(_)
         | ReportCommand::Ledger(_) => {}

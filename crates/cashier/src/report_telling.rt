@@ -2,8 +2,8 @@
 
 use crate::beginning::days_since_1970;
 use cashier_remarks::{DAYS_OUTSTANDING, Plain, Reference, Remark, Remarks, ReportRemark};
-use trust_base::{Day, Dollars, EntryNo, MatterNo, Period};
-use trust_desk::{ClearedLine, PaymentWatch, RowWatch};
+use trust_base::{Day, Dollars, EntryNo, MatterNo};
+use trust_desk::{ClearedLine, PaymentWatch, PurgedWatch, RowWatch};
 
 /// Reports what the rows of a book show in addition to a report that has all figures of its day: the reconciliation and
 /// the exceptions.
@@ -62,13 +62,11 @@ impl<M: Remarks> RowWatch for NowTelling<'_, M> {
     }
 }
 
-/// Reports which payments on a matter's account of a period the bank has not shown for more than 180 days.
+/// Reports which payments in a report the bank has not shown for more than 180 days.
 #[derive(Drop)]
 pub struct PaymentTelling<'a, M> {
-    /// The matter.
-    pub matter: MatterNo,
-    /// The period of the account.
-    pub period: Period,
+    /// The last day of the report.
+    pub last: Day,
     /// The business day.
     pub today: Day,
     /// Receives the remarks.
@@ -76,14 +74,32 @@ pub struct PaymentTelling<'a, M> {
 }
 
 impl<M: Remarks> PaymentWatch for PaymentTelling<'_, M> {
-    fn outstanding(&self, number: EntryNo, issued: Day) {
+    fn outstanding(&self, matter: MatterNo, number: EntryNo, issued: Day) {
         let age = days_since_1970(self.today).saturating_sub(days_since_1970(issued));
-        if age > DAYS_OUTSTANDING && issued.get() <= self.period.to().get() {
+        if age > DAYS_OUTSTANDING && issued.get() <= self.last.get() {
             self.remarks.tell(&Remark::Report(ReportRemark::OldPayment {
-                matter: self.matter,
+                matter,
                 entry: number,
                 issued,
             }));
         }
+    }
+}
+
+/// Reports which purged matters had records that a refused report wants.
+#[derive(Drop)]
+pub struct PurgedTelling<'a, M> {
+    /// Receives the remarks.
+    pub remarks: &'a M,
+}
+
+impl<M: Remarks> PurgedWatch for PurgedTelling<'_, M> {
+    fn purged(&self, matter: MatterNo, opened: Day, closed: Day) {
+        let told = ReportRemark::PurgedMatter {
+            matter,
+            opened,
+            closed,
+        };
+        self.remarks.tell(&Remark::Report(told));
     }
 }

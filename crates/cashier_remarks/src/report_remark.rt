@@ -40,6 +40,12 @@ pub enum ReportRemark<'a> {
         entry: EntryNo,
         issued: Day,
     },
+    /// The report was refused since it wants the records of a matter that was purged. It was open between these days.
+    PurgedMatter {
+        matter: MatterNo,
+        opened: Day,
+        closed: Day,
+    },
     /// Telling the reasons of exceptions was ended by this fault.
     ExceptionsEnd(StoreFault),
     /// Telling what goes with the report was ended by this fault.
@@ -82,6 +88,14 @@ impl fmt::Display for ReportRemark<'_> {
                 f,
                 "payment {entry} of matter {matter} was issued on {issued}, more than {DAYS_OUTSTANDING} days ago, \
                 and the bank has not shown it: ask whoever was paid, and have it voided if it is lost"
+            ),
+            ReportRemark::PurgedMatter {
+                matter,
+                opened,
+                closed,
+            } => write!(
+                f,
+                "matter {matter}, opened on {opened} and closed on {closed}, was purged: this report wants its records"
             ),
             ReportRemark::ExceptionsEnd(fault) => {
                 write!(f, "{fault}: no reasons are told of the other exceptions")

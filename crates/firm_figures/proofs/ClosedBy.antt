@@ -109,7 +109,7 @@ closed-left p m change firm purge whole =
 apart-by : (p m day last : ℕ) (o : Option Head) → IsSome (closed_on o)
     → list_any (is_row_purged_at p) (head_pairs m (purged_head o day last)) ≡ false
     → IsClosedBy p o ⊎ IsOpenedAfter p o
-apart-by p m day last None closed none = absurd closed
+apart-by p m day last None closed none = absurd (false≢true closed)
 apart-by p m day last (Some h) closed none = elim (cases_Bool (nat_le h.opened p)) [
   | inl by ↦ inl (closed-by p m day last (Some h) closed (rw by at none))
   | inr after ↦ inr (not-by after)

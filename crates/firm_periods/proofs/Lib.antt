@@ -9,5 +9,6 @@ pub mod ListedOnce
 pub mod Named
 pub mod OneJournal
 pub mod Picks
+pub mod PurgedApprovals
 pub mod PurgedMoves
 mod Names

@@ -10,7 +10,7 @@ use Rattle.firm_figures.specs.Purged.{IsOpenedAfter}
 use Rattle.matter_rows.specs.Rows.{closed_on, purged_head}
 use Rattle.trust_base.specs.Periods.{Span}
 use Rattle.std.proofs.Common.{inl, inr, ◌<◌}
-use Rattle.std.proofs.lemmas.Bool.{cases_Bool}
+use Rattle.std.proofs.lemmas.Bool.{cases_Bool, false≢true}
 use Rattle.std.specs.Prelude.{IsSome, nat_le, ◌⊎◌}
 use Rattle.firm_periods.specs.declared.moved.Moved.{Moved}
 use Rattle.firm_periods.specs.declared.moved.NamedMove.{NamedMove}
@@ -20,7 +20,7 @@ use Rattle.std.specs.Prelude.{map, ◌||◌, ◌≢◌}
 
 -- The rows of one matter, where none of its entries is picked.
 
-flat-same : {A B : Type 0} (f g : A → List B) (xs : List A) → AllByRecursion (λ x. f x ≡ g x) xs → flat_map f xs ≡ flat_map g xs
+pub flat-same : {A B : Type 0} (f g : A → List B) (xs : List A) → AllByRecursion (λ x. f x ≡ g x) xs → flat_map f xs ≡ flat_map g xs
 flat-same f g [] all = refl
 flat-same f g (x ∷ xs) all = λ i. all.0 i ++ flat-same f g xs all.1 i
 
@@ -54,13 +54,13 @@ module _ (pick : Entry → List Moved) (firm : Firm) where
       ∙ ap (λ vs. lines (passing (λ x. nat_lt x m) xs) ++ vs)
       (flat_map-append (row_named pick firm) (pairs m rows) (passing (λ x. nat_lt m x) xs) ∙ ap (λ vs. vs ++ lines (passing (λ x. nat_lt m x) xs)) (pairs-none m rows none))
 
-passes : (t : ℕ → Bool) (xs : List (ℕ × Row)) → AllByRecursion (λ q. t q.0 ≡ true) (passing t xs)
+pub passes : (t : ℕ → Bool) (xs : List (ℕ × Row)) → AllByRecursion (λ q. t q.0 ≡ true) (passing t xs)
 passes t xs = recursion_from_All _ _ (filter_passes (λ (q : ℕ × Row). t q.0) xs)
 
-less-apart : (a b : ℕ) → nat_lt a b ≡ true → a ≢ b
+pub less-apart : (a b : ℕ) → nat_lt a b ≡ true → a ≢ b
 less-apart a b is same = grind (arith, nat_tests)
 
-more-apart : (a b : ℕ) → nat_lt b a ≡ true → a ≢ b
+pub more-apart : (a b : ℕ) → nat_lt b a ≡ true → a ≢ b
 more-apart a b is same = grind (arith, nat_tests)
 
 row-same : (pick : Entry → List Moved) (before after : Firm) (q : ℕ × Row) → of q.0 after ≡ of q.0 before → row_named pick after q ≡ row_named pick before q
@@ -124,14 +124,14 @@ pub IsApart : Span → Option Head → Type 0
 IsApart s o = ((k : ℕ) × ((s.from ≡ suc k) × IsClosedBy k o)) ⊎ IsOpenedAfter s.to o
 
 day-before : (from : ℕ) (c : Option ℕ) → is_day_from from c ≡ false → IsSome c → (k : ℕ) × ((from ≡ suc k) × ((day : ℕ) × ((c ≡ Some day) × (day ≤ k))))
-day-before from None late some = absurd some
+day-before from None late some = absurd (false≢true some)
 day-before zero (Some day) late some = absurd (grind (arith, nat_tests))
 day-before (suc k) (Some day) late some = (k, (refl, (day, (refl, grind (arith, nat_tests)))))
 
 apart-from : (s : Span) (m day last : ℕ) (o : Option Head) → IsSome (closed_on o)
     → list_any (is_row_purged_within s) (head_pairs m (purged_head o day last)) ≡ false → IsApart s o
 unfolding IsApart
-apart-from s m day last None closed none = absurd closed
+apart-from s m day last None closed none = absurd (false≢true closed)
 apart-from s m day last (Some h) closed none = elim (cases_Bool (nat_le h.opened s.to)) [
   | inl by ↦ inl (day-before s.from h.closed (before by) closed)
   | inr after ↦ inr (not-by after)
@@ -151,7 +151,7 @@ apart-within s m change firm purge whole =
     apart-from s m purge.day change.last (of m firm).head left.0 left.1
 
 -- what a test lets through of no entry of days by the one before the period, nor of one made after it
-none-apart : (s : Span) (P : Entry → Type 0) (rows : Rows) → Sound rows → IsApart s rows.head
+pub none-apart : (s : Span) (P : Entry → Type 0) (rows : Rows) → Sound rows → IsApart s rows.head
     → ((k : ℕ) → s.from ≡ suc k → (e : Entry) → IsBy k e → P e) → ((e : Entry) → IsLater s.to e → P e)
     → AllByRecursion P rows.entries
 unfolding IsApart

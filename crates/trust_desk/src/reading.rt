@@ -10,8 +10,8 @@ ghost use Rattle.trust_store.specs.Calls.{IsRead};
 
 use crate::desk::Desk;
 use book_reports::{
-    AppliedLine, Checked, EarlierWatch, PaymentWatch, RowWatch, Unread, check, find_unread,
-    tell_earlier, tell_outstanding, tell_rows,
+    AppliedLine, Checked, EarlierWatch, PaymentWatch, PurgedWatch, RowWatch, Unread, WantedRecords,
+    check, find_unread, tell_earlier, tell_outstanding, tell_purged, tell_rows, tell_waiting,
 };
 use std::alloc::Global;
 use trust_base::{Day, MatterNo, StoreFault};
@@ -81,5 +81,29 @@ impl<B: Book> Desk<B> {
         ensures { IsRead result (B.seen self.old) (B.seen self.new) }
     {
         tell_outstanding(alloc, &mut self.book, no, watch)
+    }
+    /// Reports to `watch` the payments of all matters that were issued and that no line of the bank has cleared, as
+    /// `book_reports::tell_waiting`, with its errors. The book is unchanged.
+    pub fn tell_waiting<V: PaymentWatch>(
+        &mut self,
+        alloc: Global,
+        watch: &V,
+    ) -> Result<(), StoreFault>
+        ensures { IsRead result (B.seen self.old) (B.seen self.new) }
+    {
+        tell_waiting(alloc, &mut self.book, watch)
+    }
+
+    /// Reports to `watch` the purged matters whose records a report wants, as `book_reports::tell_purged`, with its
+    /// errors. The book is unchanged.
+    pub fn tell_purged<V: PurgedWatch>(
+        &mut self,
+        alloc: Global,
+        wanted: WantedRecords,
+        watch: &V,
+    ) -> Result<(), StoreFault>
+        ensures { IsRead result (B.seen self.old) (B.seen self.new) }
+    {
+        tell_purged(alloc, &mut self.book, wanted, watch)
     }
 }
