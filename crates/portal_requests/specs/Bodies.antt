@@ -70,11 +70,16 @@ unless_null (object ms) = Some []
 abbrev pub optional_text_at : List ℕ → Data → Option (List ℕ)
 optional_text_at key d = option_and_then unless_null (get key d)
 
--- the text of a value that may be missing; a missing one counts as empty
+-- the text of a value that may be missing or null, which counts as empty
 abbrev pub text_if_any : Option Data → Option (List ℕ)
 text_if_any None = Some []
-text_if_any (Some d) = as_str d
+text_if_any (Some null) = Some []
+text_if_any (Some (boolean b)) = None
+text_if_any (Some (number n)) = None
+text_if_any (Some (string s)) = Some s
+text_if_any (Some (array ds)) = None
+text_if_any (Some (object ms)) = None
 
--- the text under a key, empty if the key is missing; `None` if its value is no text
+-- the text under a key, empty if the key is missing or null; `None` if its value is no text
 abbrev pub field_text_at : List ℕ → Data → Option (List ℕ)
 field_text_at key d = text_if_any (get key d)

@@ -14,7 +14,7 @@ use Rattle.portal_requests.specs.Bodies.{body_in, field_text_at}
 abbrev pub line_keys : List (List ℕ)
 line_keys = codes "date" ∷ codes "reference" ∷ codes "bank_ref" ∷ codes "amount" ∷ codes "text" ∷ []
 
--- the line that an object's fields give, if each is a text; a missing field counts as empty
+-- the line that an object's fields give, if each is a text; a field that is missing or null counts as empty
 abbrev pub line_in : Option Data → Option Line
 line_in None = None
 line_in (Some d) =

@@ -141,12 +141,12 @@ fn optional_text<'a>(value: &'a Value, key: &str) -> Option<&'a [u8]>
     }
 }
 
-// Returns the text under a key, empty if the key is missing; `None` if its value is no text.
+// Returns the text under a key, empty if the key is missing or null; `None` if its value is no text.
 fn field_text<'a>(value: &'a Value, key: &str) -> Option<&'a [u8]>
     ensures { option_copied result ≡ field_text_at key.now (view value.now) }
 {
     match value.get(key) {
-        None => Some(&[]),
+        None | Some(Value::Null) => Some(&[]),
         Some(found) => match found.as_str() {
             Some(text) => Some(text.as_bytes()),
             None => None,

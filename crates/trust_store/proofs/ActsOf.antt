@@ -1,5 +1,5 @@
 -- The acts of one matter among those of all, one after the other.
-use Rattle.trust_store.proofs.Names.{◌≡◌, ℕ, List, [], ◌∷◌, ◌+◌, ◌<◌, ◌==◌, true, false, length, drop, get_or, sym, ap, ◌∙◌, MatterAct, AllByRecursion, acts_in}
+use Rattle.trust_store.proofs.Names.{◌≡◌, ℕ, List, [], ◌∷◌, ◌+◌, ◌<◌, ◌≤◌, ◌==◌, true, false, arith, inl, inr, cases_Bool, length, drop, get_or, sym, ap, ◌∙◌, MatterAct, AllByRecursion, acts_in}
 use Rattle.std.proofs.lemmas.List.{at_drop_more}
 use Rattle.firm_rows.specs.Countable.{IsActInRange}
 
@@ -22,3 +22,11 @@ other_next m i acts a lt at other = at_front m i acts a lt at ∙ (rw other)
 pub all_ranged : (acts : List MatterAct) → AllByRecursion IsActInRange acts
 all_ranged [] = tt
 all_ranged (a ∷ acts) = (tt, all_ranged acts)
+
+-- they are no more than all
+pub few_in : (m : ℕ) (acts : List MatterAct) → length (acts_in m acts) ≤ length acts
+few_in m [] = omega arith
+few_in m (a ∷ acts) = elim (cases_Bool (a.matter == m)) [
+  | inl own ↦ rw own (omega (arith, few_in m acts))
+  | inr other ↦ rw other (omega (arith, few_in m acts))
+]
