@@ -1,5 +1,5 @@
 -- Each listed payment names the caller of its one act of approval.
-use Rattle.std.proofs.Common.{◌≡◌, ◌⊎◌, inl, inr, ℕ, Bool, true, false, cond, ◌&&◌, ◌==◌, List, [], ◌∷◌, ◌++◌, map, filter, fold, Option, Some, None, refl, sym, ap, ◌∙◌, arith}
+use Rattle.std.proofs.Common.{◌≡◌, inl, ℕ, Bool, true, false, cond, ◌&&◌, ◌==◌, List, [], ◌∷◌, ◌++◌, map, filter, fold, Option, Some, None, refl, sym, ap, ◌∙◌, arith}
 use Rattle.std.proofs.lemmas.Bool.Decides.{nat_tests}
 use Rattle.std.proofs.lemmas.List.Sums.{fold-append}
 use Rattle.trust_base.specs.Periods.{Span}
@@ -7,8 +7,7 @@ use Rattle.matter_rows.specs.declared.act.Act.{Act}
 use Rattle.matter_rows.specs.declared.act.Caller.{Caller}
 use Rattle.matter_rows.specs.declared.seat.Seat.{Seat}
 use Rattle.matter_rows.specs.Rows.{entry_at, is_number}
-use Rattle.trail_laws.proofs.Approved.{issues-are_approved}
-use Rattle.trail_laws.specs.Signed.{IsApprovedOnce, approves, beginning_of, days_of_approval, days_of_issue, is_approval, nothing_before}
+use Rattle.trail_laws.specs.Signed.{IsApprovedOnce, approves, beginning_of, days_of_approval, days_of_issue, is_approval}
 use Rattle.firm_rows.specs.declared.matter_act.MatterAct.{MatterAct}
 use Rattle.firm_rows.proofs.Kept.{empty-sound}
 use Rattle.firm_rows.specs.Firm.{Firm, acts_of, empty_firm, of}
@@ -17,7 +16,7 @@ use Rattle.firm_periods.specs.declared.approvals_sink.IssuedPayment.{IssuedPayme
 use Rattle.trust_desk.specs.Acts.{dossier_of}
 use Rattle.desk_trail.proofs.KeptRuns.{days-keep, days-sound}
 use Rattle.desk_trail.proofs.ListedPayments.{IsOfEntry, of-entry}
-use Rattle.desk_trail.proofs.SignedRuns.{later-payments_are_approved, older-firms_are_signed, payments-are_approved, steps-signed}
+use Rattle.desk_trail.proofs.SignedRuns.{issued-since, later-payments_are_approved, older-firms_are_signed, payments-are_approved, steps-signed}
 use Rattle.desk_trail.specs.Approvers.{ApproversAreNamed, EarlierApproversAreUnknown, IsApproverNamed, LaterApproversAreNamed}
 use Rattle.desk_trail.specs.SignedRuns.{IsSignedSince}
 
@@ -73,7 +72,7 @@ once-told seats n day acts once =
     approved : approves n once.act ≡ true
     approved = (λ i. once.is i && is_number (once.entry i) n) ∙ itself
 
-approver-named : (seats : List Seat) (firm : Firm) (v : IssuedPayment) → IsOfEntry firm v → IsApprovedOnce seats v.number v.issued (acts_of v.matter firm) → IsApproverNamed seats firm v
+pub approver-named : (seats : List Seat) (firm : Firm) (v : IssuedPayment) → IsOfEntry firm v → IsApprovedOnce seats v.number v.issued (acts_of v.matter firm) → IsApproverNamed seats firm v
 approver-named seats firm v line once = record {
   approved = once;
   named = line.approver ∙ (own-told v.matter v.number None firm.acts ∙ once-told seats v.number v.issued (acts_of v.matter firm) once);
@@ -96,30 +95,18 @@ approvers-are_named firm runs s v run there =
 
 pub later-approvers_are_named : LaterApproversAreNamed
 later-approvers_are_named first firm runs s v sound none run before there =
-    cases (later-payments_are_approved first firm runs v.matter v.number v.issued sound none run before line.issued)
-  where
-    line : IsOfEntry firm v
-    line = of-entry s firm v (days-sound first firm runs sound run) there
-
-    cases : IsApprovedOnce (of v.matter first).seats v.number v.issued (acts_of v.matter firm) ⊎ IsApprovedOnce [] v.number v.issued (acts_of v.matter firm)
-        → IsApproverNamed (of v.matter first).seats firm v ⊎ IsApproverNamed [] firm v
-    cases (inl once) = inl (approver-named (of v.matter first).seats firm v line once)
-    cases (inr once) = inr (approver-named [] firm v line once)
+    let line = of-entry s firm v (days-sound first firm runs sound run) there in
+    approver-named (of v.matter first).seats firm v line
+    (later-payments_are_approved first firm runs v.matter v.number v.issued sound none run before line.issued)
 
 pub earlier-approvers_are_unknown : EarlierApproversAreUnknown
 earlier-approvers_are_unknown first firm runs s v day sound none run before there =
+    let after = days-sound first firm runs sound run in
+    let line = of-entry s firm v after there in
+    let older = inl (older-firms_are_signed v.matter first none) in
     let b = beginning_of (of v.matter first) in
-    let older = older-firms_are_signed v.matter first none in
-    cases (days-keep (IsSignedSince b) (steps-signed b) v.matter first firm runs sound run (inl older))
-  where
-    line : IsOfEntry firm v
-    line = of-entry s firm v (days-sound first firm runs sound run) there
-
-    cases : IsSignedSince (beginning_of (of v.matter first)) (dossier_of v.matter firm) → (v.approver ≡ None) ⊎ IsApproverNamed [] firm v
-    cases (inl signed) =
-        inl (approver-unknown firm v line
-        (none-told v day (days_of_issue (entry_at (of v.matter first).entries v.number)) (days_of_approval v.number (acts_of v.matter firm)) before
-        (signed.issued v.number ∙ line.issued)))
-    cases (inr signed) =
-        inr (approver-named [] firm v line
-        (issues-are_approved nothing_before (dossier_of v.matter firm) v.number v.issued signed refl line.issued))
+    let since = days-keep (IsSignedSince b) (steps-signed b) v.matter first firm runs sound run older in
+    let signed = issued-since b (dossier_of v.matter firm) v.number v.issued (after.matters v.matter) since line.issued in
+    approver-unknown firm v line
+    (none-told v day (days_of_issue (entry_at (of v.matter first).entries v.number))
+    (days_of_approval v.number (acts_of v.matter firm)) before (signed.issued v.number ∙ line.issued))

@@ -154,7 +154,7 @@ steps-fit p (ALine l today) sound fits = step-fits 0 p (dossier_after_step p (AL
 
 -- The approvals.
 
-abbrev AtMostOne : List ℕ → Type 0
+abbrev pub AtMostOne : List ℕ → Type 0
 AtMostOne [] = Unit {0}
 AtMostOne (day ∷ days) = days ≡ []
 
@@ -166,7 +166,7 @@ issued-once (payment.Cleared c) = refl
 issued-once (payment.Voided v) = refl
 issued-once payment.Declined = tt
 
-entry-once : (o : Option Entry) → AtMostOne (days_of_issue o)
+pub entry-once : (o : Option Entry) → AtMostOne (days_of_issue o)
 entry-once None = tt
 entry-once (Some (entry.Deposit d)) = tt
 entry-once (Some (entry.Payment p)) = issued-once p.state
@@ -178,7 +178,7 @@ none-behind [] days is = is
 none-behind (day ∷ before) days is = absurd (cc)
 
 -- of one day all is behind, or nothing
-all-or-none : (before days : List ℕ) → AtMostOne (before ++ days) → (days ≡ []) ⊎ (days ≡ before ++ days)
+pub all-or-none : (before days : List ℕ) → AtMostOne (before ++ days) → (days ≡ []) ⊎ (days ≡ before ++ days)
 all-or-none [] days one = inr refl
 all-or-none (day ∷ before) days one = inl (none-behind before days one)
 
@@ -192,7 +192,7 @@ signed-opened b p s nothing = record {
 }
 
 -- in a signed dossier an entry's approvals are those of its issue, or it was issued before and has none
-signed-later : (b : Beginning) (p : Dossier) (n : ℕ) → IsSigned b p
+pub signed-later : (b : Beginning) (p : Dossier) (n : ℕ) → IsSigned b p
     → IsApprovedAs false (days_of_approval n p.acts) (days_of_issue (entry_at p.rows.entries n))
 signed-later b p n s = cases (all-or-none (b.issued n) (days_of_approval n p.acts) one)
   where
@@ -205,7 +205,7 @@ signed-later b p n s = cases (all-or-none (b.issued n) (days_of_approval n p.act
     cases (inr all) = inr (all ∙ s.issued n)
 
 -- what was allowed with the seats of its moment was allowed with some
-may-be-allowed : (seats : List Seat) (acts : List Act) → AreAllowed seats acts → AllByRecursion MayBeAllowed acts
+pub may-be-allowed : (seats : List Seat) (acts : List Act) → AreAllowed seats acts → AllByRecursion MayBeAllowed acts
 may-be-allowed seats [] are = tt
 may-be-allowed seats (act ∷ acts) are = ((seats, are.0), may-be-allowed (seats_by seats act) acts are.1)
 
@@ -222,7 +222,7 @@ signed-from b p false s begins = record {
 
 since-from : (b : Beginning) (p : Dossier) → IsSignedSince b p → IsSignedFrom (begins_with_opening p.acts) p
 since-from b p (inl s) = signed-from b p (begins_with_opening p.acts) s refl
-since-from b p (inr s) = signed-from nothing_before p (begins_with_opening p.acts) s refl
+since-from b p (inr s) = signed-from nothing_before p (begins_with_opening p.acts) s.signed refl
 
 pub trail-of : (b : Beginning) (p : Dossier) → AreFitting p → IsSignedSince b p → IsTrailOf p
 trail-of b p fits since = cases (is_gone p.rows.head) refl

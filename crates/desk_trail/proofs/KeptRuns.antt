@@ -11,6 +11,7 @@ use Rattle.trail_laws.specs.Dossier.{Dossier, dossier_after_step}
 use Rattle.trust_desk.proofs.AlwaysCovered.{sound-after_item}
 use Rattle.trust_desk.proofs.OwnDossiers.{kind-dossier, own-item}
 use Rattle.trust_desk.specs.Acts.{dossier_of}
+use Rattle.trust_desk.specs.Crashes.{KindIsMade}
 use Rattle.trust_desk.specs.Solo.{own_dossier, solo_dossier}
 use Rattle.trust_desk.specs.declared.requests.Reply.{Reply}
 use Rattle.trust_desk.specs.FirmStep.{IsStopped, KindStopped, RunsSoundly, Steps, firm_step, kind_step}
@@ -54,7 +55,7 @@ module _ (P : Dossier → Type 0) (keeps : StepsKeep P) (m : ℕ) where
   one_item-keeps day p (item.OfMatter l) sound is = if-keeps (l.matter == m) (OwnLine l day) p sound is
   one_item-keeps day p _ sound is = is
 
-  items-keep : (day : ℕ) (firm : Firm) (items : List Item) → FirmSound firm → P (dossier_of m firm)
+  pub items-keep : (day : ℕ) (firm : Firm) (items : List Item) → FirmSound firm → P (dossier_of m firm)
       → P (dossier_of m (after_items day firm items))
   items-keep day firm [] sound is = is
   items-keep day firm (it ∷ items) sound is =
@@ -79,7 +80,7 @@ module _ (P : Dossier → Type 0) (keeps : StepsKeep P) (m : ℕ) where
       subst OfFirm (sym stopped.1.leaves) (items-keep day firm stopped.1.front sound is)
   stopped-keeps day firm new _ stopped sound is = subst OfFirm (sym stopped) is
 
-  step-keeps : (day : ℕ) (firm new : Firm) (h : Heard) (reply : Reply) → FirmSound firm → Steps day firm h reply new
+  pub step-keeps : (day : ℕ) (firm new : Firm) (h : Heard) (reply : Reply) → FirmSound firm → Steps day firm h reply new
       → P (dossier_of m firm) → P (dossier_of m new)
   step-keeps day firm new h reply sound step is = cases (is_fault_reply reply) step
     where
@@ -89,6 +90,13 @@ module _ (P : Dossier → Type 0) (keeps : StepsKeep P) (m : ℕ) where
           → P (dossier_of m new)
       cases true stopped = stopped-keeps day firm new (kind_of h) stopped.leaves sound is
       cases false made = subst OfFirm (sym made.1) (made-keeps day firm (kind_of h) sound is)
+
+  -- what a crash may leave of it
+  pub left-keeps : (day : ℕ) (firm found : Firm) (k : Kind) → KindIsMade day firm k found → FirmSound firm
+      → P (dossier_of m firm) → P (dossier_of m found)
+  left-keeps day firm found (OfItems refused items) left sound is =
+      stopped-keeps day firm found (OfItems refused items) left sound is
+  left-keeps day firm found k left sound is = subst OfFirm (sym left) (made-keeps day firm k sound is)
 
   -- Runs.
 

@@ -4,7 +4,10 @@ pub mod Replies
 pub mod ListedPayments
 pub mod Approvers
 pub mod KeptRuns
+pub mod Purged
 pub mod SignedRuns
 pub mod ReplayedRuns
 pub mod FittingActs
 pub mod AuditedRuns
+pub mod AuditedSteps
+pub mod KeptTrails

@@ -8,10 +8,10 @@ use Rattle.trust_desk.specs.Acts.{dossier_of}
 use Rattle.desk_trail.proofs.KeptRuns.{StepsKeep, days-keep, runs-keep}
 use Rattle.desk_trail.specs.ReplayedRuns.{LaterMattersAreReplayed, MattersAreReplayed, RunsStayComplete, RunsStayReplayed}
 
-steps-replayed : (m : ℕ) → StepsKeep (IsReplayedIfOpened m)
+pub steps-replayed : (m : ℕ) → StepsKeep (IsReplayedIfOpened m)
 steps-replayed m p step sound is = steps-keep_replayed m p step sound is
 
-steps-complete : StepsKeep AreComplete
+pub steps-complete : StepsKeep AreComplete
 steps-complete p step sound is = steps-keep_complete p step sound is
 
 pub runs-stay_replayed : RunsStayReplayed

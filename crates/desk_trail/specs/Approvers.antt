@@ -1,6 +1,6 @@
 -- The approvals of a period: each payment that was issued in it is listed once, and names the caller of its one act of
 -- approval.
-use Rattle.std.specs.Prelude.{◌≡◌, ◌⊎◌, ℕ, Bool, ◌&&◌, ◌==◌, List, [], ◌∷◌, map, Some, None}
+use Rattle.std.specs.Prelude.{◌≡◌, ℕ, Bool, ◌&&◌, ◌==◌, List, [], ◌∷◌, map, Some, None}
 use Rattle.std.specs.List.{Contains, filter}
 use Rattle.trust_base.specs.Periods.{Span}
 use Rattle.matter_rows.specs.declared.entry.Entry.TheVariants as entry
@@ -47,18 +47,18 @@ ApproversAreNamed =
     → Contains (approvals s firm) v → IsApproverNamed [] firm v
 
 -- in one that is older than its acts, this is so of each listed payment that was not issued before; seats count from
--- those of that time, or, behind a purge, from none
+-- those of that time
 abbrev pub LaterApproversAreNamed : Type 0
 LaterApproversAreNamed =
     (first firm : Firm) (runs : List DayRun) (s : Span) (v : IssuedPayment) → FirmSound first
     → acts_of v.matter first ≡ [] → RunsSoundlyOn first runs firm
     → days_of_issue (entry_at (of v.matter first).entries v.number) ≡ [] → Contains (approvals s firm) v
-    → IsApproverNamed (of v.matter first).seats firm v ⊎ IsApproverNamed [] firm v
+    → IsApproverNamed (of v.matter first).seats firm v
 
--- one that was issued before has no act of approval, and so nobody is named; or, behind a purge, this is so of it too
+-- one that was issued before has no act of approval, and so nobody is named
 abbrev pub EarlierApproversAreUnknown : Type 0
 EarlierApproversAreUnknown =
     (first firm : Firm) (runs : List DayRun) (s : Span) (v : IssuedPayment) (day : ℕ) → FirmSound first
     → acts_of v.matter first ≡ [] → RunsSoundlyOn first runs firm
     → days_of_issue (entry_at (of v.matter first).entries v.number) ≡ day ∷ [] → Contains (approvals s firm) v
-    → (v.approver ≡ None) ⊎ IsApproverNamed [] firm v
+    → v.approver ≡ None

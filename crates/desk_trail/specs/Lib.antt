@@ -4,3 +4,4 @@ pub mod Dossiers
 pub mod SignedRuns
 pub mod ReplayedRuns
 pub mod AuditedRuns
+pub mod KeptTrails

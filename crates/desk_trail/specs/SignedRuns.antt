@@ -1,6 +1,6 @@
 -- Every run leaves each matter's dossier signed: each act was allowed, and each payment issued has its approval.
-use Rattle.std.specs.Prelude.{◌≡◌, ◌⊎◌, ℕ, List, [], ◌∷◌}
-use Rattle.matter_rows.specs.Rows.{entry_at}
+use Rattle.std.specs.Prelude.{◌≡◌, ◌⊎◌, ℕ, true, List, [], ◌∷◌}
+use Rattle.matter_rows.specs.Rows.{entry_at, is_purged}
 use Rattle.firm_rows.specs.Firm.{Firm, empty_firm, of, acts_of}
 use Rattle.firm_rows.specs.FirmSound.{FirmSound}
 use Rattle.firm_audit.specs.Trails.{AreSeatedBy}
@@ -12,9 +12,14 @@ use Rattle.trust_desk.specs.FirmStep.{RunsSoundly}
 use Rattle.trust_desk.specs.Heard.{Heard}
 use Rattle.desk_laws.specs.OnceOnly.{DayRun}
 
--- a dossier is signed from where its acts begin: where they began at first, or with nothing, as behind a purge
+-- the matter was purged, which left nothing of its dossier
+pub record IsSignedPurged (p : Dossier) : Type 0 where
+  pub purged : is_purged p.rows.head ≡ true
+  pub signed : IsSigned nothing_before p
+
+-- a dossier is signed from where its acts begin: where they began at first, unless its matter was purged since
 abbrev pub IsSignedSince : Beginning → Dossier → Type 0
-IsSignedSince b p = IsSigned b p ⊎ IsSigned nothing_before p
+IsSignedSince b p = IsSigned b p ⊎ IsSignedPurged p
 
 -- a matter without acts, as each one is in a book that is older than they are, is signed from what its rows say
 abbrev pub OlderFirmsAreSigned : Type 0
@@ -47,10 +52,10 @@ PaymentsAreApproved =
     → days_of_issue (entry_at (of m firm).entries n) ≡ day ∷ [] → IsApprovedOnce [] n day (acts_of m firm)
 
 -- in one that is older than its acts, this is so of each payment that was not issued before; seats count from those of
--- that time, or, behind a purge, from none
+-- that time
 abbrev pub LaterPaymentsAreApproved : Type 0
 LaterPaymentsAreApproved =
     (first firm : Firm) (runs : List DayRun) (m n day : ℕ) → FirmSound first → acts_of m first ≡ []
     → RunsSoundlyOn first runs firm → days_of_issue (entry_at (of m first).entries n) ≡ []
     → days_of_issue (entry_at (of m firm).entries n) ≡ day ∷ []
-    → IsApprovedOnce (of m first).seats n day (acts_of m firm) ⊎ IsApprovedOnce [] n day (acts_of m firm)
+    → IsApprovedOnce (of m first).seats n day (acts_of m firm)

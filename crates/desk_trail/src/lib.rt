@@ -25,9 +25,9 @@
 //!   says all this (`runs`).
 //! - `laws` `approvers_are_signers`: **each payment in the approvals of a period names the person of its one act of
 //!   approval**, who had a lawyer's seat then, after all runs of a book that was empty (`named`). In a book that is
-//!   older than its acts this is so of each payment that was not issued before (`later`). The others name nobody,
-//!   unless their matter was purged since (`earlier`). In every sound firm the list has each payment that was issued on
-//!   a day of the period, once, and nothing else (`listed`).
+//!   older than its acts this is so of each payment that was not issued before (`later`). The others name nobody
+//!   (`earlier`). In every sound firm the list has each payment that was issued on a day of the period, once, and
+//!   nothing else (`listed`).
 //! - `laws` `matters_are_replayed`: **a matter's rows say of each of its acts what was asked, or what the bank showed,
 //!   and all of it, asked or shown again in order from nothing, makes the same rows and the same acts**, after all runs
 //!   of a book that was empty, of each matter that was opened and not purged; the others have no acts (`replayed`). In
@@ -37,6 +37,13 @@
 //!   matter's acts fit its rows (`HasItsTrail` of `firm_audit`). It is so after all runs of a book that was empty
 //!   (`begun`), and of one that is older than its acts (`older`). So `audit_trail` finds a flaw only in a book that
 //!   something else wrote (`flawed_is_no_trail` of `firm_audit`).
+//! - `laws` `trails_are_kept`: **whatever the desk does in a sound firm keeps the trail**: a request, message or record,
+//!   whatever stopped it (`steps`), an item of a statement and the first items of one (`items`, `first_items`), what a
+//!   crash may leave of each (`stops`), and a run (`runs`). To keep it is to go on with what was so before: that the
+//!   trail fits, that each matter's dossier is signed from where its acts began, that its acts are complete, and that
+//!   they make it again. One thing after another keeps it too (`unchanged`, `onward`), as do the runs of the program
+//!   (`trail` of `RanAtPath` in `cashier`). A book that was empty and whose trail was always kept has all that is said
+//!   above of runs (`begun`), and one that is older than its acts has it of what was not done before (`older`).
 #![tactic(auto)]
 
 pub mod laws;
