@@ -9,3 +9,4 @@ pub mod StatementFacts
 pub mod StreamFacts
 pub mod SheetKept
 mod Names
+pub mod TrailFacts

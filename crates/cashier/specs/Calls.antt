@@ -1,9 +1,11 @@
 -- What each run over a desk leaves of its book, however it ends.
 use Rattle.std.specs.Prelude.{◌≡◌, ◌⊎◌, ℕ, List}
 use Rattle.trust_base.specs.declared.refusal.StoreFault.TheVariants as faults
+use Rattle.firm_rows.specs.Firm.{Firm}
 use Rattle.trust_store.specs.Books.{counted_fault}
 use Rattle.trust_store.specs.Crashes.{LeavesOr}
 use Rattle.trust_store.specs.Seen.{Seen}
+use Rattle.desk_trail.specs.KeptTrails.{KeepsTrail}
 use Rattle.clap.specs.Words.{Text}
 use Rattle.command_line.specs.Program.{MeansCheck}
 use Rattle.cashier.specs.declared.outcome.Outcome.{Outcome}
@@ -29,3 +31,7 @@ IfSure old new claim = new.sure → old.clean → old.stands → claim
 -- no row was changed: a crash may leave what it might have left before, or these same rows
 abbrev pub LeavesSame : Seen → Seen → Type 0
 LeavesSame old new = LeavesOr old.firm old.leaves new.leaves
+
+-- the trail is kept in all that a crash may leave now and could not have left before
+abbrev pub LeavesTrail : Seen → Seen → Type 0
+LeavesTrail old new = (found : Firm) → new.leaves found → old.leaves found ⊎ KeepsTrail old.firm found

@@ -4,17 +4,17 @@ use Rattle.std.specs.Borrow.{Bor}
 use Rattle.clap.specs.Words.{Text}
 use Rattle.trust_store.specs.Seen.{Seen}
 use Rattle.statement_csv.specs.Items.{items}
-use Rattle.trust_desk.specs.Crashes.{IsAfterFirst, MayLeave}
+use Rattle.trust_desk.specs.Crashes.{AreNoFaultsButLast, IsAfterFirst, MayLeave}
 use Rattle.portal_http.specs.Clients.{Clients, clients_of}
 use Rattle.portal_http.specs.Output.{Output}
 use Rattle.portal_http.specs.Served.{Served}
 use Rattle.portal_http.specs.ServedAll.{AreServedInTurn}
 use Rattle.portal_http.specs.declared.server.ClientEnd.{ClientEnd}
 use Rattle.portal_http.specs.declared.stream.StreamEnd.{StreamEnd}
-use Rattle.command_line.specs.Program.{Means}
+use Rattle.command_line.specs.Program.{Means, MeansCheck, MeansServe, MeansStream}
 use Rattle.command_line.specs.declared.command.ReportCommand.{ReportCommand}
 use Rattle.command_line.specs.declared.command.Task.TheVariants as task
-use Rattle.cashier.specs.Calls.{LeavesSame}
+use Rattle.cashier.specs.Calls.{LeavesSame, LeavesTrail}
 use Rattle.cashier.specs.Outcome.{sheet_outcome, stream_outcome}
 use Rattle.cashier.specs.Sheet.{SheetIsKept}
 use Rattle.cashier.specs.Statement.{EndsByNoFault}
@@ -23,7 +23,8 @@ use Rattle.cashier.specs.declared.outcome.Outcome.{Outcome}
 use Rattle.cashier.specs.declared.outcome.Outcome.TheVariants as outcome
 use Rattle.cashier.specs.declared.sheet.SheetEnd.{SheetEnd}
 
--- a sheet was run: the lines that were written as accepted are of records that a crash leaves done
+-- a sheet was run: the lines that were written as accepted are of records that a crash leaves done; whatever its bytes
+-- were, the trail is kept in what a crash leaves
 pub record LeavesSheet (words : List Text) (input : Option (List ℕ)) (output : Output) (told : Outcome)
     (old new : Seen) : Type 0 where
   pub today : ℕ
@@ -31,6 +32,7 @@ pub record LeavesSheet (words : List Text) (input : Option (List ℕ)) (output :
   pub end : SheetEnd
   pub outcome : sheet_outcome end ≡ told
   pub lines : SheetIsKept today input output end old new
+  pub trail : LeavesTrail old new
 
 -- a statement of these bytes, if they are known, was imported: a crash leaves its first items applied, or what it
 -- might have left before
@@ -57,10 +59,12 @@ pub record LeavesMatch (words : List Text) (old new : Seen) : Type 0 where
   pub means : Means words today (task.Match path)
   pub rows : LeavesSame old new
 
--- a stream was served: its answers, and what a crash leaves of its messages
+-- a stream was served: its answers, and what a crash leaves of its messages, in which the trail is kept if no reply but
+-- the last told of a fault
 abbrev pub LeavesMessages : ℕ → Option (List ℕ) → Output → Outcome → Seen → Seen → Type 0
 LeavesMessages day input output told old new =
-    (end : StreamEnd) × (stream_outcome end ≡ told) × Served day input output.before old end output.after new
+    (end : StreamEnd) × (stream_outcome end ≡ told) × (served : Served day input output.before old end output.after new)
+    × (AreNoFaultsButLast served.replies → LeavesTrail old new)
 
 pub record LeavesStream (words : List Text) (input : Option (List ℕ)) (output : Output) (told : Outcome)
     (old new : Seen) : Type 0 where
@@ -106,3 +110,7 @@ LeavesRun seen words known output told old new =
     ⊎ (LeavesStream words known.input output told (seen old) (seen new)
     ⊎ (LeavesPort seen words known old new
     ⊎ (LeavesReport words (seen old) (seen new) ⊎ (LeavesCheck words told (seen old) (seen new) ⊎ (new ≡ old)))))))
+
+-- the words mean what goes on after a fault: a stream, clients of a port, or a check
+abbrev pub MeansGoingOn : List Text → Type 0
+MeansGoingOn words = MeansStream words ⊎ (MeansServe words ⊎ MeansCheck words)

@@ -6,6 +6,7 @@ use Rattle.clap.specs.Words.{Text}
 use Rattle.firm_rows.specs.Firm.{Firm}
 use Rattle.trust_base.specs.declared.refusal.StoreFault.{StoreFault}
 use Rattle.trust_base.specs.declared.refusal.StoreFault.TheVariants as faults
+use Rattle.desk_trail.specs.KeptTrails.{KeepsTrail}
 use Rattle.command_line.specs.Program.{Means}
 use Rattle.cashier.specs.Check.{CheckEnds}
 use Rattle.cashier.specs.Matching.{MatchEnds}
@@ -109,7 +110,7 @@ abbrev pub FileEnds : ℕ → File → Output → Outcome → Firm → Firm → 
 FileEnds day file output told before after =
     IsImported day file output told before after ⊎ IsUnopened file output told before after
 
--- the words say to run a sheet on a day, and it ended with this outcome
+-- the words say to run a sheet on a day, and it ended with this outcome; whatever its bytes were, the trail is kept
 pub record RanSheet (words : List Text) (input : Option (List ℕ)) (output : Output) (told : Outcome)
     (before after : Firm) : Type 0 where
   pub today : ℕ
@@ -117,6 +118,7 @@ pub record RanSheet (words : List Text) (input : Option (List ℕ)) (output : Ou
   pub end : SheetEnd
   pub outcome : sheet_outcome end ≡ told
   pub ends : SheetEnds today input output end before after
+  pub trail : KeepsTrail before after
 
 -- the words say to import the statement at a path on a day, and that ended with this outcome
 pub record RanImport (words : List Text) (files : Files) (output : Output) (told : Outcome) (before after : Firm)

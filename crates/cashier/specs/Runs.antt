@@ -8,10 +8,11 @@ use Rattle.book_reports.specs.Checking.{AreReads}
 use Rattle.portal_http.specs.Output.{Output}
 use Rattle.command_line.specs.Program.{Means, MeansCheck, MeansNothing, db_of}
 use Rattle.command_line.specs.declared.command.Task.{Task}
-use Rattle.cashier.specs.Calls.{CountsStoreIn}
+use Rattle.desk_trail.specs.KeptTrails.{KeepsTrail}
+use Rattle.cashier.specs.Calls.{CountsStoreIn, LeavesTrail}
 use Rattle.trust_desk.specs.Calls.{KeepsBook}
 use Rattle.cashier.specs.Check.{IsCheckTrue}
-use Rattle.cashier.specs.Crashes.{LeavesRun}
+use Rattle.cashier.specs.Crashes.{LeavesRun, MeansGoingOn}
 use Rattle.cashier.specs.Outcome.{HasBegun, Ran, put_outcome, store_outcome}
 use Rattle.cashier.specs.Views.{Books, Known}
 use Rattle.cashier.specs.declared.outcome.Outcome.{Outcome}
@@ -33,8 +34,9 @@ pub record HadNoBook (untouched : Type 0) (told : Outcome) : Type 0 where
 -- a run over the book that was found at a path: the book is clean, and the run over it ended this way; then the book
 -- that the run left was read, if at all, and put back, or could not be, with this result. The claims about the firm
 -- hold if the book's store is clean after the run, and if it stood for a sound firm when it was found; the claims about
--- a crash hold even if a fault has shut the store. A check that ended well found the rows of a sound firm, whatever
--- rows were found that can be read
+-- a crash hold even if a fault has shut the store. The trail is kept by the run, and in what a crash leaves of one that
+-- ends at its first fault. A check that ended well found the rows of a sound firm, whatever rows were found that can be
+-- read
 pub record RanAtPath {B W : Type 0} (books : Books B) (path : Text) (words : List Text) (known : Known W)
     (output : Output) (told : Outcome) : Type 0 where
   pub before : B
@@ -44,10 +46,14 @@ pub record RanAtPath {B W : Type 0} (books : Books B) (path : Text) (words : Lis
   pub ended : Outcome
   pub kept : KeepsBook (CountsStoreIn words ended) (books.seen before) (books.seen after)
   pub sound : (books.seen after).clean → (books.seen before).stands → FirmSound (books.seen after).firm
+  pub trail : (books.seen after).clean → (books.seen before).stands
+      → KeepsTrail (books.seen before).firm (books.seen after).firm
   pub ran : (books.seen after).clean → (books.seen before).stands
       → Ran words known output ended (books.seen before).firm (books.seen after).firm
   pub crash : (books.seen after).sure → (books.seen before).stands
       → LeavesRun books.seen words known output ended before after
+  pub stopped : (books.seen after).sure → (books.seen before).stands
+      → LeavesTrail (books.seen before) (books.seen after) ⊎ MeansGoingOn words
   pub checked : (books.seen after).clean → (books.seen before).readable → MeansCheck words
       → IsCheckTrue (books.seen before).firm output ended
   -- the book after it was read once more for what a person is told; this is the one that was put back

@@ -7,7 +7,8 @@ ghost use Rattle.firm_rows.specs.Firm.{Firm};
 ghost use Rattle.trust_desk.specs.Answered.{IfServed};
 ghost use Rattle.trust_desk.specs.Calls.{KeepsBook};
 ghost use Rattle.portal_http.specs.Output.{output_of};
-ghost use Rattle.cashier.specs.Calls.{CountsStore, IfSure};
+ghost use Rattle.desk_trail.specs.KeptTrails.{KeepsTrail};
+ghost use Rattle.cashier.specs.Calls.{CountsStore, IfSure, LeavesTrail};
 ghost use Rattle.cashier.specs.Sheet.{IsCounted, LargeEnds, LinesAreKept, RecordEnds, RunEnds, SheetEnds, SheetIsKept};
 ghost use Rattle.cashier.specs.Sheet.{TellsLine, end_of, ran_by, sheet_records};
 ghost use Rattle.day_sheet.specs.Records.{heard_of};
@@ -75,6 +76,8 @@ fn run_record<W: Write, B: Book, M: Remarks>(
     ensures crash { IfSure (B.seen desk.old) (B.seen desk.new) (MayLeave (IsOk result)
         (IsMade day (B.seen desk.old).firm (heard_of (fields_of row.now)))
         (B.seen desk.old).firm (B.seen desk.new).firm (B.seen desk.old) (B.seen desk.new)) }
+    ensures trail { IfServed (B.seen desk.old) (B.seen desk.new) KeepsTrail }
+    ensures left { IfSure (B.seen desk.old) (B.seen desk.new) (LeavesTrail (B.seen desk.old) (B.seen desk.new)) }
 {
     let reply = answer_record(alloc, row, desk, day);
     let Ok(()) = write_reply(writer, &reply) else {
@@ -112,6 +115,8 @@ fn run_records<W: Write, B: Book, M: Remarks>(
     ensures crash { IfSure (B.seen desk.old) (B.seen desk.new)
         (LinesAreKept day (sheet_records bytes.now) (output_of W.contents writer.old writer.new) result
         (B.seen desk.old) (B.seen desk.new)) }
+    ensures trail { IfServed (B.seen desk.old) (B.seen desk.new) KeepsTrail }
+    ensures left { IfSure (B.seen desk.old) (B.seen desk.new) (LeavesTrail (B.seen desk.old) (B.seen desk.new)) }
 {
     let telling = SheetTelling::new(bytes, remarks);
     let mut refused = false;
@@ -175,6 +180,10 @@ pub fn run_sheet<R: Read, W: Write, B: Book, M: Remarks>(
     ensures crash { IfSure (B.seen desk.old) (B.seen desk.new)
         (SheetIsKept day (R.remaining reader.old) (output_of W.contents writer.old writer.new) result
         (B.seen desk.old) (B.seen desk.new)) }
+
+    // The trail is kept, by the run and in what a crash leaves of it, whatever the sheet's bytes are.
+    ensures trail { IfServed (B.seen desk.old) (B.seen desk.new) KeepsTrail }
+    ensures left { IfSure (B.seen desk.old) (B.seen desk.new) (LeavesTrail (B.seen desk.old) (B.seen desk.new)) }
 {
     match read_whole(alloc, reader, MAX_FILE_BYTES) {
         Ok(Some(bytes)) => run_records(alloc, bytes.as_slice(), remarks, writer, desk, day),

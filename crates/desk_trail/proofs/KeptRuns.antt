@@ -24,7 +24,7 @@ use Rattle.desk_trail.specs.SignedRuns.{RunsSoundlyOn}
 abbrev pub StepsKeep : (Dossier → Type 0) → Type 0
 StepsKeep P = (p : Dossier) (step : Doing) → Sound p.rows → P p → P (dossier_after_step p step)
 
-sound-behind : (day : ℕ) (firm new : Firm) (hs : List Heard) (replies : List Reply) → FirmSound firm
+pub sound-behind : (day : ℕ) (firm new : Firm) (hs : List Heard) (replies : List Reply) → FirmSound firm
     → RunsSoundly day firm hs replies new → FirmSound new
 sound-behind day firm new [] [] sound run = subst FirmSound (sym run) sound
 sound-behind day firm new (h ∷ hs) (reply ∷ replies) sound run = sound-behind day run.0 new hs replies run.2 run.3

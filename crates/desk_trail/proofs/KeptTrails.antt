@@ -1,5 +1,6 @@
 -- Whatever the desk does keeps the trail, and what a kept trail tells.
-use Rattle.std.proofs.Common.{◌≡◌, ℕ, List, [], ◌∷◌, inl, refl, sym, ap, subst}
+use Rattle.std.proofs.Common.{◌≡◌, ℕ, List, [], ◌∷◌, ◌++◌, length, inl, inr, refl, sym, ap, subst, arith}
+use Rattle.std.specs.Prelude.{if◌then◌else◌}
 use Rattle.matter_rows.specs.Rows.{entry_at}
 use Rattle.firm_audit.specs.Trails.{acts_among}
 use Rattle.firm_rows.specs.Firm.{Firm, acts_of, empty_firm, of}
@@ -11,7 +12,11 @@ use Rattle.trail_laws.proofs.Approved.{issues-are_approved}
 use Rattle.trail_laws.proofs.Replayed.{complete-none, opened-none}
 use Rattle.statement_csv.specs.declared.item.Item.{Item}
 use Rattle.trust_desk.specs.Acts.{dossier_of}
-use Rattle.trust_desk.specs.Heard.{kind_of}
+use Rattle.trust_desk.proofs.MadeRows.{plain-step}
+use Rattle.trust_desk.specs.Crashes.{AreNoFaultsButLast, IsMadeInRun, before_fault}
+use Rattle.trust_desk.specs.FirmStep.{RunsSoundly, Steps}
+use Rattle.trust_desk.specs.Heard.{Heard, kind_of}
+use Rattle.trust_desk.specs.declared.requests.Reply.{Reply}
 use Rattle.trust_desk.specs.ItemStep.{after_items}
 use Rattle.desk_trail.proofs.Approvers.{approver-named}
 use Rattle.desk_trail.proofs.AuditedSteps.{IsWell, steps-well, trail-by, well-none, well-of}
@@ -19,7 +24,7 @@ use Rattle.desk_trail.proofs.KeptRuns.{StepsKeep, items-keep, left-keeps, runs-k
 use Rattle.desk_trail.proofs.ListedPayments.{of-entry}
 use Rattle.desk_trail.proofs.ReplayedRuns.{steps-complete, steps-replayed}
 use Rattle.desk_trail.proofs.SignedRuns.{either, empty-signed, issued-since, older-firms_are_signed, steps-signed}
-use Rattle.desk_trail.specs.KeptTrails.{BegunTrailsAreWhole, FirstItemsKeepTrails, HasLaterTrail, HasWholeTrail, ItemsKeepTrails, KeepsTrail, OlderTrailsAreKept, RunsKeepTrails, StepsKeepTrails, StopsKeepTrails, TrailsGoOn, UnchangedKeepTrails}
+use Rattle.desk_trail.specs.KeptTrails.{BegunTrailsAreWhole, FirstItemsKeepTrails, HasLaterTrail, HasWholeTrail, ItemsKeepTrails, KeepsTrail, OlderTrailsAreKept, RunStopsKeepTrails, RunsKeepTrails, StepsKeepTrails, StopsKeepTrails, TrailsGoOn, UnchangedKeepTrails}
 use Rattle.desk_trail.specs.SignedRuns.{IsSignedSince}
 
 -- What keeps it.
@@ -37,11 +42,27 @@ carried firm new carries = record {
   complete = λ m. carries AreComplete steps-complete m;
 }
 
+pub unchanged : UnchangedKeepTrails
+unchanged firm = record {
+  fits = λ fits. fits;
+  signed = λ m b s. s;
+  replayed = λ m is. is;
+  complete = λ m is. is;
+}
+
+pub onward : TrailsGoOn
+onward a b c first next = record {
+  fits = λ fits. next.fits (first.fits fits);
+  signed = λ m from s. next.signed m from (first.signed m from s);
+  replayed = λ m is. next.replayed m (first.replayed m is);
+  complete = λ m is. next.complete m (first.complete m is);
+}
+
 pub steps-keep_trails : StepsKeepTrails
 steps-keep_trails day firm new h reply sound step =
     carried firm new (λ P keeps m is. step-keeps P keeps m day firm new h reply sound step is)
 
-items-keep_trails : (day : ℕ) (firm : Firm) (items : List Item) → FirmSound firm
+pub items-keep_trails : (day : ℕ) (firm : Firm) (items : List Item) → FirmSound firm
     → KeepsTrail firm (after_items day firm items)
 items-keep_trails day firm items sound =
     carried firm (after_items day firm items) (λ P keeps m is. items-keep P keeps m day firm items sound is)
@@ -61,21 +82,35 @@ pub runs-keep_trails : RunsKeepTrails
 runs-keep_trails day firm new hs replies sound run =
     carried firm new (λ P keeps m is. runs-keep P keeps m day firm new hs replies sound run is)
 
-pub unchanged : UnchangedKeepTrails
-unchanged firm = record {
-  fits = λ fits. fits;
-  signed = λ m b s. s;
-  replayed = λ m is. is;
-  complete = λ m is. is;
-}
+run-left : (day : ℕ) (firm mid found : Firm) (hs front rest : List Heard) (replies : List Reply) → FirmSound firm
+    → front ++ rest ≡ hs → RunsSoundly day firm front (before_fault replies) mid → AreNoFaultsButLast replies
+    → length replies ≡ length hs → IsMadeInRun day firm hs found → KeepsTrail firm found
+run-left day firm mid found [] front rest replies sound parts run plain long made = absurd made
+run-left day firm mid found (h ∷ hs) front rest replies sound parts run plain long (inl made) =
+    stops-keep_trails day firm found h sound made
+run-left day firm mid found (h ∷ hs) front rest [] sound parts run plain long (inr later) = absurd (omega arith)
+run-left day firm mid found (h ∷ []) front rest (r ∷ []) sound parts run plain long (inr later) = absurd later
+run-left day firm mid found (h ∷ k ∷ hs) front rest (r ∷ []) sound parts run plain long (inr later) = absurd (omega arith)
+run-left day firm mid found (h ∷ hs) front rest (r ∷ next ∷ replies) sound parts run plain long (inr later) =
+    more front parts
+    (subst (λ fault. RunsSoundly day firm front (if fault then [] else r ∷ before_fault (next ∷ replies)) mid) plain.0 run)
+  where
+    more : (front : List Heard) → front ++ rest ≡ h ∷ hs
+        → RunsSoundly day firm front (r ∷ before_fault (next ∷ replies)) mid → KeepsTrail firm found
+    more [] parts run = absurd run
+    more (g ∷ front) parts run =
+        let same : g ≡ h = cc in
+        let behind : front ++ rest ≡ hs = cc in
+        let step : Steps day firm h r run.0 = subst (λ x. Steps day firm x r run.0) same run.1 in
+        let is = plain-step day firm run.0 h r plain.0 step in
+        let shorter : length (next ∷ replies) ≡ length hs = omega arith in
+        let left = subst (λ (f : Firm). IsMadeInRun day f hs found) (sym is) later in
+        onward firm run.0 found (steps-keep_trails day firm run.0 h r sound step)
+        (run-left day run.0 mid found hs front rest (next ∷ replies) run.2 behind run.3 plain.1 shorter left)
 
-pub onward : TrailsGoOn
-onward a b c first next = record {
-  fits = λ fits. next.fits (first.fits fits);
-  signed = λ m from s. next.signed m from (first.signed m from s);
-  replayed = λ m is. next.replayed m (first.replayed m is);
-  complete = λ m is. next.complete m (first.complete m is);
-}
+pub run-stops_keep_trails : RunStopsKeepTrails
+run-stops_keep_trails day firm mid found front rest replies sound run plain long made =
+    run-left day firm mid found (front ++ rest) front rest replies sound refl run plain long made
 
 -- What a kept trail tells.
 

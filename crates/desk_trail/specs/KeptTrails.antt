@@ -1,5 +1,5 @@
 -- Whatever the desk does keeps the trail: one ask, one item of a statement, one dismissal, and what a stop leaves of it.
-use Rattle.std.specs.Prelude.{◌≡◌, ℕ, false, List, [], ◌∷◌}
+use Rattle.std.specs.Prelude.{◌≡◌, ℕ, false, List, [], ◌∷◌, ◌++◌, length}
 use Rattle.std.specs.List.{Contains}
 use Rattle.trust_base.specs.Periods.{Span}
 use Rattle.matter_rows.specs.Rows.{entry_at, is_gone}
@@ -12,7 +12,7 @@ use Rattle.trail_laws.specs.Replayed.{AreComplete, IsReplayed, IsReplayedIfOpene
 use Rattle.trail_laws.specs.Signed.{Beginning, IsApprovedOnce, days_of_issue}
 use Rattle.statement_csv.specs.declared.item.Item.{Item}
 use Rattle.trust_desk.specs.Acts.{dossier_of}
-use Rattle.trust_desk.specs.Crashes.{IsAfterFirst, IsMade}
+use Rattle.trust_desk.specs.Crashes.{AreNoFaultsButLast, IsAfterFirst, IsMade, IsMadeInRun, before_fault}
 use Rattle.trust_desk.specs.FirmStep.{RunsSoundly, Steps}
 use Rattle.trust_desk.specs.Heard.{Heard}
 use Rattle.trust_desk.specs.Imports.{Told}
@@ -57,6 +57,13 @@ abbrev pub RunsKeepTrails : Type 0
 RunsKeepTrails =
     (day : ℕ) (firm new : Firm) (hs : List Heard) (replies : List Reply) → FirmSound firm
     → RunsSoundly day firm hs replies new → KeepsTrail firm new
+
+-- what a crash may leave of a run of which no reply but the last told of a fault; those before that are of these
+abbrev pub RunStopsKeepTrails : Type 0
+RunStopsKeepTrails =
+    (day : ℕ) (firm mid found : Firm) (front rest : List Heard) (replies : List Reply) → FirmSound firm
+    → RunsSoundly day firm front (before_fault replies) mid → AreNoFaultsButLast replies
+    → length replies ≡ length (front ++ rest) → IsMadeInRun day firm (front ++ rest) found → KeepsTrail firm found
 
 -- nothing at all, and one thing after another
 abbrev pub UnchangedKeepTrails : Type 0

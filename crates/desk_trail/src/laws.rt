@@ -3,7 +3,7 @@
 ghost use Rattle.desk_trail.specs.Approvers.{ApproversAreNamed, EarlierApproversAreUnknown, IssuesAreListed, LaterApproversAreNamed};
 ghost use Rattle.desk_trail.specs.AuditedRuns.{TrailsFit, OlderTrailsFit};
 ghost use Rattle.desk_trail.specs.Dossiers.{EachActsOwn, OthersActsStay};
-ghost use Rattle.desk_trail.specs.KeptTrails.{BegunTrailsAreWhole, FirstItemsKeepTrails, ItemsKeepTrails, OlderTrailsAreKept, RunsKeepTrails, StepsKeepTrails, StopsKeepTrails, TrailsGoOn, UnchangedKeepTrails};
+ghost use Rattle.desk_trail.specs.KeptTrails.{BegunTrailsAreWhole, FirstItemsKeepTrails, ItemsKeepTrails, OlderTrailsAreKept, RunStopsKeepTrails, RunsKeepTrails, StepsKeepTrails, StopsKeepTrails, TrailsGoOn, UnchangedKeepTrails};
 ghost use Rattle.desk_trail.specs.ReplayedRuns.{RunsStayReplayed, RunsStayComplete, MattersAreReplayed, LaterMattersAreReplayed};
 ghost use Rattle.desk_trail.specs.SignedRuns.{OlderFirmsAreSigned, RunsStaySigned, ActsAreAllowed, PaymentsAreApproved, LaterPaymentsAreApproved};
 ghost use Rattle.desk_trail.specs.TellNothing.{StepsTellNothing, RunsTellNothing, MonthsTellNothing, without_acts, without_dismissals, shows_acts, shows_dismissals};
@@ -73,16 +73,18 @@ pub fn trails_pass_the_audit()
 {}
 
 /// Whatever the desk does in a sound firm keeps the trail: one request, message or record, whatever stopped it; one
-/// item of a statement, and the first items of one; what a crash may leave of each; and a run. So does one after
-/// another. A book that was empty, and whose trail was always kept, has all that is said above of runs: its trail fits,
-/// each payment issued has its one approval, whose person the approvals name, and the acts of each matter that is not
-/// gone make it again. One that is older than its acts has it of what was not done before.
+/// item of a statement, and the first items of one; what a crash may leave of each; a run, and what a crash may leave of
+/// one that has met no fault. So does one after another. A book that was empty, and whose trail was always kept, has all
+/// that is said above of runs: its trail fits, each payment issued has its one approval, whose person the approvals
+/// name, and the acts of each matter that is not gone make it again. One that is older than its acts has it of what was
+/// not done before.
 pub fn trails_are_kept()
     ensures steps { StepsKeepTrails }
     ensures items { ItemsKeepTrails }
     ensures first_items { FirstItemsKeepTrails }
     ensures stops { StopsKeepTrails }
     ensures runs { RunsKeepTrails }
+    ensures run_stops { RunStopsKeepTrails }
     ensures unchanged { UnchangedKeepTrails }
     ensures onward { TrailsGoOn }
     ensures begun { BegunTrailsAreWhole }

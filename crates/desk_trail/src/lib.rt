@@ -39,7 +39,8 @@
 //!   something else wrote (`flawed_is_no_trail` of `firm_audit`).
 //! - `laws` `trails_are_kept`: **whatever the desk does in a sound firm keeps the trail**: a request, message or record,
 //!   whatever stopped it (`steps`), an item of a statement and the first items of one (`items`, `first_items`), what a
-//!   crash may leave of each (`stops`), and a run (`runs`). To keep it is to go on with what was so before: that the
+//!   crash may leave of each (`stops`), a run (`runs`), and what a crash may leave of a run that has met no fault before
+//!   its last reply (`run_stops`). To keep it is to go on with what was so before: that the
 //!   trail fits, that each matter's dossier is signed from where its acts began, that its acts are complete, and that
 //!   they make it again. One thing after another keeps it too (`unchanged`, `onward`), as do the runs of the program
 //!   (`trail` of `RanAtPath` in `cashier`). A book that was empty and whose trail was always kept has all that is said

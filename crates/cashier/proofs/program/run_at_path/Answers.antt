@@ -1,6 +1,7 @@
 use Rattle.cashier.proofs.Names.{◌∙◌, inl, inr, refl, sym, arith, ints, nat_tests}
 use Rattle.command_line.proofs.OneTask.{check-alone}
 use Rattle.cashier.proofs.RunFacts.{put-line, store-no-line}
+use Rattle.cashier.proofs.TrailFacts.{run-kept, run-left}
 use Rattle.cashier.proofs.program.run_at_path.Goals as goal
 
 pub returns-in-Err-clause-began : goal.returns-in-Err-clause-began
@@ -23,8 +24,10 @@ returns-clause-ran g c = λ words means.
       ended = c.run_plan-ended.result;
       kept = c.run_plan-ended.ensures.kept words means;
       sound = λ clean stands. (B.seen c.run_plan-ended.new.desk).sound ((c.run_plan-ended.ensures.kept words means).still_stands clean stands);
+      trail = λ clean stands. run-kept words _ _ _ _ _ ((B.seen c.new-desk.result).sound stands) (c.run_plan-ended.ensures.ends words means clean stands);
       ran = λ clean stands. c.run_plan-ended.ensures.ends words means clean stands;
       crash = λ sure stands. c.run_plan-ended.ensures.crash words means sure (served ((c.run_plan-ended.ensures.kept words means).was_sure sure)) stands;
+      stopped = λ sure stands. run-left B.seen words _ _ _ _ _ stands (c.run_plan-ended.ensures.crash words means sure (served ((c.run_plan-ended.ensures.kept words means).was_sure sure)) stands);
       checked = λ clean readable check. c.run_plan-ended.ensures.sound clean readable (check-alone _ _ _ check means);
       shown = c.tell_of_rows.new.desk;
       read = c.tell_of_rows.ensures;

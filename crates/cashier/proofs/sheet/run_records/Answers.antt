@@ -3,7 +3,9 @@ use Rattle.csv.specs.declared.parser.State.{State}
 use Rattle.csv.specs.declared.reader.Reader.{Reader}
 use Rattle.csv.proofs.ReadFacts.{rows-end, rows-more}
 use Rattle.byte_streams.proofs.CsvRecords.{rest-none, rest-reached}
+use Rattle.desk_trail.proofs.KeptTrails.{onward, unchanged}
 use Rattle.cashier.proofs.CallFacts.{book-alone, book-then}
+use Rattle.cashier.proofs.TrailFacts.{left-then}
 use Rattle.cashier.proofs.SheetKept.{going-more, kept-here, kept-stopped}
 use Rattle.cashier.proofs.SheetFacts.{ended-whole, leaves-first, leaves-past, past-all, record-goes, record-stops}
 use Rattle.cashier.proofs.sheet.run_records.Goals as goal
@@ -38,6 +40,8 @@ loop-row-init g c =
       config = rw (f, e) at fr.config ∙ c.new.ensures.config;
       kept = book-alone _;
       going = λ sure clean stands. (clean, λ alone. alone);
+      trail = λ clean stands. unchanged (g.B.Book.seen c.args.desk.now).firm;
+      stopped = λ sure clean stands found may. inl may;
       left = (strip_bom c.args.bytes.now, fr.source, λ _ _. ([], rw fr.state refl, Appends-nil _, refl, refl));
     })
 
@@ -75,6 +79,17 @@ loop-row-preserved g c =
           let so = inv.going (c.in-Ok-run_record.ensures.kept.was_sure sure) clean stands in
           going-more (g.B.Book.seen c.args.desk.now) (g.B.Book.seen c.loop-row.desk)
           (g.B.Book.seen c.run_record.new.desk) refl so (c.in-Ok-run_record.ensures.crash sure so.0 (inv.kept.still_stands so.0 stands));
+      trail = λ clean stands.
+          let was = c.in-Ok-run_record.ensures.kept.was_clean clean in
+          onward (g.B.Book.seen c.args.desk.now).firm (g.B.Book.seen c.loop-row.desk).firm
+          (g.B.Book.seen c.run_record.new.desk).firm (inv.trail was stands)
+          (c.in-Ok-run_record.ensures.trail clean (inv.kept.still_stands was stands));
+      stopped = λ sure clean stands.
+          let was = c.in-Ok-run_record.ensures.kept.was_sure sure in
+          let so = inv.going was clean stands in
+          left-then (g.B.Book.seen c.args.desk.now) (g.B.Book.seen c.loop-row.desk) (g.B.Book.seen c.run_record.new.desk)
+          (inv.stopped was clean stands) (inv.trail so.0 stands)
+          (c.in-Ok-run_record.ensures.left sure so.0 (inv.kept.still_stands so.0 stands));
       left = (
         z,
         at_z,
@@ -126,3 +141,34 @@ returns-clause-crash g c = λ sure clean stands.
     let s = rw c.in-None.is at ((c.next.ensures.steps inv.turns inv.plain).0 inv.ready) in
     let end = rows-end left_of c.loop-row.row-iterator.rdr c.next.new.self.rdr [] default_config y inv.config source s in
     kept-here _ _ past _ _ _ _ _ _ parts (λ w. rest-none c.loop-row.row-iterator.rdr.state y end) (written, is, was) going
+
+-- The trail.
+
+pub returns-in_default-clause-trail : goal.returns-in_default-clause-trail
+returns-in_default-clause-trail g c = λ clean stands. c.loop-row.invariant.trail clean stands
+
+pub returns-in_default-clause-left : goal.returns-in_default-clause-left
+returns-in_default-clause-left g c = λ sure clean stands. c.loop-row.invariant.stopped sure clean stands
+
+pub returns-in-Err-clause-trail : goal.returns-in-Err-clause-trail
+returns-in-Err-clause-trail g c = λ clean stands.
+    let inv = c.loop-row.invariant in
+    let was = c.run_record.ensures.kept.was_clean clean in
+    onward (g.B.Book.seen c.args.desk.now).firm (g.B.Book.seen c.loop-row.desk).firm
+    (g.B.Book.seen c.run_record.new.desk).firm (inv.trail was stands)
+    (c.in-Err.ensures.trail clean (inv.kept.still_stands was stands))
+
+pub returns-in-Err-clause-left : goal.returns-in-Err-clause-left
+returns-in-Err-clause-left g c = λ sure clean stands.
+    let inv = c.loop-row.invariant in
+    let was = c.run_record.ensures.kept.was_sure sure in
+    let so = inv.going was clean stands in
+    left-then (g.B.Book.seen c.args.desk.now) (g.B.Book.seen c.loop-row.desk) (g.B.Book.seen c.run_record.new.desk)
+    (inv.stopped was clean stands) (inv.trail so.0 stands)
+    (c.in-Err.ensures.left sure so.0 (inv.kept.still_stands so.0 stands))
+
+pub returns-clause-trail : goal.returns-clause-trail
+returns-clause-trail g c = λ clean stands. c.loop-row.invariant.trail clean stands
+
+pub returns-clause-left : goal.returns-clause-left
+returns-clause-left g c = λ sure clean stands. c.loop-row.invariant.stopped sure clean stands

@@ -1,4 +1,6 @@
 use Rattle.cashier.proofs.Names.{ℕ, List, Option, [], Appends, Appends-nil, Output, Seen, IsWhole, LinesAreKept, SheetIsKept, SheetEnd}
+use Rattle.std.proofs.Common.{inl}
+use Rattle.desk_trail.proofs.KeptTrails.{unchanged}
 use Rattle.cashier.proofs.SheetKept.{kept-large, kept-none, known-large, known-none, known-run}
 use Rattle.cashier.proofs.SheetFacts.{ends-large, ends-run, ends-unread}
 use Rattle.portal_http.specs.Output.{output_of}
@@ -41,3 +43,29 @@ returns-in-Err-Reader-clause-crash g c = λ sure clean stands. none-run _ _ _ _ 
 
 pub returns-in-Err-Memory-clause-crash : goal.returns-in-Err-Memory-clause-crash
 returns-in-Err-Memory-clause-crash g c = λ sure clean stands. none-run _ _ _ _ _ (λ w. w) (Appends-nil _)
+
+-- The trail.
+
+pub returns-in-Ok-Some-clause-trail : goal.returns-in-Ok-Some-clause-trail
+returns-in-Ok-Some-clause-trail g c = λ clean stands. c.run_records.ensures.trail clean stands
+
+pub returns-in-Ok-Some-clause-left : goal.returns-in-Ok-Some-clause-left
+returns-in-Ok-Some-clause-left g c = λ sure clean stands. c.run_records.ensures.left sure clean stands
+
+pub returns-in-Ok-None-clause-trail : goal.returns-in-Ok-None-clause-trail
+returns-in-Ok-None-clause-trail g c = λ clean stands. unchanged (g.B.Book.seen c.args.desk.now).firm
+
+pub returns-in-Ok-None-clause-left : goal.returns-in-Ok-None-clause-left
+returns-in-Ok-None-clause-left g c = λ sure clean stands found may. inl may
+
+pub returns-in-Err-Reader-clause-trail : goal.returns-in-Err-Reader-clause-trail
+returns-in-Err-Reader-clause-trail g c = λ clean stands. unchanged (g.B.Book.seen c.args.desk.now).firm
+
+pub returns-in-Err-Reader-clause-left : goal.returns-in-Err-Reader-clause-left
+returns-in-Err-Reader-clause-left g c = λ sure clean stands found may. inl may
+
+pub returns-in-Err-Memory-clause-trail : goal.returns-in-Err-Memory-clause-trail
+returns-in-Err-Memory-clause-trail g c = λ clean stands. unchanged (g.B.Book.seen c.args.desk.now).firm
+
+pub returns-in-Err-Memory-clause-left : goal.returns-in-Err-Memory-clause-left
+returns-in-Err-Memory-clause-left g c = λ sure clean stands found may. inl may
