@@ -133,14 +133,14 @@ served-left {day} old new served sure clean stands plain found left =
     elim ((served.crash sure clean stands plain).crash found left) [
       | inl before ↦ inl before
       | inr made ↦
-      let shut = served.shut sure clean stands in
-      let heard = map-append heard_of shut.front shut.rest in
-      let all : map heard_of shut.front ++ map heard_of shut.rest ≡ map heard_of served.messages =
-      sym heard ∙ ap (map heard_of) shut.parts in
-      let long = served.paired ∙ sym (length-map served.messages heard_of) ∙ ap length (sym all) in
-      inr (run-stops_keep_trails day old.firm shut.mid found (map heard_of shut.front) (map heard_of shut.rest)
-      served.replies (old.sound stands) shut.run plain long
-      (subst (λ hs. IsMadeInRun day old.firm hs found) (sym all) made))
+          let shut = served.shut sure clean stands in
+          let heard = map-append heard_of shut.front shut.rest in
+          let all : map heard_of shut.front ++ map heard_of shut.rest ≡ map heard_of served.messages =
+          sym heard ∙ ap (map heard_of) shut.parts in
+          let long = served.paired ∙ sym (length-map served.messages heard_of) ∙ ap length (sym all) in
+          inr (run-stops_keep_trails day old.firm shut.mid found (map heard_of shut.front) (map heard_of shut.rest)
+          served.replies (old.sound stands) shut.run plain long
+          (subst (λ hs. IsMadeInRun day old.firm hs found) (sym all) made))
     ]
 
 pub run-left : {B W : Type 0} (seen : B → Seen) (words : List Text) (known : Known W) (output : Output) (told : Outcome)

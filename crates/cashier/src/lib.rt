@@ -15,7 +15,8 @@
 //!   the beginning of what was written, or the rows with the next record too, even if a fault has shut the store. At
 //!   `Done` and `Refused` these are all the records. At another end the only whole line after theirs is that of a
 //!   refusal, and of the next record's own line there is at most a part. So each line that was written as accepted is
-//!   of a record that a crash leaves done (`crash`).
+//!   of a record that a crash leaves done (`crash`). Whatever the sheet's bytes are, the trail is kept by the run
+//!   (`trail`) and in what a crash leaves of it (`left`), as `trails_are_kept` of `desk_trail` says it.
 //! - `run_import`: over every book: one line, the counts of the items that the statement's bytes have, or its refusal;
 //!   a prefix of it if a write failed, nothing if a read failed; a statement whose file says a length above 4,194,304
 //!   bytes is refused, and nothing of it applied; if it ends early, the first items stay applied (`ends`). A crash may
@@ -61,10 +62,11 @@
 //!   left is sound. If they name one, either no book could be opened there, and nothing was read or written
 //!   (`StoreFault`, or `MemoryFault`); or a book was opened that the store finds there (`finds`) and that serves. Then
 //!   what is said of the run holds if the book stood and its store is clean at the end (of a crash: even if a fault has
-//!   shut the store), and the firm that is left is sound. **If the words mean a check, what it printed is true of the
-//!   rows, as `run_check` says it, whatever the store kept that can be read as rows** (`checked`). The book that the
-//!   run left was put back (`puts`); if that failed and the run had ended by no fault, the outcome is one of these two
-//!   (`ran`).
+//!   shut the store), and the firm that is left is sound. **The trail is kept by every run** (`trail`), and in what a
+//!   crash leaves of one that ends at its first fault (`stopped`). **If the words mean a check, what it printed is true
+//!   of the rows, as `run_check` says it, whatever the store kept that can be read as rows** (`checked`). The book that
+//!   the run left was put back (`puts`); if that failed and the run had ended by no fault, the outcome is one of these
+//!   two (`ran`).
 //! - `exit_of`: the exit status of each outcome.
 #![tactic(auto)]
 

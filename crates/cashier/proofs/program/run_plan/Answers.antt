@@ -44,6 +44,6 @@ returns-in-Stream-clause-crash g c = λ words means sure clean stands. inr (inr 
     sym c.outcome_of_stream.ensures,
     c.serve_stream.ensures,
     served-left (g.B.Book.seen c.args.desk.now) (g.B.Book.seen c.serve_stream.new.desk) c.serve_stream.ensures sure clean
-    stands,
+        stands,
   );
 }))))
