@@ -73,9 +73,9 @@ pub fn trails_pass_the_audit()
 {}
 
 /// Whatever the desk does in a sound firm keeps the trail: one request, message or record, whatever stopped it; one
-/// item of a statement, and the first items of one; what a crash may leave of each; a run, and what a crash may leave of
-/// one that has met no fault. So does one after another. A book that was empty, and whose trail was always kept, has all
-/// that is said above of runs: its trail fits, each payment issued has its one approval, whose person the approvals
+/// item of a statement, and the first items of one; what a crash may leave of each; a run, and what a crash may leave
+/// of one that has met no fault. So does one after another. A book that was empty, and whose trail was always kept, has
+/// all that is said above of runs: its trail fits, each payment issued has its one approval, whose person the approvals
 /// name, and the acts of each matter that is not gone make it again. One that is older than its acts has it of what was
 /// not done before.
 pub fn trails_are_kept()

@@ -37,14 +37,14 @@
 //!   matter's acts fit its rows (`HasItsTrail` of `firm_audit`). It is so after all runs of a book that was empty
 //!   (`begun`), and of one that is older than its acts (`older`). So `audit_trail` finds a flaw only in a book that
 //!   something else wrote (`flawed_is_no_trail` of `firm_audit`).
-//! - `laws` `trails_are_kept`: **whatever the desk does in a sound firm keeps the trail**: a request, message or record,
-//!   whatever stopped it (`steps`), an item of a statement and the first items of one (`items`, `first_items`), what a
-//!   crash may leave of each (`stops`), a run (`runs`), and what a crash may leave of a run that has met no fault before
-//!   its last reply (`run_stops`). To keep it is to go on with what was so before: that the
-//!   trail fits, that each matter's dossier is signed from where its acts began, that its acts are complete, and that
-//!   they make it again. One thing after another keeps it too (`unchanged`, `onward`), as do the runs of the program
-//!   (`trail` of `RanAtPath` in `cashier`). A book that was empty and whose trail was always kept has all that is said
-//!   above of runs (`begun`), and one that is older than its acts has it of what was not done before (`older`).
+//! - `laws` `trails_are_kept`: **whatever the desk does in a sound firm keeps the trail**: a request, message or
+//!   record, whatever stopped it (`steps`), an item of a statement and the first items of one (`items`, `first_items`),
+//!   what a crash may leave of each (`stops`), a run (`runs`), and what a crash may leave of a run that has met no
+//!   fault before its last reply (`run_stops`). To keep it is to go on with what was so before: that the trail fits,
+//!   that each matter's dossier is signed from where its acts began, that its acts are complete, and that they make it
+//!   again. One thing after another keeps it too (`unchanged`, `onward`), as do the runs of the program (`trail` of
+//!   `RanAtPath` in `cashier`). A book that was empty and whose trail was always kept has all that is said above of
+//!   runs (`begun`), and one that is older than its acts has it of what was not done before (`older`).
 #![tactic(auto)]
 
 pub mod laws;
