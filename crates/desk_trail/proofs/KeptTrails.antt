@@ -91,22 +91,21 @@ run-left day firm mid found (h ∷ hs) front rest replies sound parts run plain 
 run-left day firm mid found (h ∷ hs) front rest [] sound parts run plain long (inr later) = absurd (omega arith)
 run-left day firm mid found (h ∷ []) front rest (r ∷ []) sound parts run plain long (inr later) = absurd later
 run-left day firm mid found (h ∷ k ∷ hs) front rest (r ∷ []) sound parts run plain long (inr later) = absurd (omega arith)
-run-left day firm mid found (h ∷ hs) front rest (r ∷ next ∷ replies) sound parts run plain long (inr later) =
-    more front parts
-    (subst (λ fault. RunsSoundly day firm front (if fault then [] else r ∷ before_fault (next ∷ replies)) mid) plain.0 run)
-  where
-    more : (front : List Heard) → front ++ rest ≡ h ∷ hs
-        → RunsSoundly day firm front (r ∷ before_fault (next ∷ replies)) mid → KeepsTrail firm found
-    more [] parts run = absurd run
-    more (g ∷ front) parts run =
-        let same : g ≡ h = cc in
-        let behind : front ++ rest ≡ hs = cc in
-        let step : Steps day firm h r run.0 = subst (λ x. Steps day firm x r run.0) same run.1 in
-        let is = plain-step day firm run.0 h r plain.0 step in
-        let shorter : length (next ∷ replies) ≡ length hs = omega arith in
-        let left = subst (λ (f : Firm). IsMadeInRun day f hs found) (sym is) later in
-        onward firm run.0 found (steps-keep_trails day firm run.0 h r sound step)
-        (run-left day run.0 mid found hs front rest (next ∷ replies) run.2 behind run.3 plain.1 shorter left)
+run-left day firm mid found (h ∷ hs) [] rest (r ∷ next ∷ replies) sound parts run plain long (inr later) =
+    let replied = before_fault (next ∷ replies) in
+    absurd (subst (λ fault. RunsSoundly day firm [] (if fault then [] else r ∷ replied) mid) plain.0 run)
+run-left day firm mid found (h ∷ hs) (g ∷ front) rest (r ∷ next ∷ replies) sound parts run plain long (inr later) =
+    let replied = before_fault (next ∷ replies) in
+    let ran : RunsSoundly day firm (g ∷ front) (r ∷ replied) mid =
+    subst (λ fault. RunsSoundly day firm (g ∷ front) (if fault then [] else r ∷ replied) mid) plain.0 run in
+    let same : g ≡ h = cc in
+    let behind : front ++ rest ≡ hs = cc in
+    let step : Steps day firm h r ran.0 = subst (λ x. Steps day firm x r ran.0) same ran.1 in
+    let is = plain-step day firm ran.0 h r plain.0 step in
+    let shorter : length (next ∷ replies) ≡ length hs = omega arith in
+    let left = subst (λ (f : Firm). IsMadeInRun day f hs found) (sym is) later in
+    onward firm ran.0 found (steps-keep_trails day firm ran.0 h r sound step)
+    (run-left day ran.0 mid found hs front rest (next ∷ replies) ran.2 behind ran.3 plain.1 shorter left)
 
 pub run-stops_keep_trails : RunStopsKeepTrails
 run-stops_keep_trails day firm mid found front rest replies sound run plain long made =
