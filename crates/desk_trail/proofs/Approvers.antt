@@ -2,12 +2,11 @@
 use Rattle.std.proofs.Common.{◌≡◌, inl, ℕ, Bool, true, false, cond, ◌&&◌, ◌==◌, List, [], ◌∷◌, ◌++◌, map, filter, fold, Option, Some, None, refl, sym, ap, ◌∙◌, arith}
 use Rattle.std.proofs.lemmas.Bool.Decides.{nat_tests}
 use Rattle.std.proofs.lemmas.List.Sums.{fold-append}
-use Rattle.trust_base.specs.Periods.{Span}
 use Rattle.matter_rows.specs.declared.act.Act.{Act}
 use Rattle.matter_rows.specs.declared.act.Caller.{Caller}
 use Rattle.matter_rows.specs.declared.seat.Seat.{Seat}
 use Rattle.matter_rows.specs.Rows.{entry_at, is_number}
-use Rattle.trail_laws.specs.Signed.{IsApprovedOnce, approves, beginning_of, days_of_approval, days_of_issue, is_approval}
+use Rattle.trail_laws.specs.Signed.{IsApprovedOnce, approves, beginning_of, days_of_approval, days_of_issue}
 use Rattle.firm_rows.specs.declared.matter_act.MatterAct.{MatterAct}
 use Rattle.firm_rows.proofs.Kept.{empty-sound}
 use Rattle.firm_rows.specs.Firm.{Firm, acts_of, empty_firm, of}

@@ -1,5 +1,5 @@
 -- Each run keeps the acts of each matter fitting its rows, and so the trail of the firm passes its audit.
-use Rattle.std.proofs.Common.{ℕ, inl, refl, ap}
+use Rattle.std.proofs.Common.{inl, refl, ap}
 use Rattle.firm_audit.specs.Trails.{acts_among}
 use Rattle.firm_rows.proofs.Kept.{empty-sound}
 use Rattle.firm_rows.specs.Firm.{empty_firm, of}

@@ -7,15 +7,13 @@ use Rattle.std.specs.List.{AllByRecursion}
 use Rattle.matter_rows.specs.Rows.{entry_at, is_gone}
 use Rattle.matter_rows.specs.Sound.{IsHeaded, Sound}
 use Rattle.matter_rows.specs.declared.act.Act.{Act}
-use Rattle.matter_rows.specs.declared.entry.Entry.{Entry}
 use Rattle.matter_rows.specs.declared.head.Head.{Head}
-use Rattle.trust_matter.specs.Laws.{Doing}
 use Rattle.firm_rows.proofs.Ordered.{all-append}
-use Rattle.trail_laws.specs.Dossier.{Dossier, dossier_after_step}
-use Rattle.trail_laws.specs.Signed.{Beginning, IsSigned, approves, begins_with_opening, days_of_approval, days_of_issue, nothing_before}
+use Rattle.trail_laws.specs.Dossier.{Dossier}
+use Rattle.trail_laws.specs.Signed.{IsSigned, approves, begins_with_opening, days_of_approval, days_of_issue, nothing_before}
 use Rattle.trail_laws.proofs.Growing.{Adds, AreBare, signed-bare, signed-more}
 use Rattle.trail_laws.proofs.Steps.{step-adds}
-use Rattle.firm_audit.specs.Trails.{AreOfEntries, IsApprovedAs, IsSignedFrom, IsTrailOf, IsTrailWhere, MayBeAllowed}
+use Rattle.firm_audit.specs.Trails.{IsApprovedAs, IsSignedFrom, IsTrailOf, IsTrailWhere, MayBeAllowed}
 use Rattle.desk_trail.proofs.FittingActs.{AreFitting, AtMostOne, all-or-none, entry-once, may-be-allowed, none-fit, signed-later, steps-fit}
 use Rattle.desk_trail.proofs.KeptRuns.{StepsKeep}
 

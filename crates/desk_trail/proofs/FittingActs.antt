@@ -7,7 +7,6 @@ use Rattle.std.specs.Option.{option_map}
 use Rattle.std.specs.Prelude.{flat_map, fold, is_some, option_to_list}
 use Rattle.trust_base.specs.declared.refusal.Refusal.{Refusal}
 use Rattle.matter_rows.specs.Rows.{Rows, entry_at, is_gone}
-use Rattle.matter_rows.specs.Sound.{Sound}
 use Rattle.matter_rows.specs.declared.act.Act.{Act}
 use Rattle.matter_rows.specs.declared.act.Deed.{Deed}
 use Rattle.matter_rows.specs.declared.act.Deed.TheVariants as deed

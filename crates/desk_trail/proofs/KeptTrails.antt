@@ -24,7 +24,7 @@ use Rattle.desk_trail.proofs.KeptRuns.{StepsKeep, items-keep, left-keeps, runs-k
 use Rattle.desk_trail.proofs.ListedPayments.{of-entry}
 use Rattle.desk_trail.proofs.ReplayedRuns.{steps-complete, steps-replayed}
 use Rattle.desk_trail.proofs.SignedRuns.{either, empty-signed, issued-since, older-firms_are_signed, steps-signed}
-use Rattle.desk_trail.specs.KeptTrails.{BegunTrailsAreWhole, FirstItemsKeepTrails, HasLaterTrail, HasWholeTrail, ItemsKeepTrails, KeepsTrail, OlderTrailsAreKept, RunStopsKeepTrails, RunsKeepTrails, StepsKeepTrails, StopsKeepTrails, TrailsGoOn, UnchangedKeepTrails}
+use Rattle.desk_trail.specs.KeptTrails.{BegunTrailsAreWhole, FirstItemsKeepTrails, ItemsKeepTrails, KeepsTrail, OlderTrailsAreKept, RunStopsKeepTrails, RunsKeepTrails, StepsKeepTrails, StopsKeepTrails, TrailsGoOn, UnchangedKeepTrails}
 use Rattle.desk_trail.specs.SignedRuns.{IsSignedSince}
 
 -- What keeps it.

@@ -2,7 +2,6 @@
 use Rattle.std.proofs.Common.{◌≡◌, inl, inr, ℕ, List, [], ◌∷◌, Option, Some, None, refl, sym, ap, ◌∙◌, subst}
 use Rattle.trust_base.specs.declared.refusal.Refusal.{Refusal}
 use Rattle.matter_rows.specs.declared.act.Act.{Act}
-use Rattle.matter_rows.specs.declared.entry.Entry.{Entry}
 use Rattle.matter_rows.specs.Rows.{entry_at}
 use Rattle.matter_rows.specs.Sound.{Sound}
 use Rattle.matter_parts.specs.declared.edit.Edit.{Edit}
@@ -11,7 +10,7 @@ use Rattle.trust_matter.specs.Facts.{Asked}
 use Rattle.trust_matter.specs.Laws.{Doing, AnAsk, ALine}
 use Rattle.trust_matter.specs.Step.{edit_on, refusal}
 use Rattle.firm_rows.proofs.Kept.{empty-sound}
-use Rattle.firm_rows.specs.Firm.{Firm, acts_of, empty_firm, of}
+use Rattle.firm_rows.specs.Firm.{Firm, empty_firm, of}
 use Rattle.trail_laws.proofs.Added.{dossier-by}
 use Rattle.trail_laws.specs.Dossier.{Dossier, dossier_after_step}
 use Rattle.trail_laws.specs.Signed.{Beginning, IsSigned, beginning_of, begun_after, days_of_issue, nothing_before}
