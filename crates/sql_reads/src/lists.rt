@@ -2,14 +2,14 @@
 // nothing, the balances that the bank reported, the acts and the dismissals. Each is passed to a sink one row at a
 // time; the ledger is also read at once, and a single balance by its kind and day.
 
-ghost use Rattle.std.specs.Prelude.{◌≡◌, ◌≢◌, ℤ, false, List, [], ◌∷◌, ◌++◌, map, IfOk, IfErr, OnOk};
+ghost use Rattle.std.specs.Prelude.{◌≡◌, ◌≢◌, ℤ, ◌+ℤ◌, Err, false, List, [], ◌∷◌, ◌++◌, map, IfOk, IfErr, OnOk};
 ghost use Rattle.sqlite_value.specs.declared.value.Value.TheVariants.{Int};
 ghost use Rattle.sqlite_value.specs.Order.{column};
 ghost use Rattle.sqlite.specs.Held.{state};
 ghost use Rattle.sqlite.specs.State.{HasCleanDisk};
 ghost use Rattle.trust_base.specs.Limits.{IsBankAmount};
 ghost use Rattle.firm_rows.specs.Countable.{IsActInRange};
-ghost use Rattle.firm_rows.specs.FirmLines.{kept_balance};
+ghost use Rattle.firm_rows.specs.FirmLines.{IsOwnBalance, balance_of, kept_balance};
 ghost use Rattle.firm_rows.specs.Handing.{AreHanded};
 ghost use Rattle.trust_store.specs.MatterActs.{acts_in};
 ghost use Rattle.sql_schema.specs.declared.layout.Layout.{Layout};
@@ -282,9 +282,10 @@ pub fn each_act_of<S: Alter, K: ActSink>(
     hand_rows(conn, ACTS_OF, &key, &StoredActs { alloc }, sink).and(Ok(()))
 }
 
-// Adds a line. Returns `Store` if the lines would add up to a balance that the firm may not have.
+// Adds a line. Returns `Store` if the lines would add up to a balance that the firm may not have, and never else.
 fn add_within(ledger: &mut FirmLedger, line: FirmLine) -> Result<(), StoreFault>
-    ensures { OnOk result (ledger.new ≡ ledger.old ++ line ∷ []) }
+    ensures added { OnOk result (ledger.new ≡ ledger.old ++ line ∷ []) }
+    ensures outside { result ≡ Err StoreFault.Store → ¬ IsOwnBalance (balance_of ledger.old +ℤ line.amount) }
 {
     let balance = ledger.balance() + line.amount.get();
     if balance < 0 || balance > MAX_OWN as i64 {
