@@ -2,11 +2,14 @@
 //!
 //! Clients are served in virtual time. A book in memory answers on several days as the program does over a file. A book
 //! refuses a write, a reader and a writer fail. Calls that the program does not make are made: of figures of rows in
-//! memory, of a run, and of the items of a statement.
+//! memory, of a run, of the items of a statement, of a book in a database in memory, and of what is left of a fee. The
+//! book, the reader and the writer that fail are for other tests too.
 #![tactic(auto)]
 
 #[cfg(test)]
 mod answers;
+#[cfg(test)]
+mod books;
 #[cfg(test)]
 mod calls;
 #[cfg(test)]
@@ -21,7 +24,8 @@ mod figures;
 mod messages;
 #[cfg(test)]
 mod refused;
-#[cfg(test)]
 mod refusing;
-#[cfg(test)]
 mod trial;
+
+pub use refusing::RefusingBook;
+pub use trial::{TrialReader, TrialWriter};

@@ -45,6 +45,12 @@ pub(crate) const APPROVE: &str = concat!(
     r#"{}"#
 );
 
+/// The lawyer earns a fee of 100.00 as the matter's second entry.
+pub(crate) const FEE: &str = concat!(
+    "POST /matters/000001/entries/0002/fee HTTP/1.1\r\nx-caller: lee\r\ncontent-length: 43\r\n\r\n",
+    r#"{"amount":"100.00","description":"January"}"#
+);
+
 /// The cashier opens matter 000002 for Zoé Roth with the same lawyer.
 pub(crate) const OPEN_OTHER: &str = concat!(
     "POST /matters/000002/open HTTP/1.1\r\nx-caller: cashier\r\ncontent-length: 37\r\n\r\n",
