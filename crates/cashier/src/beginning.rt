@@ -56,16 +56,28 @@ pub fn tell_of_new_book<M: Remarks>(remarks: &M, plan: &Plan<'_>, path: &str, fo
     let told = match found {
         Presence::Missing => BookRemark::New,
         Presence::Empty => BookRemark::Emptied,
-        Presence::There => return,
+        Presence::TwoNames | Presence::There => return,
     };
     remarks.tell(&Remark::Book { path, told });
 }
 
-/// Reports why no book is available at a path, unless memory ran out.
-pub fn tell_of_no_book<M: Remarks>(remarks: &M, plan: &Plan<'_>, path: &str, why: NoBook) {
+/// Reports why no book is available at a path where this was found, unless memory ran out. A store opens no file that
+/// has a second name.
+pub fn tell_of_no_book<M: Remarks>(
+    remarks: &M,
+    plan: &Plan<'_>,
+    path: &str,
+    found: Presence,
+    why: NoBook,
+) {
     if plan.is_quiet || why == NoBook::Memory {
         return;
     }
-    let told = BookRemark::NoBook(why);
+    let told = match found {
+        Presence::TwoNames if why == NoBook::Unopened => BookRemark::TwoNames,
+        Presence::TwoNames | Presence::Missing | Presence::Empty | Presence::There => {
+            BookRemark::NoBook(why)
+        }
+    };
     remarks.tell(&Remark::Book { path, told });
 }

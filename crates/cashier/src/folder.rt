@@ -21,6 +21,8 @@ pub enum Presence {
     Missing,
     /// An empty file.
     Empty,
+    /// A file that has a second name, by a hard link.
+    TwoNames,
     /// Something else, or it can't be found out.
     There,
 }

@@ -13,6 +13,7 @@ use std::fmt::Write;
 use std::fs::{self, OpenFile};
 use std::io::{self, ErrorKind};
 use std::net::Net;
+use std::os::unix::fs::MetadataExt;
 use std::process::ExitCode;
 use std::rt::{Clock, Env, Files};
 use trust_store::Stores;
@@ -41,6 +42,7 @@ impl<R: Files> Folder for SystemFiles<'_, R> {
 
     fn presence(&self, path: &str) -> Presence {
         match fs::metadata(self.rt, path) {
+            Ok(metadata) if metadata.is_file() && metadata.nlink() > 1 => Presence::TwoNames,
             Ok(metadata) if metadata.is_file() && metadata.len() == 0 => Presence::Empty,
             Err(error) if error.kind() == ErrorKind::NotFound => Presence::Missing,
             Ok(_) | Err(_) => Presence::There,

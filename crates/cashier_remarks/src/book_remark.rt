@@ -11,6 +11,8 @@ pub enum BookRemark {
     Emptied,
     /// No book is available.
     NoBook(NoBook),
+    /// No book is available, since its file has a second name, by a hard link.
+    TwoNames,
     /// Its store failed, but each row of it can be read.
     AllRead,
     /// It could not be put into its file.
@@ -45,6 +47,10 @@ impl BookRemark {
                 "could not be read or written: look at the disk, and whether it is full"
             }
             BookRemark::NoBook(NoBook::Memory) => "could not be opened for want of memory",
+            BookRemark::TwoNames => {
+                "can't be opened: the file has a second name (a hard link, or a restore that was stopped): remove \
+                that name"
+            }
             BookRemark::AllRead => {
                 "can be read, each row of it: look whether the disk is full, then run check"
             }

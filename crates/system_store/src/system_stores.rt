@@ -16,8 +16,10 @@ use sql_reads::fault_of;
 use sqlite::{Connection, Error, ErrorCode, FileFrom, FileStore, Files, Start, Unknown};
 use sqlite_disk::Disk;
 use std::alloc::{AllocError, Global};
-use std::fs;
-use std::io::ErrorKind;
+use std::fs::{self, File, OpenOptions};
+use std::io::{self, ErrorKind};
+use std::os::unix::fs::{MetadataExt, OpenOptionsExt};
+use std::path::PathBuf;
 use trust_base::StoreFault;
 use trust_store::{NoBook, Stores};
 
@@ -34,10 +36,10 @@ pub type SystemFile = FileWith<Unknown>;
 /// The books of the system, each in the database file at its path. Its calls are `book_at` and `copied`, which
 /// promise what `Stores` requires, whatever the files hold; here the contents are not known.
 ///
-/// A missing or empty file gets a book without rows, unless the log beside it has changes: then the book is gone, and
-/// neither is touched. A file that holds a book gives that book. While a book is in use
-/// its file is locked, and another run over it gets a fault of the store. A book that was put back is in its file
-/// alone. One that was not, because the run was broken off, is in the file and the log together, and the next run
+/// A path that is a link stands for the file that it leads to. A missing or empty file gets a book without rows, unless
+/// the log beside it has changes: then the book is gone, and neither is touched. A file that holds a book gives that
+/// book. While a book is in use its file is locked, and another run over it gets a fault of the store. A file in whose
+/// place another was put before it was locked is not used. A book that was put back is in its file alone. One that was not, because the run was broken off, is in the file and the log together, and the next run
 /// finds it there (`laws`).
 #[derive(Clone, Copy)]
 pub struct SystemStores<'a> {
@@ -92,8 +94,87 @@ fn why_untaken(fault: OpenFault) -> NoBook
     }
 }
 
+// Where the links of a path lead. None if nothing is there, or if it can't be found out: the store then says why.
+fn real_path(rt: &HostRuntime, path: &str) -> Result<Option<PathBuf>, NoBook> {
+    match fs::canonicalize(rt, path) {
+        Ok(real) => Ok(Some(real)),
+        Err(error) if error.kind() == ErrorKind::OutOfMemory => Err(NoBook::Memory),
+        Err(_) => Ok(None),
+    }
+}
+
+// Whether a path has no file, or an empty one, while the log beside it has changes. A log without changes is shorter
+// than the heads of a log and of its first page.
+fn is_log_alone(alloc: Global, rt: &HostRuntime, path: &str) -> Result<bool, AllocError> {
+    let is_missing = match fs::metadata(rt, path) {
+        Ok(file) => file.is_file() && file.len() == 0,
+        Err(error) => error.kind() == ErrorKind::NotFound,
+    };
+    if !is_missing {
+        return Ok(false);
+    }
+    let log = format!(in alloc; "{path}-wal")?;
+    match fs::metadata(rt, &log) {
+        Ok(file) => Ok(file.is_file() && file.len() > LOG_HEADS),
+        Err(_) => Ok(false),
+    }
+}
+
+// Whether the store refuses a name, which SQLite takes for something else than a file.
+fn is_no_path(path: &str) -> bool {
+    path == ":memory:" || path.starts_with("file:")
+}
+
+// Makes an empty file at a path, with the permissions that the store gives to a file that it makes.
+fn made_at(rt: &HostRuntime, path: &str) -> io::Result<File> {
+    let mut options = OpenOptions::new();
+    options.read(true).write(true).create_new(true).mode(0o644);
+    options.open(rt, path)
+}
+
+// The file at a path without links, or a new one, held open so that no other file gets its number. None if it can't be
+// had: then the store says why.
+fn file_at(rt: &HostRuntime, path: &str) -> Option<File> {
+    match fs::symlink_metadata(rt, path) {
+        Ok(found) if found.is_file() => File::open(rt, path).ok(),
+        Err(error) if error.kind() == ErrorKind::NotFound && !is_no_path(path) => {
+            made_at(rt, path).ok()
+        }
+        Ok(_) | Err(_) => None,
+    }
+}
+
+// Whether a path names this file.
+fn names(rt: &HostRuntime, path: &str, file: &File) -> bool {
+    match (file.metadata(), fs::symlink_metadata(rt, path)) {
+        (Ok(held), Ok(named)) => held.dev() == named.dev() && held.ino() == named.ino(),
+        (Ok(_) | Err(_), Ok(_) | Err(_)) => false,
+    }
+}
+
+// Opens a connection to the database file at a path without links. What is at the path is looked at before the file is
+// locked and again behind that, so that nobody who put another file in its place meanwhile loses what is booked.
+fn connection_there<T: Start>(
+    rt: &HostRuntime,
+    path: &str,
+    start: T,
+) -> Result<Connection<FileWith<T>>, NoBook>
+    ensures mode { IfOk result (λ conn. conn.in_transaction ≡ false) }
+    ensures opened { IfOk result (λ conn. HasCleanDisk (file_state conn) → IsOpened conn) }
+    ensures found { IfOk result (λ conn. HasCleanDisk (file_state conn)
+        → FindsIn (image_at T.Start) (file_state conn)) }
+{
+    let held = file_at(rt, path);
+    let conn = connection_at(rt, path, start)?;
+    match held {
+        Some(file) if names(rt, path, &file) => Ok(conn),
+        Some(_) | None => Err(NoBook::InUse),
+    }
+}
+
 /// Opens the book at a path whose files hold what `start` stands for: the book that they hold, or a new one without
-/// rows if they hold no table. The error says why there is no usable book.
+/// rows if they hold no table. The error says why there is no usable book: `LogAlone` if there is no book at the path,
+/// but changes of one in the log beside it; `InUse` also if the file was replaced while it was opened.
 pub fn book_at<T: Start>(
     alloc: Global,
     rt: &HostRuntime,
@@ -102,7 +183,14 @@ pub fn book_at<T: Start>(
 ) -> Result<SqlBook<FileWith<T>>, NoBook>
     ensures had { IfOk result (IsHad (image_at T.Start)) }
 {
-    let conn = connection_at(rt, path, start)?;
+    let real = real_path(rt, path)?;
+    let path = real.as_ref().map_or(path, PathBuf::as_str);
+    match is_log_alone(alloc, rt, path) {
+        Ok(true) => return Err(NoBook::LogAlone),
+        Ok(false) => {}
+        Err(_) => return Err(NoBook::Memory),
+    }
+    let conn = connection_there(rt, path, start)?;
     match SqlBook::adopt(alloc, conn) {
         Ok(book) => Ok(book),
         Err((OpenFault::NotABook, conn)) => match SqlBook::make(alloc, conn) {
@@ -129,23 +217,6 @@ pub fn copied<D: Disk + Drop>(conn: Connection<FileStore<D>>) -> Result<Files<D>
     }
 }
 
-// Whether a path has no file, or an empty one, while the log beside it has changes. A log without changes is shorter
-// than the heads of a log and of its first page.
-fn is_log_alone(alloc: Global, rt: &HostRuntime, path: &str) -> Result<bool, AllocError> {
-    let is_missing = match fs::metadata(rt, path) {
-        Ok(file) => file.is_file() && file.len() == 0,
-        Err(error) => error.kind() == ErrorKind::NotFound,
-    };
-    if !is_missing {
-        return Ok(false);
-    }
-    let log = format!(in alloc; "{path}-wal")?;
-    match fs::metadata(rt, &log) {
-        Ok(file) => Ok(file.is_file() && file.len() > LOG_HEADS),
-        Err(_) => Ok(false),
-    }
-}
-
 impl Stores for SystemStores<'_> {
     type AtPath = SqlBook<SystemFile>;
 
@@ -154,11 +225,7 @@ impl Stores for SystemStores<'_> {
     ghost puts = { λ _ book answer. OnOk answer (IsPutBack book) };
 
     fn at(&self, alloc: Global, path: &str) -> Result<SqlBook<SystemFile>, NoBook> {
-        match is_log_alone(alloc, self.rt, path) {
-            Ok(true) => Err(NoBook::LogAlone),
-            Ok(false) => book_at(alloc, self.rt, path, Unknown),
-            Err(_) => Err(NoBook::Memory),
-        }
+        book_at(alloc, self.rt, path, Unknown)
     }
 
     fn put_back(&self, book: SqlBook<SystemFile>) -> Result<(), StoreFault> {
