@@ -1,13 +1,30 @@
 -- One read of a book after another.
-use Rattle.std.specs.Prelude.{◌≡◌, List, Result, Ok, Err}
-use Rattle.std.proofs.Common.{subst}
+use Rattle.std.specs.Prelude.{◌≡◌, ℕ, List, Result, Ok, Err}
+use Rattle.std.proofs.Common.{ap, subst, ◌∙◌}
 use Rattle.trust_base.specs.declared.refusal.StoreFault.TheVariants as faults
 use Rattle.book_reports.proofs.Names.{AreHanded, Firm, Seen, StoreFault, IsRead, arith, counted, ints, nat_tests}
-use Rattle.book_reports.specs.Checking.{AreReads}
+use Rattle.book_reports.specs.Checking.{AreReads, IsRaisedBy}
+
+-- a read takes no fault off the count
+counts-read : {T : Type 0} (result : Result T StoreFault) (before after : ℕ) → after ≡ counted result before → IsRaisedBy 0 before after
+counts-read (Ok x) before after is = omega arith
+counts-read (Err faults.Store) before after is = omega arith
+counts-read (Err faults.Memory) before after is = omega arith
+
+-- and one that was refused adds one
+counts-refused : {T : Type 0} (result : Result T StoreFault) (before after : ℕ) → after ≡ counted result before → result ≡ Err faults.Store
+    → IsRaisedBy 1 before after
+counts-refused result before after is refused =
+    let one : after ≡ counted (Err faults.Store) before = is ∙ ap (λ r. counted r before) refused in
+    omega (arith, one)
+
+pub refused_read : {T : Type 0} {result : Result T StoreFault} {old new : Seen} → IsRead result old new → result ≡ Err faults.Store
+    → IsRaisedBy 1 old.refusals new.refusals
+refused_read {result} {old} {new} read refused = counts-refused result old.refusals new.refusals read.count refused
 
 -- a read is a series of reads
 pub reads_of_read : {T : Type 0} {result : Result T StoreFault} {old new : Seen} → IsRead result old new → AreReads old new
-reads_of_read {new} read = record { same = read.same; was_clean = read.was_clean; was_sure = read.was_sure; still_stands = read.still_stands; still_lasts = read.still_lasts; crash = λ clean stands. read.crash (new.clean_is_sure clean) stands }
+reads_of_read {result} {old} {new} read = record { same = read.same; was_clean = read.was_clean; was_sure = read.was_sure; still_stands = read.still_stands; still_lasts = read.still_lasts; crash = λ clean stands. read.crash (new.clean_is_sure clean) stands; counts = counts-read result old.refusals new.refusals read.count }
 
 -- a read after another
 pub read-then : {T U : Type 0} {x : T} {result : Result U StoreFault} {old now new : Seen}

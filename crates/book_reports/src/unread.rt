@@ -1,7 +1,7 @@
 //! Finds out which row of a book can't be read.
 
-ghost use Rattle.std.specs.Prelude.{OnOk};
-ghost use Rattle.book_reports.specs.Checking.{AreReads};
+ghost use Rattle.std.specs.Prelude.{◌≡◌, false, Err, IfOk, IfSome, OnOk};
+ghost use Rattle.book_reports.specs.Checking.{AreReads, IsRaisedBy, IsRefusedAlone};
 ghost use Rattle.trust_store.specs.Calls.{IsRead};
 
 use firm_rows::{
@@ -169,7 +169,9 @@ impl DismissalSink for RowsSeen {
 }
 
 // Whether a read succeeded. Out of memory is passed on as an error.
-fn is_answered<T: Drop>(read: Result<T, StoreFault>) -> Result<bool, StoreFault> {
+fn is_answered<T: Drop>(read: Result<T, StoreFault>) -> Result<bool, StoreFault>
+    ensures { IfOk result (λ answered. answered ≡ false → read ≡ Err StoreFault.Store) }
+{
     match read {
         Ok(_) => Ok(true),
         Err(StoreFault::Store) => Ok(false),
@@ -180,7 +182,9 @@ fn is_answered<T: Drop>(read: Result<T, StoreFault>) -> Result<bool, StoreFault>
 // Whether the rows of a matter are the whole of sound ones.
 #[tactic(auto, using(crate::proofs::ReadCalls::reads_of_read))]
 fn is_whole<B: Book>(alloc: Global, book: &mut B, matter: MatterNo) -> Result<bool, StoreFault>
-    ensures { AreReads (B.seen book.old) (B.seen book.new) }
+    ensures reads { AreReads (B.seen book.old) (B.seen book.new) }
+    ensures refused { IfOk result (λ whole. whole ≡ false
+        → IsRaisedBy 1 (B.seen book.old).refusals (B.seen book.new).refusals) }
 {
     let read = book.matter(alloc, matter);
     is_answered(read)
@@ -189,7 +193,9 @@ fn is_whole<B: Book>(alloc: Global, book: &mut B, matter: MatterNo) -> Result<bo
 // Whether the head and the seats of a matter can be read.
 #[tactic(auto, using(crate::proofs::ReadCalls::reads_of_read))]
 fn has_front<B: Book>(alloc: Global, book: &mut B, matter: MatterNo) -> Result<bool, StoreFault>
-    ensures { AreReads (B.seen book.old) (B.seen book.new) }
+    ensures reads { AreReads (B.seen book.old) (B.seen book.new) }
+    ensures refused { IfOk result (λ whole. whole ≡ false
+        → IsRaisedBy 1 (B.seen book.old).refusals (B.seen book.new).refusals) }
 {
     let read = book.matter_for(alloc, matter, None, None);
     is_answered(read)
@@ -220,7 +226,8 @@ fn unread_row<B: Book>(
     book: &mut B,
     seen: &mut MattersSeen,
 ) -> Result<Option<Unread>, StoreFault>
-    ensures { AreReads (B.seen book.old) (B.seen book.new) }
+    ensures reads { AreReads (B.seen book.old) (B.seen book.new) }
+    ensures refused { IfOk result (λ row. IfSome row (IsRefusedAlone (B.seen book.old) (B.seen book.new))) }
 {
     let read = book.each_row(seen);
     if is_answered(read)? {
@@ -238,7 +245,8 @@ fn unread_matter<B: Book>(
     book: &mut B,
     matters: &[MatterNo],
 ) -> Result<Option<Unread>, StoreFault>
-    ensures { AreReads (B.seen book.old) (B.seen book.new) }
+    ensures reads { AreReads (B.seen book.old) (B.seen book.new) }
+    ensures refused { IfOk result (λ row. IfSome row (IsRefusedAlone (B.seen book.old) (B.seen book.new))) }
 {
     for matter in matters {
         if !is_whole(alloc, book, *matter)? {
@@ -250,7 +258,8 @@ fn unread_matter<B: Book>(
 
 // Returns which part of the matters can't be read, if any.
 fn unread_of_matters<B: Book>(alloc: Global, book: &mut B) -> Result<Option<Unread>, StoreFault>
-    ensures { AreReads (B.seen book.old) (B.seen book.new) }
+    ensures reads { AreReads (B.seen book.old) (B.seen book.new) }
+    ensures refused { IfOk result (λ row. IfSome row (IsRefusedAlone (B.seen book.old) (B.seen book.new))) }
 {
     let mut seen = MattersSeen::new(alloc);
     if let Some(unread) = unread_row(alloc, book, &mut seen)? {
@@ -263,7 +272,8 @@ fn unread_of_matters<B: Book>(alloc: Global, book: &mut B) -> Result<Option<Unre
 // dismissals can't be read.
 #[tactic(auto, using(crate::proofs::ReadCalls::reads_of_read))]
 fn unread_of_firm<B: Book>(book: &mut B) -> Result<Unread, StoreFault>
-    ensures { AreReads (B.seen book.old) (B.seen book.new) }
+    ensures reads { AreReads (B.seen book.old) (B.seen book.new) }
+    ensures refused { IfOk result (IsRefusedAlone (B.seen book.old) (B.seen book.new)) }
 {
     let mut seen = RowsSeen::new();
     if !is_answered(book.each_movement(&mut seen))? {
@@ -294,7 +304,8 @@ fn unread_of_firm<B: Book>(book: &mut B) -> Result<Unread, StoreFault>
 
 // Returns which part of a book can't be read.
 fn unread_in<B: Book>(alloc: Global, book: &mut B) -> Result<Unread, StoreFault>
-    ensures { AreReads (B.seen book.old) (B.seen book.new) }
+    ensures reads { AreReads (B.seen book.old) (B.seen book.new) }
+    ensures refused { IfOk result (IsRefusedAlone (B.seen book.old) (B.seen book.new)) }
 {
     match unread_of_matters(alloc, book)? {
         Some(unread) => Ok(unread),
@@ -326,12 +337,14 @@ fn ask_again<B: Book>(
 }
 
 /// Returns which part of a book can't be read on a business day, after `check` returned `Store`: the first row that a
-/// separate read does not pass on, or the first matter that it does not return. The book is unchanged.
+/// separate read does not pass on, or the first matter that it does not return. So a row or a matter is named only if
+/// the book refused to read it by itself. The book is unchanged.
 ///
 /// Returns `Store` if the book's store does not work, which one more read shows, and `Memory` if memory ran out.
 #[tactic(auto, using(crate::proofs::ReadCalls::reads_of_read))]
 pub fn find_unread<B: Book>(alloc: Global, book: &mut B, day: Day) -> Result<Unread, StoreFault>
     ensures reads { AreReads (B.seen book.old) (B.seen book.new) }
+    ensures refused { IfOk result (IsRefusedAlone (B.seen book.old) (B.seen book.new)) }
     ensures serves { (B.seen book.new).sure → OnOk result (B.seen book.new).clean }
 {
     let unread = unread_in(alloc, book)?;

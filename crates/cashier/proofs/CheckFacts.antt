@@ -1,5 +1,5 @@
 -- What a check that was printed says of the firm, and what its reads leave of the book.
-use Rattle.cashier.proofs.Names.{◌≡◌, ◌⊎◌, Result, Err, Output, IfOk, OnOk, inl, inr, StoreFault, Firm, Seen, IsAny, KeepsBook, Outcome, arith, ints, nat_tests}
+use Rattle.cashier.proofs.Names.{◌≡◌, ◌⊎◌, ℕ, Result, Err, Output, IfOk, OnOk, inl, inr, StoreFault, Firm, Seen, IsAny, KeepsBook, Outcome, arith, ints, nat_tests}
 use Rattle.trust_base.specs.declared.refusal.StoreFault.TheVariants as faults
 use Rattle.book_reports.specs.Checking.{AreReads}
 use Rattle.cashier.specs.Check.{CheckEnds, IsCheckTrue, IsSaid, IsSaidRefused, IsSaidSound, IsSaidUnsound, IsTrueOf, IsUnsoundBy, PrintsCheck, found_outcome}
@@ -14,30 +14,34 @@ check-ends before after told output ended same (inl h) = record { firm = same; f
 check-ends before after told output ended same (inr h) = record { firm = same; found = Err faults.Memory; prints = h }
 
 -- what was called sound is
-said-sound : (firm : Firm) (told : Result CheckFound StoreFault) (output : Output) → IfOk told (IsTrueOf firm) → IsSaid told output
-    → IsSaidSound firm output
-said-sound firm told output x4 said = grind (arith, ints, nat_tests)
+said-sound : (firm : Firm) (before after : ℕ) (told : Result CheckFound StoreFault) (output : Output)
+    → IfOk told (IsTrueOf firm before after) → IsSaid told output → IsSaidSound firm output
+said-sound firm before after told output x4 said = grind (arith, ints, nat_tests)
 
 -- a flaw that was printed is there
-unsound-by : (firm : Firm) (told : CheckFound) → IsTrueOf firm told → found_outcome told ≡ outcome.Refused → IsUnsoundBy firm told
-unsound-by firm (found.Sound counts trail) is refused = absurd (cc)
-unsound-by firm (found.Amiss counts flaw) is refused = is
-unsound-by firm (found.Flawed flaw) is refused = is
-unsound-by firm (found.Unreadable row) is refused = tt
+unsound-by : (firm : Firm) (before after : ℕ) (told : CheckFound) → IsTrueOf firm before after told
+    → found_outcome told ≡ outcome.Refused → IsUnsoundBy firm before after told
+unsound-by firm before after (found.Sound counts trail) is refused = absurd (cc)
+unsound-by firm before after (found.Amiss counts flaw) is refused = is
+unsound-by firm before after (found.Flawed flaw) is refused = is
+unsound-by firm before after (found.Unreadable row) is refused = is
 
-said-unsound : (firm : Firm) (told : Result CheckFound StoreFault) (output : Output) → IfOk told (IsTrueOf firm) → IsSaidRefused told output
-    → IsSaidUnsound firm output
-said-unsound firm told output is said = record {
+said-unsound : (before after : Seen) (told : Result CheckFound StoreFault) (output : Output)
+    → IfOk told (IsTrueOf before.firm before.refusals after.refusals) → IsSaidRefused told output
+    → IsSaidUnsound before after output
+said-unsound before after told output is said = record {
   found = said.found;
   printed = said.printed;
-  unsound = unsound-by firm said.found (rw said.is at is) said.refused;
+  unsound = unsound-by before.firm before.refusals after.refusals said.found (rw said.is at is) said.refused;
 }
 
-pub check-true : (firm : Firm) (told : Result CheckFound StoreFault) (output : Output) (ended : Outcome) → IfOk told (IsTrueOf firm)
-    → (ended ≡ outcome.Done → IsSaid told output) → (ended ≡ outcome.Refused → IsSaidRefused told output) → IsCheckTrue firm output ended
-check-true firm told output ended is said refused = record {
-  sound = λ done. said-sound firm told output is (said done);
-  unsound = λ unsound. said-unsound firm told output is (refused unsound);
+pub check-true : (before after : Seen) (told : Result CheckFound StoreFault) (output : Output) (ended : Outcome)
+    → IfOk told (IsTrueOf before.firm before.refusals after.refusals)
+    → (ended ≡ outcome.Done → IsSaid told output) → (ended ≡ outcome.Refused → IsSaidRefused told output)
+    → IsCheckTrue before after output ended
+check-true before after told output ended is said refused = record {
+  sound = λ done. said-sound before.firm before.refusals after.refusals told output is (said done);
+  unsound = λ unsound. said-unsound before after told output is (refused unsound);
 }
 
 -- what was printed of an Ok

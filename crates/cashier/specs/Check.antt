@@ -1,5 +1,5 @@
 -- What a check of the book prints, and how it ends.
-use Rattle.std.specs.Prelude.{◌≡◌, ◌++◌, ℕ, List, Some, None, Result, Ok, Err, codes, ⊤}
+use Rattle.std.specs.Prelude.{◌≡◌, ◌++◌, ◌+◌, ℕ, List, Some, None, Result, Ok, Err, codes, ⊤}
 use Rattle.std.specs.Fmt.{decimal}
 use Rattle.std.specs.Io.KnownBytes.{Appends}
 use Rattle.trust_base.specs.Refusals.{refused_by}
@@ -14,10 +14,11 @@ use Rattle.firm_audit.specs.declared.trail.TrailFlaw.{TrailFlaw}
 use Rattle.firm_audit.specs.declared.trail.TrailFlaw.TheVariants as trail_flaws
 use Rattle.firm_rows.specs.Firm.{Firm}
 use Rattle.firm_rows.specs.FirmSound.{FirmSound}
-use Rattle.book_reports.specs.Checking.{AreCountsOf}
+use Rattle.book_reports.specs.Checking.{AreCountsOf, IsRaisedBy, refused_alone}
 use Rattle.book_reports.specs.declared.checking.RowCounts.{RowCounts}
 use Rattle.book_reports.specs.declared.unread.Unread.{Unread}
 use Rattle.book_reports.specs.declared.unread.Unread.TheVariants as unread
+use Rattle.trust_store.specs.Seen.{Seen}
 use Rattle.sql_schema.specs.Schema.{act_table_name, balance_table_name, entry_table_name, exception_table_name, firm_line_table_name}
 use Rattle.sql_schema.specs.Schema.{journal_table_name, matter_table_name, seat_table_name}
 use Rattle.portal_http.specs.Output.{Output}
@@ -118,22 +119,30 @@ pub record CheckEnds (output : Output) (told : Outcome) (before after : Firm) : 
   pub found : Result CheckFound StoreFault
   pub prints : PrintsCheck found output told
 
+-- the book refused to read all rows together, and then this one by itself, if it is named: its count of faults rose
+-- between `before` and `after`. So a book that answers is never said to have such a row. `MATTER m`, of rows which can
+-- each be read, so is a matter that the book did not return alone either
+abbrev pub WasRefused : ℕ → ℕ → Unread → Type 0
+WasRefused before after row = IsRaisedBy (refused_alone row + 1) before after
+
 -- what is said to be sound is sound, has this many rows, and its trail fits them, with so many approvals; a flaw, of
--- the rows or of the trail, is one that the firm has. Of a row that the book refused to read the firm's rows say
--- nothing
-abbrev pub IsTrueOf : Firm → CheckFound → Type 0
-IsTrueOf firm (found.Sound counts trail) =
+-- the rows or of the trail, is one that the firm has. Of a row that can't be read the firm's rows say nothing: the book
+-- refused to read it, and had counted so many faults before and after
+abbrev pub IsTrueOf : Firm → ℕ → ℕ → CheckFound → Type 0
+IsTrueOf firm before after (found.Sound counts trail) =
     FirmSound firm × AreCountsOf firm counts × HasItsTrail firm × AreApprovalsOf firm trail
-IsTrueOf firm (found.Amiss counts flaw) = FirmSound firm × AreCountsOf firm counts × IsTrailFlawOf firm flaw
-IsTrueOf firm (found.Flawed flaw) = IsFlawOf firm flaw
-IsTrueOf firm (found.Unreadable row) = ⊤
+IsTrueOf firm before after (found.Amiss counts flaw) =
+    FirmSound firm × AreCountsOf firm counts × IsTrailFlawOf firm flaw
+IsTrueOf firm before after (found.Flawed flaw) = IsFlawOf firm flaw
+IsTrueOf firm before after (found.Unreadable row) = WasRefused before after row
 
 -- the same, and it is not that the firm is sound and its trail fits
-abbrev pub IsUnsoundBy : Firm → CheckFound → Type 0
-IsUnsoundBy firm (found.Sound counts trail) = ⊥
-IsUnsoundBy firm (found.Amiss counts flaw) = FirmSound firm × AreCountsOf firm counts × IsTrailFlawOf firm flaw
-IsUnsoundBy firm (found.Flawed flaw) = IsFlawOf firm flaw
-IsUnsoundBy firm (found.Unreadable row) = ⊤
+abbrev pub IsUnsoundBy : Firm → ℕ → ℕ → CheckFound → Type 0
+IsUnsoundBy firm before after (found.Sound counts trail) = ⊥
+IsUnsoundBy firm before after (found.Amiss counts flaw) =
+    FirmSound firm × AreCountsOf firm counts × IsTrailFlawOf firm flaw
+IsUnsoundBy firm before after (found.Flawed flaw) = IsFlawOf firm flaw
+IsUnsoundBy firm before after (found.Unreadable row) = WasRefused before after row
 
 -- it was found sound, and this was printed
 pub record IsSaid (told : Result CheckFound StoreFault) (output : Output) : Type 0 where
@@ -160,12 +169,12 @@ pub record IsSaidSound (firm : Firm) (output : Output) : Type 0 where
   pub approvals : AreApprovalsOf firm trail
 
 -- a flaw was printed, which the firm has, or a row that the book refused to read
-pub record IsSaidUnsound (firm : Firm) (output : Output) : Type 0 where
+pub record IsSaidUnsound (before after : Seen) (output : Output) : Type 0 where
   pub found : CheckFound
   pub printed : Appends output.before output.after (check_text found)
-  pub unsound : IsUnsoundBy firm found
+  pub unsound : IsUnsoundBy before.firm before.refusals after.refusals found
 
--- what a check that ended so printed is true of the firm
-pub record IsCheckTrue (firm : Firm) (output : Output) (ended : Outcome) : Type 0 where
-  pub sound : ended ≡ outcome.Done → IsSaidSound firm output
-  pub unsound : ended ≡ outcome.Refused → IsSaidUnsound firm output
+-- what a check of a book that ended so printed is true of its firm, and of what the book refused meanwhile
+pub record IsCheckTrue (before after : Seen) (output : Output) (ended : Outcome) : Type 0 where
+  pub sound : ended ≡ outcome.Done → IsSaidSound before.firm output
+  pub unsound : ended ≡ outcome.Refused → IsSaidUnsound before after output

@@ -36,7 +36,7 @@ pub record HadNoBook (untouched : Type 0) (told : Outcome) : Type 0 where
 -- hold if the book's store is clean after the run, and if it stood for a sound firm when it was found; the claims about
 -- a crash hold even if a fault has shut the store. The trail is kept by the run, and in what a crash leaves of one that
 -- ends at its first fault. A check that ended well found the rows of a sound firm, whatever rows were found that can be
--- read
+-- read; one that names a row which can't be read met a book that refused it
 pub record RanAtPath {B W : Type 0} (books : Books B) (path : Text) (words : List Text) (known : Known W)
     (output : Output) (told : Outcome) : Type 0 where
   pub before : B
@@ -55,7 +55,7 @@ pub record RanAtPath {B W : Type 0} (books : Books B) (path : Text) (words : Lis
   pub stopped : (books.seen after).sure → (books.seen before).stands
       → LeavesTrail (books.seen before) (books.seen after) ⊎ MeansGoingOn words
   pub checked : (books.seen after).clean → (books.seen before).readable → MeansCheck words
-      → IsCheckTrue (books.seen before).firm output ended
+      → IsCheckTrue (books.seen before) (books.seen after) output ended
   -- the book after it was read once more for what a person is told; this is the one that was put back
   pub shown : B
   pub read : AreReads (books.seen after) (books.seen shown)

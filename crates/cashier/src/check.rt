@@ -1,6 +1,6 @@
 // Checks the book's rows.
 
-ghost use Rattle.std.specs.Prelude.{◌≡◌, ◌≢◌, ◌⊎◌, ◌↔◌, IfOk, IfSome, OnOk, Ok, Err, None, Some};
+ghost use Rattle.std.specs.Prelude.{◌≡◌, ◌≢◌, ◌⊎◌, ◌↔◌, ℕ, IfOk, IfSome, OnOk, Ok, Err, None, Some};
 ghost use Rattle.std.specs.Io.KnownBytes.{Appends};
 ghost use Rattle.trust_desk.specs.Answered.{IfServed};
 ghost use Rattle.trust_desk.specs.Calls.{IsAny, KeepsBook};
@@ -182,9 +182,9 @@ impl fmt::Display for CheckFound {
 
 // The result of a check in which all rows could be read.
 fn found_of(checked: Checked) -> CheckFound
-    ensures { (firm : Firm) → (result_err checked.found ≡ None ↔ FirmSound firm)
+    ensures { (firm : Firm) (before after : ℕ) → (result_err checked.found ≡ None ↔ FirmSound firm)
         → IfSome (result_err checked.found) (IsFlawOf firm) → AreCountsOf firm checked.counts
-        → IfOk checked.found (IsTrailFound firm) → IsTrueOf firm result }
+        → IfOk checked.found (IsTrailFound firm) → IsTrueOf firm before after result }
 {
     let Checked { counts, found } = checked;
     match found {
@@ -202,7 +202,7 @@ fn find_flaw<B: Book>(
     today: Day,
 ) -> Result<CheckFound, StoreFault>
     ensures sound { (B.seen desk.new).clean → (B.seen desk.old).readable
-        → IfOk result (IsTrueOf (B.seen desk.old).firm) }
+        → IfOk result (IsTrueOf (B.seen desk.old).firm (B.seen desk.old).refusals (B.seen desk.new).refusals) }
     ensures reads { AreReads (B.seen desk.old) (B.seen desk.new) }
     ensures serves { (B.seen desk.new).sure → OnOk result (B.seen desk.new).clean }
 {
@@ -290,7 +290,8 @@ fn tell_found<M: Remarks>(remarks: &M, found: &Result<CheckFound, StoreFault>) {
 /// Checks all rows of a desk's book, and prints that they are those of a sound firm and how many there are, or what is
 /// not sound in them; and whether the trail fits them. Remarks tell a person more. The store may hold anything that can
 /// be read as rows. If the outcome is `Done`, the rows are those of a sound firm, whose trail fits them; if it is
-/// `Refused`, the flaw that is printed is there, or the book refused to read the row that is. The book is unchanged.
+/// `Refused`, the flaw that is printed is there, or the book refused to read the row that is, and counted that. The
+/// book is unchanged.
 ///
 /// The outcome is `Done` if the rows are sound and the trail fits, and `Refused` if not, or a row is invalid. If the
 /// book could not be read or memory ran out, the line of that refusal was printed, and the outcome is `StoreFault` or
@@ -303,7 +304,7 @@ pub fn run_check<M: Remarks, W: Write, B: Book>(
     today: Day,
 ) -> Outcome
     ensures sound { (B.seen desk.new).clean → (B.seen desk.old).readable
-        → IsCheckTrue (B.seen desk.old).firm (output_of W.contents writer.old writer.new) result }
+        → IsCheckTrue (B.seen desk.old) (B.seen desk.new) (output_of W.contents writer.old writer.new) result }
     ensures began { result ≢ Outcome.CommandLine }
     ensures ends { IfServed (B.seen desk.old) (B.seen desk.new)
         (CheckEnds (output_of W.contents writer.old writer.new) result) }

@@ -36,10 +36,11 @@
 //! - `run_check`: over every book whose store's rows can be read, sound or not: **if it ends by `Done`, they are those
 //!   of a sound firm, and `SOUND` was printed with their counts, matters and entries among them; if it ends by
 //!   `Refused`, the flaw that was printed is there**, so that the firm is not sound, or it was a row that the book
-//!   refused to read (`sound`). The firm stays; what was found was printed, or the line of the fault, or a proper
+//!   refused to read, together with the others and alone: it counted both faults (`sound`). So over a book that answers
+//!   no row is said to be unreadable. The firm stays; what was found was printed, or the line of the fault, or a proper
 //!   prefix of it if a write failed, and the outcome is that (`ends`). A book that stood for a sound firm still does
 //!   (`kept`). If the store still serves, as it does after `Done` (`serves`), a crash may leave what it might have left
-//!   before, or these same rows (`crash`). No clause says how many faults of the store it counted, nor what standard
+//!   before, or these same rows (`crash`). No clause says that the book refuses only what is wrong, nor what standard
 //!   error says.
 //! - `run_serve`: over every book, clock and network: the port could not be had, and nothing was served or written
 //!   (`NetworkFault`); or its clients were served in turn, each over the firm that the one before left, with what a

@@ -161,7 +161,7 @@ fn run_plan<R: Read, F: Folder, C: Clock + Drop, N: Network, M: Remarks, W: Writ
         (N.ports around.entry.network.now) N.Listener.Writer.contents)
         (output_of W.contents writer.old writer.new) result) }
     ensures sound { (B.seen desk.new).clean → (B.seen desk.old).readable → plan.now.task ≡ Task.Check
-        → IsCheckTrue (B.seen desk.old).firm (output_of W.contents writer.old writer.new) result }
+        → IsCheckTrue (B.seen desk.old) (B.seen desk.new) (output_of W.contents writer.old writer.new) result }
     ensures kept { (words : List Text) → Means words plan.now.today plan.now.task
         → KeepsBook (CountsStoreIn words result) (B.seen desk.old) (B.seen desk.new) }
     ensures crash { (words : List Text) → Means words plan.now.today plan.now.task
@@ -315,7 +315,7 @@ fn run_at_path<R: Read, F: Folder, C: Clock + Drop, N: Network, M: Remarks, S: S
     let book = match stores.at(alloc, path) {
         Ok(book) => book,
         Err(why) => {
-            tell_of_no_book(remarks, plan, path, why);
+            tell_of_no_book(remarks, plan, path, found, why);
             return outcome_of_store(why.fault());
         }
     };

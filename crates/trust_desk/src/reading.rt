@@ -5,7 +5,7 @@ ghost use Rattle.std.specs.Result.{result_err};
 ghost use Rattle.firm_audit.specs.Flaws.{IsFlawOf};
 ghost use Rattle.firm_audit.specs.Trails.{IsTrailFound};
 ghost use Rattle.firm_rows.specs.FirmSound.{FirmSound};
-ghost use Rattle.book_reports.specs.Checking.{AreCountsOf, AreReads};
+ghost use Rattle.book_reports.specs.Checking.{AreCountsOf, AreReads, IsRefusedAlone};
 ghost use Rattle.trust_store.specs.Calls.{IsRead};
 
 use crate::desk::Desk;
@@ -38,6 +38,7 @@ impl<B: Book> Desk<B> {
     /// `book_reports::find_unread`, with its errors. The book is unchanged.
     pub fn find_unread(&mut self, alloc: Global, day: Day) -> Result<Unread, StoreFault>
         ensures reads { AreReads (B.seen self.old) (B.seen self.new) }
+        ensures refused { IfOk result (IsRefusedAlone (B.seen self.old) (B.seen self.new)) }
         ensures serves { (B.seen self.new).sure → OnOk result (B.seen self.new).clean }
     {
         find_unread(alloc, &mut self.book, day)

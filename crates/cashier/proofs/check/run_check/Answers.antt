@@ -8,7 +8,7 @@ returns-clause-ends g c = λ clean stands.
 
 pub returns-clause-sound : goal.returns-clause-sound
 returns-clause-sound g c = λ clean readable.
-    check-true _ _ _ _ (c.find_flaw-found.ensures.sound clean readable) c.print_found.ensures.said c.print_found.ensures.refused
+    check-true _ _ _ _ _ (c.find_flaw-found.ensures.sound clean readable) c.print_found.ensures.said c.print_found.ensures.refused
 
 pub returns-clause-kept : goal.returns-clause-kept
 returns-clause-kept g c = reads-leave c.find_flaw-found.ensures.reads
