@@ -9,4 +9,5 @@ pub mod RecordsRead
 pub mod RowsRead
 pub mod RowsWritten
 pub mod Shown
+pub mod WrittenDays
 mod Names

@@ -1,5 +1,5 @@
 -- The steps of the loops over a text and over its tokens.
-use Rattle.statement_lines.proofs.Names.{◌≡◌, ◌∙◌, ap, cond, cond-false, cond-true, ℕ, ◌+◌, ◌<◌, true, false, List, [], ◌∷◌, ◌++◌, length, get_or, drop, take, ◌-◌, append_assoc, append-nil, ◌≤◌, refl, arith, at_drop_more, drop_all, drop_more, get_or-drop, take_rest, begins, goes_on, numeral_len, token_in_front, tokens_after, is_telling, telling_after, without_zeros, begins_with_reference, has_reference}
+use Rattle.statement_lines.proofs.Names.{◌≡◌, ◌∙◌, ap, cond, cond-false, cond-true, ℕ, ◌+◌, ◌<◌, true, false, List, Option, [], ◌∷◌, ◌++◌, length, get_or, drop, take, ◌-◌, append_assoc, append-nil, ◌≤◌, refl, arith, at_drop_more, drop_all, drop_more, get_or-drop, take_rest, begins, goes_on, numeral_len, token_in_front, tokens_after, is_telling, telling_after, without_zeros, begins_with_reference, has_reference}
 
 -- Digits in front.
 
@@ -54,23 +54,23 @@ tokens_done second last text i found past = rw (drop_all i text past) (append-ni
 
 -- Telling numbers.
 
-pub telling_more : (second last : List ℕ) (tokens : List (List ℕ)) (i : ℕ) (d : List ℕ) (found : List (List ℕ))
-    → i < length tokens → is_telling second last (get_or tokens i d) ≡ true
-    → found ++ telling_after second last (drop i tokens)
-    ≡ (found ++ without_zeros (get_or tokens i d) ∷ []) ++ telling_after last (get_or tokens i d) (drop (i + 1) tokens)
+pub telling_more : (date : Option ℕ) (second last : List ℕ) (tokens : List (List ℕ)) (i : ℕ) (d : List ℕ) (found : List (List ℕ))
+    → i < length tokens → is_telling date second last (get_or tokens i d) ≡ true
+    → found ++ telling_after date second last (drop i tokens)
+    ≡ (found ++ without_zeros (get_or tokens i d) ∷ []) ++ telling_after date last (get_or tokens i d) (drop (i + 1) tokens)
 unfolding telling_after
-telling_more second last tokens i d found lt hit = grind (arith, append_assoc, drop_more)
+telling_more date second last tokens i d found lt hit = grind (arith, append_assoc, drop_more)
 
-pub telling_none : (second last : List ℕ) (tokens : List (List ℕ)) (i : ℕ) (d : List ℕ)
-    → i < length tokens → is_telling second last (get_or tokens i d) ≡ false
-    → telling_after second last (drop i tokens) ≡ telling_after last (get_or tokens i d) (drop (i + 1) tokens)
+pub telling_none : (date : Option ℕ) (second last : List ℕ) (tokens : List (List ℕ)) (i : ℕ) (d : List ℕ)
+    → i < length tokens → is_telling date second last (get_or tokens i d) ≡ false
+    → telling_after date second last (drop i tokens) ≡ telling_after date last (get_or tokens i d) (drop (i + 1) tokens)
 unfolding telling_after
-telling_none second last tokens i d lt miss = rw (drop_more tokens i d lt, miss) refl
+telling_none date second last tokens i d lt miss = rw (drop_more tokens i d lt, miss) refl
 
-pub telling_done : (second last : List ℕ) (tokens : List (List ℕ)) (i : ℕ) (found : List (List ℕ))
-    → length tokens ≤ i → found ++ telling_after second last (drop i tokens) ≡ found
+pub telling_done : (date : Option ℕ) (second last : List ℕ) (tokens : List (List ℕ)) (i : ℕ) (found : List (List ℕ))
+    → length tokens ≤ i → found ++ telling_after date second last (drop i tokens) ≡ found
 unfolding telling_after
-telling_done second last tokens i found past = rw (drop_all i tokens past) (append-nil found)
+telling_done date second last tokens i found past = rw (drop_all i tokens past) (append-nil found)
 
 -- A reference.
 

@@ -16,3 +16,4 @@ pub mod Sides
 pub mod Tokens
 pub mod Waiting
 pub mod Written
+pub mod WrittenDays

@@ -1,5 +1,5 @@
 -- An entry that waits for the bank.
-use Rattle.std.specs.Prelude.{ℕ, ℤ, pos, ◌-ℤ◌, List, ◌++◌}
+use Rattle.std.specs.Prelude.{ℕ, ℤ, pos, ◌-ℤ◌, List, ◌++◌, None}
 use Rattle.statement_lines.specs.Numbers.{numbers as numbers_of, telling_numbers}
 
 -- a held deposit or an issued payment
@@ -19,7 +19,7 @@ waiting_deposit reference amount source description = record {
   reference = reference;
   amount = pos amount;
   since = 0;
-  numbers = telling_numbers source ++ telling_numbers description;
+  numbers = telling_numbers None source ++ telling_numbers None description;
 }
 
 -- a payment that was issued on a day: it is identified by the numbers of its instrument

@@ -80,8 +80,8 @@ impl WaitingEntry {
     ) -> Result<WaitingEntry, AllocError>
         ensures { IfOk result (λ w. w ≡ waiting_deposit reference amount source.now description.now) }
     {
-        let mut numbers = telling_of(alloc, source)?;
-        let mut more = telling_of(alloc, description)?;
+        let mut numbers = telling_of(alloc, None, source)?;
+        let mut more = telling_of(alloc, None, description)?;
         numbers.append(&mut more)?;
         Ok(WaitingEntry {
             reference,

@@ -17,6 +17,7 @@ mod rows;
 mod statement_line;
 mod token;
 mod writing;
+mod written_day;
 
 pub use book_entry::{BookEntry, EntryState, WaitingEntry};
 pub use booking::{BookedLines, Booking};

@@ -173,7 +173,7 @@ impl StatementLine {
             && !exception.reference.as_slice().is_empty()
     }
 
-    /// The telling numbers of its text that repeat neither its dollars nor its date.
+    /// The telling numbers of its text that are neither its dollars nor a day near its own.
     pub(crate) fn numbers(&self) -> &[Number]
         ensures { result.now ≡ line_numbers self.now }
     {

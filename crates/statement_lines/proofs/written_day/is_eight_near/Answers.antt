@@ -1,0 +1,9 @@
+use Rattle.std.proofs.Common.{ap, arith, length}
+use Rattle.byte_streams.proofs.FixedFacts.{length-fixed}
+use Rattle.statement_lines.proofs.WrittenDays.{none_near}
+use Rattle.statement_lines.proofs.written_day.is_eight_near.Goals as goal
+
+pub returns-in-None : goal.returns-in-None
+returns-in-None c =
+    none_near c.args.day c.args.token.now (λ n e. rw c.requires at (c.in-None.ensures.none n) e)
+    (λ n e. let short = length-fixed 6 n in let same = ap length e in absurd (omega arith))

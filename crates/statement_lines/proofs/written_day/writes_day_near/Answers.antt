@@ -1,0 +1,10 @@
+use Rattle.std.proofs.Common.{ap, arith, length}
+use Rattle.byte_streams.proofs.FixedFacts.{length-fixed}
+use Rattle.statement_lines.proofs.WrittenDays.{none_near}
+use Rattle.statement_lines.proofs.written_day.writes_day_near.Goals as goal
+
+pub returns-in_default : goal.returns-in_default
+returns-in_default c =
+    none_near c.args.day c.args.token.now
+    (λ n e. let long = length-fixed 8 n in let same = ap length e in absurd (omega arith))
+    (λ n e. let short = length-fixed 6 n in let same = ap length e in absurd (omega arith))
