@@ -39,34 +39,34 @@ is_date n day =
     let of_month : to_z w8 (month_day_of n) ≡ pos (month_day_of n) = to_z_pos w8 (month_day_of n) (omega arith) in
     rw (year, month, of_month) (search rules)
 
--- Its digits.
+-- Its digits, joined.
 
-pub joined_eight : (y m d : ℕ) → y < 10000 → m < 100 → d < 100
+joined_eight : (y m d : ℕ) → y < 10000 → m < 100 → d < 100
     → fixed_digits 4 y ++ (fixed_digits 2 m ++ fixed_digits 2 d) ≡ fixed_digits 8 (y * 10000 + m * 100 + d)
 unfolding fixed_digits
 joined_eight y m d ly lm ld = grind arith
 
-pub joined_year_last : (a b y : ℕ) → a < 100 → b < 100 → y < 10000
+joined_year_last : (a b y : ℕ) → a < 100 → b < 100 → y < 10000
     → fixed_digits 2 a ++ (fixed_digits 2 b ++ fixed_digits 4 y) ≡ fixed_digits 8 (a * 1000000 + b * 10000 + y)
 unfolding fixed_digits
 joined_year_last a b y la lb ly = grind arith
 
-pub joined_six : (a b c : ℕ) → b < 100 → c < 100
+joined_six : (a b c : ℕ) → b < 100 → c < 100
     → fixed_digits 2 a ++ (fixed_digits 2 b ++ fixed_digits 2 c) ≡ fixed_digits 6 (a % 100 * 10000 + b * 100 + c)
 unfolding fixed_digits
 joined_six a b c lb lc = grind arith
 
-pub joined_short_last : (a b c : ℕ) → a < 100 → b < 100
+joined_short_last : (a b c : ℕ) → a < 100 → b < 100
     → fixed_digits 2 a ++ (fixed_digits 2 b ++ fixed_digits 2 c) ≡ fixed_digits 6 (a * 10000 + b * 100 + c % 100)
 unfolding fixed_digits
 joined_short_last a b c la lb = grind arith
 
--- a day of eight digits, each part of it among them
-abbrev pub year_last : ℕ → ℕ
-year_last n = n % 10000 * 10000 + n / 10000
+-- the day that eight digits are, MMDDYYYY and DDMMYYYY
+abbrev pub month_first : ℕ → ℕ
+month_first n = n % 10000 * 10000 + n / 10000
 
-abbrev pub month_between : ℕ → ℕ
-month_between n = n % 10000 * 10000 + n / 10000 % 100 * 100 + n / 1000000
+abbrev pub day_first : ℕ → ℕ
+day_first n = n % 10000 * 10000 + n / 10000 % 100 * 100 + n / 1000000
 
 abbrev spelled : ℕ → List (List ℕ)
 spelled k =
@@ -80,13 +80,14 @@ spelled k =
 spellings_are : (k : ℕ) → k < 100000000 → spellings k ≡ spelled k
 spellings_are k small =
     let whole : year_of k * 10000 + month_of k * 100 + month_day_of k ≡ k = omega arith in
-    rw
-    (joined_eight (year_of k) (month_of k) (month_day_of k) (omega arith) (omega arith) (omega arith),
-    joined_year_last (month_of k) (month_day_of k) (year_of k) (omega arith) (omega arith) (omega arith),
-    joined_year_last (month_day_of k) (month_of k) (year_of k) (omega arith) (omega arith) (omega arith),
-    joined_six (year_of k) (month_of k) (month_day_of k) (omega arith) (omega arith),
-    joined_short_last (month_of k) (month_day_of k) (year_of k) (omega arith) (omega arith),
-    whole) refl
+    rw (
+      joined_eight (year_of k) (month_of k) (month_day_of k) (omega arith) (omega arith) (omega arith),
+      joined_year_last (month_of k) (month_day_of k) (year_of k) (omega arith) (omega arith) (omega arith),
+      joined_year_last (month_day_of k) (month_of k) (year_of k) (omega arith) (omega arith) (omega arith),
+      joined_six (year_of k) (month_of k) (month_day_of k) (omega arith) (omega arith),
+      joined_short_last (month_of k) (month_day_of k) (year_of k) (omega arith) (omega arith),
+      whole,
+    ) refl
 
 -- what spells a day is one of its five spellings
 abbrev IsSpelled : List ℕ → ℕ → Type 0
@@ -134,47 +135,50 @@ near_if : (day : ℕ) (digits : List ℕ) (test : Bool)
     → (test ≡ true → (k : ℕ) × (is_day_near day k ≡ true) × IsSpelled digits k)
     → test ≡ spells_day_near day digits
 near_if day digits test only some =
-    same_from_decides test (spells_day_near day digits) (λ e. e, λ e. e)
-    (λ e.
-    let it = (near_decides day digits).0 e in
-    only it.0 (omega (arith, it.1)) it.2.0 (is_spelled digits it.0 (omega (arith, it.1)) it.2.1),
-    λ e.
-    let it = some e in
-    let low = near_is_day day it.0 it.1 in
-    (near_decides day digits).1 (it.0, low, (it.1, spells_if digits it.0 (omega arith) it.2)))
+    same_from_decides test (spells_day_near day digits) (λ e. e, λ e. e) (
+      λ e.
+          let it = (near_decides day digits).0 e in
+          only it.0 (omega (arith, it.1)) it.2.0 (is_spelled digits it.0 (omega (arith, it.1)) it.2.1),
+      λ e.
+          let it = some e in
+          let low = near_is_day day it.0 it.1 in
+          (near_decides day digits).1 (it.0, low, (it.1, spells_if digits it.0 (omega arith) it.2)),
+    )
 
 -- the number of eight digits is one of three
 eight_is : (n k : ℕ) → n < 100000000 → k < 100000000 → IsSpelled (fixed_digits 8 n) k
-    → (k ≡ n) ⊎ ((k ≡ year_last n) ⊎ (k ≡ month_between n))
+    → (k ≡ n) ⊎ ((k ≡ month_first n) ⊎ (k ≡ day_first n))
 eight_is n k small low (inl e) = inl (sym (fixed-injective 8 n k small low e))
 eight_is n k small low (inr (inl e)) =
     let same = fixed-injective 8 n _ small (omega arith) e in inr (inl (omega arith))
 eight_is n k small low (inr (inr (inl e))) =
     let same = fixed-injective 8 n _ small (omega arith) e in inr (inr (omega arith))
 eight_is n k small low (inr (inr (inr (inl e)))) =
-    let long = length-fixed 8 n in let short = length-fixed 6 (year_of k % 100 * 10000 + month_of k * 100 + month_day_of k) in
+    let long = length-fixed 8 n in
+    let short = length-fixed 6 (year_of k % 100 * 10000 + month_of k * 100 + month_day_of k) in
     let same = ap length e in absurd (omega arith)
 eight_is n k small low (inr (inr (inr (inr e)))) =
-    let long = length-fixed 8 n in let short = length-fixed 6 (month_of k * 10000 + month_day_of k * 100 + year_of k % 100) in
+    let long = length-fixed 8 n in
+    let short = length-fixed 6 (month_of k * 10000 + month_day_of k * 100 + year_of k % 100) in
     let same = ap length e in absurd (omega arith)
 
 eight_first : (n : ℕ) → IsSpelled (fixed_digits 8 n) n
 eight_first n = inl refl
 
-eight_second : (n : ℕ) → n < 100000000 → IsSpelled (fixed_digits 8 n) (year_last n)
+eight_second : (n : ℕ) → n < 100000000 → IsSpelled (fixed_digits 8 n) (month_first n)
 eight_second n small =
-    let k = year_last n in
+    let k = month_first n in
     let same : n ≡ month_of k * 1000000 + month_day_of k * 10000 + year_of k = omega arith in
     inr (inl (ap (fixed_digits 8) same))
 
-eight_third : (n : ℕ) → n < 100000000 → IsSpelled (fixed_digits 8 n) (month_between n)
+eight_third : (n : ℕ) → n < 100000000 → IsSpelled (fixed_digits 8 n) (day_first n)
 eight_third n small =
-    let k = month_between n in
+    let k = day_first n in
     let same : n ≡ month_day_of k * 1000000 + month_of k * 10000 + year_of k = omega arith in
     inr (inr (inl (ap (fixed_digits 8) same)))
 
 pub eight_near : (day n : ℕ) → n < 100000000
-    → (is_day_near day n || (is_day_near day (year_last n) || is_day_near day (month_between n)))
+    → (is_day_near day n || (is_day_near day (month_first n) || is_day_near day (day_first n)))
     ≡ spells_day_near day (fixed_digits 8 n)
 eight_near day n small =
     near_if day (fixed_digits 8 n) _
@@ -185,17 +189,17 @@ eight_near day n small =
       | inr (inr e) ↦ let hit = rw e at near in grind (arith, nat_tests)
     ])
     (λ hit.
-    elim (or_cases (is_day_near day n) (is_day_near day (year_last n) || is_day_near day (month_between n)) hit) [
+    elim (or_cases (is_day_near day n) (is_day_near day (month_first n) || is_day_near day (day_first n)) hit) [
       | inl near ↦ (n, near, eight_first n)
-      | inr more ↦ elim (or_cases (is_day_near day (year_last n)) (is_day_near day (month_between n)) more) [
-        | inl near ↦ (year_last n, near, eight_second n small)
-        | inr near ↦ (month_between n, near, eight_third n small)
+      | inr more ↦ elim (or_cases (is_day_near day (month_first n)) (is_day_near day (day_first n)) more) [
+        | inl near ↦ (month_first n, near, eight_second n small)
+        | inr near ↦ (day_first n, near, eight_third n small)
       ]
     ])
 
 -- the number of six digits is one of two, in one of two centuries
-abbrev short_year_last : ℕ → ℕ
-short_year_last n = n % 100 * 10000 + n / 100
+abbrev short_month_first : ℕ → ℕ
+short_month_first n = n % 100 * 10000 + n / 100
 
 -- of a day from 2000 to 2199, what stands behind its century
 century : (k m : ℕ) → 20000000 ≤ k → k < 22000000 → m ≡ k % 1000000 → (k ≡ 20000000 + m) ⊎ (k ≡ 21000000 + m)
@@ -203,9 +207,10 @@ century k m low high e = elim (cases_lt k 21000000) [ inl lt ↦ inl (omega arit
 
 six_is : (n k : ℕ) → n < 1000000 → IsDay k → k < 100000000 → IsSpelled (fixed_digits 6 n) k
     → ((k ≡ 20000000 + n) ⊎ (k ≡ 21000000 + n))
-    ⊎ ((k ≡ 20000000 + short_year_last n) ⊎ (k ≡ 21000000 + short_year_last n))
+    ⊎ ((k ≡ 20000000 + short_month_first n) ⊎ (k ≡ 21000000 + short_month_first n))
 six_is n k small day low (inl e) =
-    let long = length-fixed 8 k in let short = length-fixed 6 n in
+    let long = length-fixed 8 k in
+    let short = length-fixed 6 n in
     let same = ap length e in absurd (omega arith)
 six_is n k small day low (inr (inl e)) =
     let long = length-fixed 8 (month_of k * 1000000 + month_day_of k * 10000 + year_of k) in
@@ -222,14 +227,14 @@ six_is n k small day low (inr (inr (inr (inl e)))) =
 six_is n k small day low (inr (inr (inr (inr e)))) =
     let parts = (day_parts k day).year in
     let same = fixed-injective 6 n (month_of k * 10000 + month_day_of k * 100 + year_of k % 100) small (omega arith) e in
-    inr (century k (short_year_last n) (omega arith) (omega arith) (omega arith))
+    inr (century k (short_month_first n) (omega arith) (omega arith) (omega arith))
 
 six_first : (n k : ℕ) → n ≡ k % 1000000 → IsSpelled (fixed_digits 6 n) k
 six_first n k e =
     let same : n ≡ year_of k % 100 * 10000 + month_of k * 100 + month_day_of k = omega arith in
     inr (inr (inr (inl (ap (fixed_digits 6) same))))
 
-six_second : (n k : ℕ) → n < 1000000 → short_year_last n ≡ k % 1000000 → IsSpelled (fixed_digits 6 n) k
+six_second : (n k : ℕ) → n < 1000000 → short_month_first n ≡ k % 1000000 → IsSpelled (fixed_digits 6 n) k
 six_second n k small e =
     let same : n ≡ month_of k * 10000 + month_day_of k * 100 + year_of k % 100 = omega arith in
     inr (inr (inr (inr (ap (fixed_digits 6) same))))
@@ -243,25 +248,29 @@ in_century_if : (day k n : ℕ) → is_day_near day k ≡ true → (k ≡ 200000
 in_century_if day k n near (inl e) = let hit = rw e at near in grind (arith, nat_tests)
 in_century_if day k n near (inr e) = let hit = rw e at near in grind (arith, nat_tests)
 
+in_century_is : (day n : ℕ) → n < 1000000 → in_century day n ≡ true
+    → (k : ℕ) × (is_day_near day k ≡ true) × (n ≡ k % 1000000)
+in_century_is day n small hit =
+    elim (or_cases (is_day_near day (20000000 + n)) (is_day_near day (21000000 + n)) hit) [
+      | inl near ↦ (20000000 + n, near, omega arith)
+      | inr near ↦ (21000000 + n, near, omega arith)
+    ]
+
 pub six_near : (day n : ℕ) → n < 1000000
-    → (in_century day n || in_century day (short_year_last n)) ≡ spells_day_near day (fixed_digits 6 n)
+    → (in_century day n || in_century day (short_month_first n)) ≡ spells_day_near day (fixed_digits 6 n)
 six_near day n small =
     near_if day (fixed_digits 6 n) _
     (λ k low near is.
     elim (six_is n k small (is_day-holds k (and_parts _ _ near).0) low is) [
       | inl e ↦ let hit = in_century_if day k n near e in grind (arith, nat_tests)
-      | inr e ↦ let hit = in_century_if day k (short_year_last n) near e in grind (arith, nat_tests)
+      | inr e ↦ let hit = in_century_if day k (short_month_first n) near e in grind (arith, nat_tests)
     ])
     (λ hit.
-    elim (or_cases (in_century day n) (in_century day (short_year_last n)) hit) [
-      | inl whole ↦ elim (or_cases (is_day_near day (20000000 + n)) (is_day_near day (21000000 + n)) whole) [
-        | inl near ↦ (20000000 + n, near, six_first n (20000000 + n) (omega arith))
-        | inr near ↦ (21000000 + n, near, six_first n (21000000 + n) (omega arith))
-      ]
-      | inr whole ↦ elim (or_cases (is_day_near day (20000000 + short_year_last n)) (is_day_near day (21000000 + short_year_last n)) whole) [
-        | inl near ↦ (20000000 + short_year_last n, near, six_second n (20000000 + short_year_last n) small (omega arith))
-        | inr near ↦ (21000000 + short_year_last n, near, six_second n (21000000 + short_year_last n) small (omega arith))
-      ]
+    elim (or_cases (in_century day n) (in_century day (short_month_first n)) hit) [
+      | inl whole ↦ let it = in_century_is day n small whole in (it.0, it.1, six_first n it.0 it.2)
+      | inr whole ↦
+          let it = in_century_is day (short_month_first n) (omega arith) whole in
+          (it.0, it.1, six_second n it.0 small it.2)
     ])
 
 -- what is of another length, or not of digits, writes no day

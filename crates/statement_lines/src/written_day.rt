@@ -43,9 +43,9 @@ fn is_near_in_eight(day: Day, number: u32) -> bool
     ensures { result ≡ spells_day_near day (fixed_digits 8 number) }
 {
     let year_last = number % 10_000 * 10_000;
-    is_day_near(day, number)
-        || is_day_near(day, year_last + number / 10_000)
-        || is_day_near(day, year_last + number / 10_000 % 100 * 100 + number / 1_000_000)
+    let month_first = year_last + number / 10_000;
+    let day_first = year_last + number / 10_000 % 100 * 100 + number / 1_000_000;
+    is_day_near(day, number) || is_day_near(day, month_first) || is_day_near(day, day_first)
 }
 
 // Whether the number is that of a day near this one, less its century.
