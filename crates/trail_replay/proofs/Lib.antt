@@ -1,0 +1,5 @@
+pub mod Follows
+pub mod Telling
+pub mod Making
+pub mod Replaying
+pub mod Signing
