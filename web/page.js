@@ -4,6 +4,7 @@ import { unanswered } from './asks.js';
 import { failedBox, refusedBox } from './boxes.js';
 import { Desk, Refused, askFirm, askWho } from './desk.js';
 import { button, el, label, link, p } from './elements.js';
+import { shown } from './names.js';
 import { isColumns, keepShared } from './shared-columns.js';
 import { Shelf } from './shelf.js';
 import { account } from './views/account.js';
@@ -77,6 +78,15 @@ const nowhere = () => ({ title: 'No such page', parts: [p(link('#/', 'To the ove
 
 const byId = (id) => document.getElementById(id);
 
+// What stands at the foot of each sheet of paper, so that one alone says whose it is and what of.
+const foot = new CSSStyleSheet();
+document.adoptedStyleSheets = [foot];
+
+const cssText = (text) => `"${text.replace(/["\\\p{Cc}]/gu, (each) => `\\${each.codePointAt(0).toString(16)} `)}"`;
+
+const tellAtFoot = (text) =>
+    foot.replaceSync(`@media print { @page { @bottom-left { content: ${cssText(text)}; font-size: 8pt; } } }`);
+
 class Page {
     constructor(who) {
         this.person = who.person;
@@ -149,6 +159,7 @@ class Page {
         main.replaceChildren(head, ...[told, unanswered(this), parts].flat(Infinity).filter(Boolean));
         main.setAttribute('aria-busy', 'false');
         document.title = `${head.textContent} \u2013 Gekuipo`;
+        tellAtFoot([...this.firm.slice(0, 1).map(shown), head.textContent].join(' \u00b7 '));
         this.showPlaces();
         this.say('');
         if (isMoved) (told ?? head).focus();

@@ -75,6 +75,9 @@ function recordOf(fields, i) {
     return { ...record, path: path({ matter, entry }), body, isRead };
 }
 
+// Whether it begins as a record of a day sheet does.
+export const hasVerb = ({ verb }) => Object.hasOwn(VERBS, verb);
+
 export const readRecords = (bytes) => recordsOf(textOf(bytes)).map(recordOf);
 
 // Sends one; sent again it is booked once.

@@ -100,6 +100,11 @@ def take_csv(bank: Bank) -> None:
     look(bank.browser, "the columns of a file", bank.checks)
     bank.has("The balances of the file do not go with its amounts. Type one balance")
     give(bank, column_0="")
+    rows = bank.browser.find("#rows")[0]
+    rows.clear()
+    rows.send_keys("1\t")
+    bank.browser.settle()
+    bank.checks.same("what has the focus behind the rows", bank.browser.run("return document.activeElement.id"), "format")
     bank.browser.press("Take it and match")
     is_kept(bank, "checks.csv", by_script(str(BANK / "checks.csv"), str(BANK / "checks.rules")))
     take(bank, "checks.csv")

@@ -83,6 +83,8 @@ def see_month(firm: Firm, browser: Browser, folder: pathlib.Path, checks: Checks
                   all(word in sheet for word in (NAME, ACCOUNT, heading)), sheet)
         word = f"Month\u2019s end of {DAY}, part {at + 1} of {len(HEADINGS)}, SHA-256 {digits[:16]}"
         checks.so(f"sheet {at + 1} names its packet", at == 0 or word in sheet, sheet)
+        checks.so(f"sheet {at + 1} has at its foot whose it is, and its number", f"{NAME} \u00b7 Month\u2019s end of {DAY}"
+                  in sheet and f"{at + 1} / {len(HEADINGS)}" in sheet, sheet)
     checks.so("the first sheet has the sum, and is signed",
               all(word in sheets[0] for word in (digits, "Signed", "Name", "Date")), sheets[0])
     whole = "".join(sheets)
@@ -153,6 +155,12 @@ def print_accounts(firm: Firm, browser: Browser, folder: pathlib.Path, checks: C
     checks.same("the sheets of the accounts", len(sheets), len(ACCOUNTS))
     for sheet, words in zip(sheets, ACCOUNTS):
         checks.so(f"a sheet has the firm and {words}", all(word in sheet for word in (NAME, ACCOUNT, *words)), sheet)
+        checks.so(f"a sheet names itself, {words}", f"Statement of account of {words[0]}" in sheet, sheet)
+    browser.to(f"#/accounts/2026-03-30/{DAY}")
+    has(checks, browser, "two days", ("Printed, each of the 3 begins a sheet.", "Leave out the 1 without a movement"))
+    browser.find("#moved")[0].click()
+    has(checks, browser, "those that moved", ("Printed, each of the 2 begins a sheet.", "Cleo Marsh, matter 000003"))
+    checks.lacks("what has not moved", browser.text(), ("Ada Chen, matter 000001",))
     browser.to("#/accounts/2026-01-01/2026-02-28")
     has(checks, browser, "days before the firm began", ("No matter had money or a movement in these days.",))
 

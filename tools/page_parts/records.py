@@ -82,6 +82,8 @@ def play(program: str, folder: pathlib.Path, checks: Checks) -> None:
         has(checks, browser, "2 of 2 records were answered, 0 refused.", "deposit, 000002, 0002, 1500.00")
         told = json.loads(firm.desk.ask("cashier", "GET", "/matters/000002/entries/0002")[1])
         checks.same("the amount of a spreadsheet", told["amount"], "1500.00")
+        choose(browser, folder, "Date,Amount,Text\n03/19/2026,1.00,DEPOSIT\n")
+        has(checks, browser, "Nothing of sheet.csv was sent.", "None of its lines begins with a verb of a day sheet")
         choose(browser, folder, BANKS.decode())
         has(checks, browser, "sheet.csv is a file of the bank\u2019s, and none of records.")
         checks.same("the browser's log", browser.faults(), [])

@@ -112,7 +112,7 @@ def read_with_names(firm: Firm, checks: Checks) -> None:
                                          "Outstanding payments", "Sunrise Reporting, LLC",
                                          "1007 | Cleo Marsh -650.00")),
             ("#/m/000003/account/2026-03-17/2026-03-31", (
-                "Account of Cleo Marsh, 2026-03-17 to 2026-03-31", "Opening 3,700.00", "Closing 3,850.00",
+                "Statement of account of Cleo Marsh, 2026-03-17 to 2026-03-31", "Opening 3,700.00", "Closing 3,850.00",
                 f"{DAY} M000003-0002 returned Dana Marsh | advance on costs -1,200.00 3,850.00")),
             ("#/m/000001", ("5,000.00 5,000.00", "-435.00 4,565.00", "-1,650.00 2,915.00",
                             "cashier, lee\n-435.00")),

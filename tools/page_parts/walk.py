@@ -419,7 +419,7 @@ def state_the_account(walk: Walk) -> None:
     ada.follow("Statement of account")
     walk.checks.same("the title of the form", ada.title(), "Statement of account, Ada Chen")
     ada.press("Show the account")
-    walk.has(ada, f"Account of Ada Chen, {DAY} to {DAY}", "ACCOUNT 000001 Ada Chen", "Opening 0.00",
+    walk.has(ada, f"Statement of account of Ada Chen, {DAY} to {DAY}", "ACCOUNT 000001 Ada Chen", "Opening 0.00",
              f"{DAY} M000001-0001 deposit Ada Chen | advance on fees and costs 5,000.00 5,000.00", "Closing 4,565.00",
              "Save as text")
     walk.lacks(ada, "more than 180 days")

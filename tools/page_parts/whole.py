@@ -16,34 +16,10 @@ DAY = "2026-03-31"
 SHEET = "open,000001,,Ada Chen,lee\ndeposit,000001,0001,500.00,Ada Chen,retainer\n"
 LONG = 90  # seconds until a page that is not whole says so, on a busy machine
 
-KEPT = """map "$status $uri" $kept {
-    default no-store;
-    "~^(200|304) /page/[0-9a-f]{16}/" "private, max-age=31536000, immutable";
-}
-"""
-NAMED = """map $caller $role {
-    default "";
-    cashier cashier;
-}
-map $remote_user $signed_on {
-    default "";
-    "~^[!-~]{1,64}\\z" $remote_user;
-}
-"""
-
 
 def with_names(text: str) -> str:
-    """Two people who are the firm's cashier. Where the configuration does not do so, the page's files are kept by their
-    version, and the answers name the person, with a role."""
-    text = re.sub(r"include \S+/nginx/cashier\[s\];", '"office joan" cashier; "office maria" cashier;', text)
-    if "immutable" not in text:
-        text = text.replace("add_header cache-control no-store always;", "add_header cache-control $kept always;")
-        text = text.replace("\nserver {", f"\n{KEPT}\nserver {{", 1)
-    if "x-role" not in text:
-        text = text.replace("add_header x-person $person always;",
-                            "add_header x-person $signed_on always; add_header x-role $role always;")
-        text = text.replace("\nserver {", f"\n{NAMED}\nserver {{", 1)
-    return text
+    """Two people who are the firm's cashier."""
+    return re.sub(r"include \S+/nginx/cashier\[s\];", '"office joan" cashier; "office maria" cashier;', text)
 
 
 def is_in_time(browser: Browser, words: str) -> bool:

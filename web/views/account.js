@@ -52,7 +52,7 @@ export async function account(page, no, from = null, to = null) {
     if (!from) return { title: ['Statement of account, ', label(matter.client)], parts: [asked, backTo(no)] };
     const path = accountPath(no, from, to);
     const answer = await page.desk.read(path);
-    const title = ['Account of ', label(matter.client), ', ', number(from), ' to ', number(to)];
+    const title = ['Statement of account of ', label(matter.client), ', ', number(from), ' to ', number(to)];
     if (!answer.isDone) return { title, parts: [refusedBox(answer, page.person), asked, backTo(no)] };
     const parts = [staleBox(page, entries, to), accountTable(answer.text),
         printed(answer.text, path, `account-${no}-${from}-${to}.txt`), asked, backTo(no)];

@@ -40,6 +40,29 @@ function sheetOf(page, { matter, client, account }, days, at) {
         movedTable(account, account.movements.length));
 }
 
+const isStill = ({ account }) => account.movements.length === 0;
+
+// The sheets of all matters that had money or a movement, or of those alone that had a movement.
+function showSheets({ page, read, days, place, isMovedAlone = false }) {
+    const whole = read.filter(({ account }) => !isEmpty(account));
+    const sheets = isMovedAlone ? whole.filter((each) => !isStill(each)) : whole;
+    const [still, left] = [whole.filter(isStill).length, read.length - whole.length];
+    const tick = el('input', { type: 'checkbox', id: 'moved', name: 'moved', change: ({ target }) => {
+        showSheets({ page, read, days, place, isMovedAlone: target.checked });
+        place.querySelector('#moved').focus();
+    } });
+    tick.checked = isMovedAlone;
+    place.replaceChildren(...[
+        still > 0 && el('p', { class: 'tick' }, tick, el('label', { for: 'moved' },
+            `Leave out the ${still} without a movement in these days`)),
+        sheets.length > 0 && el('p', { class: 'tools' }, button('Print', () => window.print(), ''),
+            el('span', { class: 'quiet' }, `Printed, each of the ${sheets.length} begins a sheet.`)),
+        sheets.map((each, at) => sheetOf(page, each, days, at)),
+        sheets.length === 0 && p('No matter had money or a movement in these days.'),
+        left > 0 && quiet(`Left out, without money or a movement: ${left}.`),
+    ].flat(Infinity).filter(Boolean));
+}
+
 export async function accounts(page, from = null, to = null) {
     const [first, last] = lastPeriod(page);
     const asked = periodForm({ page, from: from ?? first, to: to ?? last, action: 'Show the accounts',
@@ -48,18 +71,7 @@ export async function accounts(page, from = null, to = null) {
     if (!from) return { title, parts: [reportsList('accounts'), asked] };
     const matters = (await readMatters(page)).filter((each) => wasOpen(each, from, to));
     const read = await readAll(page, matters, from, to);
-    const moved = read.filter(({ account }) => !isEmpty(account));
-    const left = read.length - moved.length;
-    return {
-        title: [`${title}, `, daysOf(from, to)],
-        parts: [
-            reportsList('accounts'),
-            moved.length > 0 && el('p', { class: 'tools' }, button('Print', () => window.print(), ''),
-                el('span', { class: 'quiet' }, `Printed, each of the ${moved.length} begins a sheet.`)),
-            moved.map((each, at) => sheetOf(page, each, daysOf(from, to), at)),
-            moved.length === 0 && p('No matter had money or a movement in these days.'),
-            left > 0 && quiet(`Left out, without money or a movement: ${left}.`),
-            asked,
-        ],
-    };
+    const place = el('div', {});
+    showSheets({ page, read, days: daysOf(from, to), place });
+    return { title: [`${title}, `, daysOf(from, to)], parts: [reportsList('accounts'), place, asked] };
 }

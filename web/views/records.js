@@ -5,7 +5,7 @@ import { kindOf } from '../bank/file.js';
 import { doneBox, failedBox, noteBox, warningBox } from '../boxes.js';
 import { GREATEST } from '../desk.js';
 import { button, el, label, link, p, strong } from '../elements.js';
-import { UNDONE_BY_NOTHING, readRecords, sendRecord } from '../records.js';
+import { UNDONE_BY_NOTHING, hasVerb, readRecords, sendRecord } from '../records.js';
 import { wordsOf } from '../refusals.js';
 import { column, longTable } from '../tables.js';
 
@@ -67,6 +67,12 @@ class Records {
             return;
         }
         Object.assign(this, { name, records: readRecords(bytes), answers: [] });
+        if (this.records.length && !this.records.some(hasVerb)) {
+            this.show(warningBox(`Nothing of ${name} was sent.`, p('None of its lines begins with a verb of a day sheet, '
+                + 'such as deposit. Is it the bank\u2019s? That is matched and imported as a ',
+            link('#/statement', 'bank statement'), '.')));
+            return;
+        }
         const wrong = this.records.filter(({ wrong: is }) => is);
         if (wrong.length || !this.records.length) {
             const why = wrong.length ? `${wrong.length} of ${this.records.length} records are none.`

@@ -174,7 +174,9 @@ export class Taking {
         this.element.removeAttribute('aria-busy');
     }
 
+    // What has the focus keeps it.
     draw() {
+        const focused = this.element.contains(document.activeElement) ? document.activeElement.id : '';
         this.element.replaceChildren(...[
             el('h2', { id: 'taking' }, `What ${this.name} has`),
             this.columns && this.asking(),
@@ -183,6 +185,7 @@ export class Taking {
             el('div', { class: 'buttons' }, this.sender = button('Take it and match', () => this.send(), '')),
         ].flat(Infinity).filter(Boolean));
         this.look();
+        if (focused) document.getElementById(focused)?.focus();
     }
 
     change(more) {
