@@ -83,8 +83,8 @@ def see_month(firm: Firm, browser: Browser, folder: pathlib.Path, checks: Checks
                   all(word in sheet for word in (NAME, ACCOUNT, heading)), sheet)
         word = f"Month\u2019s end of {DAY}, part {at + 1} of {len(HEADINGS)}, SHA-256 {digits[:16]}"
         checks.so(f"sheet {at + 1} names its packet", at == 0 or word in sheet, sheet)
-        checks.so(f"sheet {at + 1} has at its foot whose it is, and its number", f"{NAME} \u00b7 Month\u2019s end of {DAY}"
-                  in sheet and f"{at + 1} / {len(HEADINGS)}" in sheet, sheet)
+        foot = "".join(f"{NAME} \u00b7 Month\u2019s end of {DAY}{at + 1} / {len(HEADINGS)}".split())
+        checks.so(f"sheet {at + 1} has at its foot whose it is, and its number", foot in "".join(sheet.split()), sheet)
     checks.so("the first sheet has the sum, and is signed",
               all(word in sheets[0] for word in (digits, "Signed", "Name", "Date")), sheets[0])
     whole = "".join(sheets)
