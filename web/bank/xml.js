@@ -42,7 +42,7 @@ function textOf(bytes) {
     const front = String.fromCharCode(...bytes.subarray(0, 400)).replace(/^\u00ef\u00bb\u00bf/, '');
     const declared = DECLARATION.exec(front.replace(/\r\n?/g, '\n'));
     const encoding = (declared?.[2] ?? declared?.[3] ?? 'utf-8').toLowerCase();
-    if (encoding === 'utf-8') return new TextDecoder('utf-8', { fatal: true }).decode(bytes);
+    if (encoding === 'utf-8' || encoding === 'utf8') return new TextDecoder('utf-8', { fatal: true }).decode(bytes);
     if (encoding === 'us-ascii') return ascii(bytes, 0x7f);
     if (encoding === 'iso-8859-1') return ascii(bytes, 0xff);
     const text = encoding === 'windows-1252' ? fromWindows(bytes) : null;

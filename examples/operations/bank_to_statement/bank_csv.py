@@ -50,7 +50,7 @@ def rows_of(text: str, rules: Rules) -> list[Row]:
     reader = csv.reader(file, delimiter=rules.separator, skipinitialspace=True, strict=True)
     rows: list[Row] = []
     try:
-        for cells in reader:
+        for cells in filter(None, reader):
             with within(f"line {reader.line_num}"):
                 take_row(rows, Row(reader.line_num, cells))
     except csv.Error as reason:

@@ -11,6 +11,8 @@ TIME = re.compile(r"([0-9]{4})-([0-9]{2})-([0-9]{2})(T[0-9:.]+)?(Z|[-+][0-9]{2}:
 SIGNS = {"CRDT": 1, "DBIT": -1}
 # So many elements a file may have.
 MOST = 200_000
+# Some banks write UTF-8 without its hyphen, a name that XML does not know.
+UTF8 = re.compile(rb"""(?:\xef\xbb\xbf)?<\?xml\s[^>]*?\sencoding\s*=\s*["']utf8["']""", re.IGNORECASE)
 BOOKED = "BOOK"
 NOT_BOOKED = {"PDNG", "INFO", "FUTR"}
 # The standard's own word for a reference that nobody gave.
@@ -157,7 +159,8 @@ def currency_of(statement: Element) -> str:
 def statement_element(data: bytes) -> Element:
     """The file's statement, with all names in it taken without their namespace."""
     try:
-        root = ElementTree.fromstring(data)
+        parser = ElementTree.XMLParser(encoding="utf-8" if UTF8.match(data) else None)
+        root = ElementTree.fromstring(data, parser)
     except (ElementTree.ParseError, LookupError, ValueError) as reason:
         raise NotUnderstood(f"the file is no XML: {reason}") from None
     if sum(1 for _ in root.iter()) > MOST:
