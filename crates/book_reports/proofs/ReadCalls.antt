@@ -14,8 +14,8 @@ counts-read (Err faults.Memory) before after is = omega arith
 -- and one that was refused adds one
 counts-refused : {T : Type 0} (result : Result T StoreFault) (before after : ℕ) → after ≡ counted result before → result ≡ Err faults.Store
     → IsRaisedBy 1 before after
-counts-refused result before after is refused =
-    let one : after ≡ counted (Err faults.Store) before = is ∙ ap (λ r. counted r before) refused in
+counts-refused {T} result before after is refused =
+    let one : after ≡ counted {T = T} (Err faults.Store) before = is ∙ ap (λ r. counted r before) refused in
     omega (arith, one)
 
 pub refused_read : {T : Type 0} {result : Result T StoreFault} {old new : Seen} → IsRead result old new → result ≡ Err faults.Store
@@ -25,6 +25,10 @@ refused_read {result} {old} {new} read refused = counts-refused result old.refus
 -- a read is a series of reads
 pub reads_of_read : {T : Type 0} {result : Result T StoreFault} {old new : Seen} → IsRead result old new → AreReads old new
 reads_of_read {result} {old} {new} read = record { same = read.same; was_clean = read.was_clean; was_sure = read.was_sure; still_stands = read.still_stands; still_lasts = read.still_lasts; crash = λ clean stands. read.crash (new.clean_is_sure clean) stands; counts = counts-read result old.refusals new.refusals read.count }
+
+-- and so is one such series after another
+pub reads_then : {old mid new : Seen} → AreReads old mid → AreReads mid new → AreReads old new
+reads_then {old} {mid} {new} a b = grind (arith, ints, nat_tests)
 
 -- a read after another
 pub read-then : {T U : Type 0} {x : T} {result : Result U StoreFault} {old now new : Seen}
