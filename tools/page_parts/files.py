@@ -5,6 +5,8 @@ import pathlib
 import subprocess
 import time
 
+from selenium.webdriver.common.keys import Keys
+
 from .browser import PHONE, Browser
 from .checks import Checks
 from .firm import ROOT, Desk, Firm
@@ -100,11 +102,11 @@ def take_csv(bank: Bank) -> None:
     look(bank.browser, "the columns of a file", bank.checks)
     bank.has("The balances of the file do not go with its amounts. Type one balance")
     give(bank, column_0="")
-    rows = bank.browser.find("#rows")[0]
-    rows.clear()
-    rows.send_keys("1\t")
-    bank.browser.settle()
-    bank.checks.same("what has the focus behind the rows", bank.browser.run("return document.activeElement.id"), "format")
+    for rows in ("0", "1"):
+        bank.browser.find("#rows")[0].send_keys(Keys.END, Keys.BACKSPACE, rows, Keys.TAB)
+        bank.browser.settle()
+        bank.checks.same(f"what has the focus behind {rows} rows", bank.browser.run("return document.activeElement.id"),
+                         "format")
     bank.browser.press("Take it and match")
     is_kept(bank, "checks.csv", by_script(str(BANK / "checks.csv"), str(BANK / "checks.rules")))
     take(bank, "checks.csv")
