@@ -144,6 +144,11 @@ fn file_at(rt: &HostRuntime, path: &str) -> Option<File> {
     }
 }
 
+// Whether a file has no byte.
+fn is_empty(file: &File) -> bool {
+    file.metadata().is_ok_and(|found| found.len() == 0)
+}
+
 // Whether a path names this file.
 fn names(rt: &HostRuntime, path: &str, file: &File) -> bool {
     match (file.metadata(), fs::symlink_metadata(rt, path)) {
@@ -165,10 +170,17 @@ fn connection_there<T: Start>(
         → FindsIn (image_at T.Start) (file_state conn)) }
 {
     let held = file_at(rt, path);
+    let was_empty = held.as_ref().is_some_and(is_empty);
     let conn = connection_at(rt, path, start)?;
     match held {
         Some(file) if names(rt, path, &file) => Ok(conn),
-        Some(_) | None => Err(NoBook::InUse),
+        Some(_) | None => {
+            // What begins a database in an empty file is taken out of the log, which is another file's now.
+            if was_empty {
+                let _ = copied(conn);
+            }
+            Err(NoBook::InUse)
+        }
     }
 }
 
