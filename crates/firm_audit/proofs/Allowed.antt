@@ -2,7 +2,6 @@
 use Rattle.firm_audit.proofs.Names.{◌≡◌, ℕ, true, false, List, [], ◌∷◌, Option, Some, None, refl, sym, ◌∙◌, subst, false≢true, option_map}
 use Rattle.std.proofs.lemmas.Slice.Eq.{bytes_eq-Decides}
 use Rattle.std.specs.Str.{bytes_eq}
-use Rattle.trust_base.specs.declared.refusal.Rule.{Rule}
 use Rattle.matter_rows.specs.declared.act.Act.{Act}
 use Rattle.matter_rows.specs.declared.act.Caller.{Caller}
 use Rattle.matter_rows.specs.declared.act.Caller.TheVariants as caller

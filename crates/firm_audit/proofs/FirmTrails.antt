@@ -9,12 +9,12 @@ use Rattle.firm_rows.specs.declared.matter_act.MatterAct.{MatterAct}
 use Rattle.trust_store.specs.declared.all_rows.AllRows.{AllRows}
 use Rattle.trust_store.proofs.KeptMatters.{found_ok}
 use Rattle.trail_laws.specs.Dossier.{Dossier}
-use Rattle.firm_audit.specs.Trails.{AreMattersFound, HasActsAlone, HasItsTrail, IsAmissAmong, IsAmong, IsEntryFlaw, IsMatterFlawed, IsTrailFlawOf, IsTrailFound, IsTrailOf, acts_among, all_with, dossier_of, dossier_kept, entries_with, is_approved_issue, is_earlier_issue}
+use Rattle.firm_audit.specs.Trails.{AreMattersFound, HasActsAlone, HasItsTrail, IsActFlaw, IsAmissAmong, IsAmong, IsEntryFlaw, IsMatterFlawed, IsTrailFlawOf, IsTrailFound, IsTrailOf, acts_among, all_with, dossier_of, dossier_kept, entries_with, is_approved_issue, is_earlier_issue}
 use Rattle.firm_audit.specs.declared.trail.TrailFlaw.{TrailFlaw}
 use Rattle.firm_audit.specs.declared.trail.TrailFlaw.TheVariants as flaw
 use Rattle.firm_audit.specs.declared.trail.TrailFound.{TrailFound}
 use Rattle.firm_audit.specs.declared.trail.TrailFound.TheVariants as found
-use Rattle.firm_audit.proofs.Counted.{counted-joined}
+use Rattle.firm_audit.proofs.Counted.{counted-joined, earlier-joined}
 use Rattle.firm_audit.proofs.Strays.{rows-there}
 
 -- Whether a matter is among those that were loaded.
@@ -92,11 +92,11 @@ module _ (rows : AllRows) (kept : AreKeptWhole rows.matters.items) where
   own-dossier : (m : ℕ) → dossier-of m (rows_in m ks) ≡ dossier_of m firm
   own-dossier m = ap (dossier-of m) (own-rows m)
 
-  pub alone-flawed : (m : ℕ) → HasActsAlone ks acts m → IsTrailOf (dossier_of m firm) → ⊥
+  pub alone-flawed : (m : ℕ) → HasActsAlone ks acts m → IsTrailOf m (dossier_of m firm) → ⊥
   alone-flawed m alone fits =
       alone.some
-      (subst (λ (r : Rows). IsTrailOf (dossier-of m r)) alone.gone
-      (subst IsTrailOf (sym (own-dossier m)) fits))
+      (subst (λ (r : Rows). IsTrailOf m (dossier-of m r)) alone.gone
+      (subst (IsTrailOf m) (sym (own-dossier m)) fits))
 
   amiss-flawed : (f : TrailFlaw) → IsAmissAmong ks acts f → IsTrailFlawOf firm f
   amiss-flawed f among = cases f among.flawed
@@ -111,16 +111,19 @@ module _ (rows : AllRows) (kept : AreKeptWhole rows.matters.items) where
 
       cases : (g : TrailFlaw) → IsMatterFlawed among.kept (acts_among among.kept.number acts) g → IsTrailFlawOf firm g
       cases (flaw.Matter n) flawed =
-          subst (λ (j : ℕ). ¬ IsTrailOf (dossier_of j firm)) (sym flawed.0)
-          (subst (λ (p : Dossier). ¬ IsTrailOf p) here flawed.1)
+          subst (λ (j : ℕ). ¬ IsTrailOf j (dossier_of j firm)) (sym flawed.0)
+          (subst (λ (p : Dossier). ¬ IsTrailOf m p) here flawed.1)
+      cases (flaw.Act n place) flawed =
+          subst (λ (j : ℕ). IsActFlaw j (dossier_of j firm) place) (sym flawed.0)
+          (subst (λ (p : Dossier). IsActFlaw m p place) here flawed.1)
       cases (flaw.Entry n e) flawed =
           subst (λ (j : ℕ). IsEntryFlaw (dossier_of j firm) e) (sym flawed.0)
           (subst (λ (p : Dossier). IsEntryFlaw p e) here flawed.1)
 
-  fits-all : AllByRecursion (λ a. IsAmong ks a.matter) acts → AllByRecursion (λ k. IsTrailOf (dossier_kept k (acts_among k.number acts))) ks → HasItsTrail firm
+  fits-all : AllByRecursion (λ a. IsAmong ks a.matter) acts → AllByRecursion (λ k. IsTrailOf k.number (dossier_kept k (acts_among k.number acts))) ks → HasItsTrail firm
   fits-all among all m =
-      subst IsTrailOf (own-dossier m)
-      (each-among (λ n r. IsTrailOf (dossier-of n r)) m ks kept.ascends (none-alone m ks acts among) all)
+      subst (IsTrailOf m) (own-dossier m)
+      (each-among (λ n r. IsTrailOf n (dossier-of n r)) m ks kept.ascends (none-alone m ks acts among) all)
 
   all-counted : (test : List Act → ℕ → Entry → Bool) → entries_with test firm ≡ all_with test acts ks
   all-counted test = counted-joined test (λ m. acts_among m acts) ks kept.whole
@@ -133,5 +136,6 @@ module _ (rows : AllRows) (kept : AreKeptWhole rows.matters.items) where
     record {
       approved = is.1.approved ∙ ap (λ n. min n (2 ^ 64 - 1)) (sym (all-counted is_approved_issue));
       earlier = is.1.earlier ∙ ap (λ n. min n (2 ^ 64 - 1)) (sym (all-counted is_earlier_issue));
+      matters = is.1.matters ∙ ap (λ n. min n (2 ^ 64 - 1)) (sym (earlier-joined (λ m. acts_among m acts) ks));
     },
   )

@@ -9,6 +9,7 @@ pub mod Fronts
 pub mod Journals
 pub mod KeptRows
 pub mod Neighbours
+pub mod PutBehind
 pub mod Refuted
 pub mod Sound
 pub mod Strays

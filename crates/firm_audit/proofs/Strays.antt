@@ -38,7 +38,7 @@ unlike-of k vs n whole among =
 
 -- The matters by their numbers.
 
-below-at : (m : ℕ) (ks : List KeptMatter) (i : ℕ) (k : KeptMatter) → IsBefore m ks → slice_get ks i ≡ Some k → m < k.number
+pub below-at : (m : ℕ) (ks : List KeptMatter) (i : ℕ) (k : KeptMatter) → IsBefore m ks → slice_get ks i ≡ Some k → m < k.number
 below-at m [] i k before at = absurd (cc)
 below-at m (j ∷ ks) zero k before at = let same : j ≡ k = cc in subst (λ (x : KeptMatter). m < x.number) same before.0
 below-at m (j ∷ ks) (suc i) k before at = below-at m ks i k before.1 at

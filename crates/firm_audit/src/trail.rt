@@ -1,43 +1,52 @@
 // Whether a firm's trail fits its rows.
 
-ghost use Rattle.std.specs.Prelude.{◌≡◌, ◌↔◌, ◌+◌, ◌-◌, ◌^◌, ◌++◌, ◌&&◌, [], true, cond, fold, min, None, Some, IfOk, IfSome, IsTrue, OnOk, option_to_list};
-ghost use Rattle.std.specs.List.{AllByRecursion, filter, list_any};
-ghost use Rattle.matter_rows.specs.Rows.{comes_before, entry_at, is_number, seats_with};
+ghost use Rattle.std.specs.Prelude.{◌≡◌, ◌↔◌, ◌+◌, ◌-◌, ◌^◌, ◌&&◌, not, true, cond, min, None, Some, IfOk, IfSome, IsTrue, option_to_list};
+ghost use Rattle.std.specs.List.{AllByRecursion, list_any};
+ghost use Rattle.matter_rows.specs.Rows.{entry_at, is_gone, is_number};
 ghost use Rattle.matter_parts.specs.Parts.{entries_kept};
 ghost use Rattle.trust_store.specs.Kept.{Ascends, AreKeptWhole, IsKeptWhole, firm_of_all};
-ghost use Rattle.trail_laws.specs.Signed.{AreAllowed, approves, begins_with_opening, days_of_approval, days_of_issue};
-ghost use Rattle.trail_laws.specs.Signed.{is_allowed, rule_done, seats_by};
+ghost use Rattle.trail_laws.specs.Replayed.{IsReplayed};
+ghost use Rattle.trail_laws.specs.Signed.{approves, begins_with_opening, days_of_approval, days_of_issue, rule_done};
 ghost use Rattle.trust_matter.specs.Policy.{Cashier, has, standing_in};
-ghost use Rattle.firm_audit.specs.Trails.{AreEntriesFound, AreMattersFound, AreSeatedBy, HasActsAlone, IsAmong};
-ghost use Rattle.firm_audit.specs.Trails.{IsApprovedAs, IsMatterTrail, IsOfEntry, IsTrailFound, acts_among};
-ghost use Rattle.firm_audit.specs.Trails.{MayBeAllowed, has_day};
+ghost use Rattle.firm_audit.specs.Trails.{AreEntriesFound, AreMattersFound, HasActsAlone, IsAmong};
+ghost use Rattle.firm_audit.specs.Trails.{IsApprovedAs, IsMatterFlawed, IsMatterTrail, IsOfEntry, IsTrailFound};
+ghost use Rattle.firm_audit.specs.Trails.{MayBeAllowed, dossier_kept, has_day};
 
+use crate::grouped::acts_by_matter;
 use firm_rows::MatterAct;
 use matter_parts::Kept;
-use matter_rows::{Act, Caller, Deed, Entry, Role, Seat, drop_seat, role_of, seats_copied};
+use matter_rows::{Act, Caller, Deed, Entry, Role};
 use std::alloc::{AllocError, Global};
-use trust_base::{Day, EntryNo, MatterNo, PersonId, Rule};
+use trail_replay::{Replay, replayed};
+use trust_base::{Day, EntryNo, MatterNo, Rule};
 use trust_store::{AllRows, KeptMatter, matter_place};
 
 /// The first thing found in which a firm's trail does not fit its rows. `specs/Trails` says what each is.
 #[derive(Clone, Copy)]
 pub enum TrailFlaw {
-    /// The matter's acts do not fit its rows: it has none, since it was never opened or was purged; an act was not
-    /// allowed to its caller, with the seats of its moment; or the seats are not those that the acts left. Of a matter
-    /// that is older than its acts: an act was not allowed to its caller, whatever the seats were.
+    /// The matter's acts do not fit its rows: it has none, since it was never opened or was purged; or each act follows
+    /// from those before it, and they make another matter. Of a matter that is older than its acts: an act was not
+    /// allowed to its caller, whatever the seats were.
     Matter(MatterNo),
-    /// The entry's approvals are not the one of its issue, or the matter has acts of it and no such entry.
+    /// The act at this place among the matter's acts, counted from 1, is the first that does not follow from those
+    /// before it: with what the rows say of it, the matter that they make refuses it, or remembers it as another act.
+    Act { matter: MatterNo, act: u64 },
+    /// Of a matter that is older than its acts: the entry's approvals are not the one of its issue, or the matter has
+    /// acts of it and no such entry.
     Entry { matter: MatterNo, entry: EntryNo },
 }
 
-/// How many payments that are or were issued have an approval in the trail, and how many have none: these are of
-/// matters that are older than it.
+/// How many payments that are or were issued have an approval in the trail, and how many have none; and how many
+/// matters are older than their acts.
 #[derive(Clone, Copy)]
 pub struct TrailCounts {
-    /// Those with an approval, up to 2^64 - 1.
+    /// The payments with an approval, up to 2^64 - 1.
     pub approved: u64,
-    /// Those without, up to 2^64 - 1.
+    /// Those without, up to 2^64 - 1: they are of matters that are older than their acts.
     pub earlier: u64,
+    /// The matters that are neither purged nor unopened and whose acts do not begin with their opening, up to 2^64 - 1:
+    /// they were opened before the book had acts, or the act of their opening is gone.
+    pub matters: u64,
 }
 
 /// What was found of a firm's trail.
@@ -47,19 +56,6 @@ pub enum TrailFound {
     Fits(TrailCounts),
     /// It does not.
     Flawed(TrailFlaw),
-}
-
-// The acts of a matter, in order.
-fn acts_of(alloc: Global, matter: MatterNo, acts: &[MatterAct]) -> Result<Vec<Act>, AllocError>
-    ensures { IfOk result (λ own. own.items ≡ acts_among matter acts.now) }
-{
-    let mut own = Vec::new(alloc);
-    for act in acts {
-        if act.matter.get() == matter.get() {
-            own.push(act.act.copied()?)?;
-        }
-    }
-    Ok(own)
 }
 
 // The rule under which a deed is asked for.
@@ -101,146 +97,6 @@ fn is_in_role(role: Role, rule: Rule) -> bool
             Rule::Read | Rule::Claim | Rule::Propose | Rule::Sign => true,
             Rule::Dispute | Rule::Office | Rule::Firm => false,
         },
-    }
-}
-
-// Whether the policy allows an act to its caller, with these seats.
-fn is_allowed(seats: &Vec<Seat>, act: &Act) -> bool
-    ensures { result ≡ is_allowed seats.now.items act.now }
-{
-    let rule = rule_done(&act.deed);
-    match &act.caller {
-        Caller::Cashier => is_cashiers(rule),
-        Caller::Person(person) => match role_of(seats, person) {
-            Some(role) => is_in_role(role, rule),
-            None => false,
-        },
-    }
-}
-
-// The seats of persons who sort before this one.
-fn seats_before(alloc: Global, seats: &[Seat], person: &PersonId) -> Result<Vec<Seat>, AllocError>
-    ensures { IfOk result
-        (λ before. before.items ≡ filter (λ s. comes_before s.person person.now) seats.now) }
-{
-    let mut before = Vec::new(alloc);
-    for seat in seats {
-        if seat.person.is_before(person) {
-            before.push(seat.copied()?)?;
-        }
-    }
-    Ok(before)
-}
-
-// Adds the seats of persons who sort after this one.
-fn add_behind(after: &mut Vec<Seat>, seats: &[Seat], person: &PersonId) -> Result<(), AllocError>
-    ensures { OnOk result
-        (after.new.items ≡ after.old.items ++ filter (λ s. comes_before person.now s.person) seats.now) }
-{
-    for seat in seats {
-        if person.is_before(&seat.person) {
-            after.push(seat.copied()?)?;
-        }
-    }
-    Ok(())
-}
-
-// The seats with one more, by person.
-fn seats_with(alloc: Global, seats: &[Seat], new: &Seat) -> Result<Vec<Seat>, AllocError>
-    ensures { IfOk result (λ after. after.items ≡ seats_with seats.now new.now) }
-{
-    let mut after = seats_before(alloc, seats, &new.person)?;
-    after.push(new.copied()?)?;
-    add_behind(&mut after, seats, &new.person)?;
-    Ok(after)
-}
-
-// The seats after an act.
-fn seats_after(alloc: Global, seats: &[Seat], act: &Act) -> Result<Vec<Seat>, AllocError>
-    ensures { IfOk result (λ after. after.items ≡ seats_by seats.now act.now) }
-{
-    match &act.deed {
-        Deed::Opened(lawyer) => {
-            let mut first = Vec::new(alloc);
-            first.push(Seat {
-                person: lawyer.copied()?,
-                role: Role::Lawyer,
-            })?;
-            Ok(first)
-        }
-        Deed::Seated(seat) => seats_with(alloc, seats, seat),
-        Deed::Unseated(person) => {
-            let mut left = seats_copied(alloc, seats)?;
-            drop_seat(&mut left, person);
-            Ok(left)
-        }
-        Deed::Closed
-        | Deed::Deposited
-        | Deed::Cancelled
-        | Deed::Cleared
-        | Deed::Returned
-        | Deed::Proposed
-        | Deed::Approved
-        | Deed::Declined
-        | Deed::Withdrawn
-        | Deed::Voided
-        | Deed::Earned
-        | Deed::Disputed
-        | Deed::Claimed
-        | Deed::Offered(_)
-        | Deed::Accepted
-        | Deed::Awarded => seats_copied(alloc, seats),
-    }
-}
-
-// The seats that acts leave from none, if the policy allowed each to its caller.
-fn seats_left(alloc: Global, acts: &[Act]) -> Result<Option<Vec<Seat>>, AllocError>
-    ensures some { IfOk result (λ found. IfSome found
-        (λ seats. AreAllowed [] acts.now × (seats.items ≡ fold seats_by [] acts.now))) }
-    ensures none { IfOk result (λ found. found ≡ None → ¬ AreAllowed [] acts.now) }
-{
-    let mut seats = Vec::new(alloc);
-    for act in acts {
-        if !is_allowed(&seats, act) {
-            return Ok(None);
-        }
-        seats = seats_after(alloc, &seats, act)?;
-    }
-    Ok(Some(seats))
-}
-
-// Whether two lists of seats are the same.
-fn are_same(seats: &[Seat], others: &[Seat]) -> bool
-    ensures { IsTrue result ↔ seats.now ≡ others.now }
-{
-    if seats.len() != others.len() {
-        return false;
-    }
-    for (place, seat) in seats.iter().enumerate() {
-        let other = &others[place];
-        if !seat.person.is_same(&other.person) || !is_same_role(seat.role, other.role) {
-            return false;
-        }
-    }
-    true
-}
-
-fn is_same_role(role: Role, other: Role) -> bool
-    ensures { IsTrue result ↔ role ≡ other }
-{
-    match role {
-        Role::Client => matches!(other, Role::Client),
-        Role::Lawyer => matches!(other, Role::Lawyer),
-    }
-}
-
-// Whether the policy allowed each act with the seats of its moment, and the acts left these seats.
-fn are_seated(alloc: Global, acts: &[Act], seats: &[Seat]) -> Result<bool, AllocError>
-    ensures { IfOk result (λ are. IsTrue are ↔ AreSeatedBy acts.now seats.now) }
-{
-    match seats_left(alloc, acts)? {
-        Some(left) => Ok(are_same(&left, seats)),
-        None => Ok(false),
     }
 }
 
@@ -360,10 +216,10 @@ fn has_approval(days: &[Day]) -> bool
 }
 
 // One more, up to the greatest number, if both are so.
-fn one_more(count: u64, is_issued: bool, is_so: bool) -> u64
-    ensures { result ≡ min (count + cond (is_issued && is_so) 1 0) (2 ^ 64 - 1) }
+fn one_more(count: u64, is_there: bool, is_so: bool) -> u64
+    ensures { result ≡ min (count + cond (is_there && is_so) 1 0) (2 ^ 64 - 1) }
 {
-    if is_issued && is_so {
+    if is_there && is_so {
         count.saturating_add(1)
     } else {
         count
@@ -399,6 +255,29 @@ fn entries_found(
     Ok(TrailFound::Fits(counts))
 }
 
+// What of a matter's acts, which begin with its opening, is no part of a replay that makes the matter again.
+fn replay_flaw(
+    alloc: Global,
+    kept: &KeptMatter,
+    acts: &[Act],
+) -> Result<Option<TrailFlaw>, AllocError>
+    requires whole { IsKeptWhole kept.now }
+    requires begins { begins_with_opening acts.now ≡ true }
+    ensures made { IfOk result
+        (λ found. found ≡ None → IsReplayed kept.now.number (dossier_kept kept.now acts.now)) }
+    ensures flaw { IfOk result (λ found. IfSome found (IsMatterFlawed kept.now acts.now)) }
+{
+    let matter = kept.number;
+    Ok(match replayed(alloc, matter, &kept.matter, acts)? {
+        Replay::Made => None,
+        Replay::Misfit(place) => Some(TrailFlaw::Act {
+            matter,
+            act: place as u64 + 1,
+        }),
+        Replay::Other => Some(TrailFlaw::Matter(matter)),
+    })
+}
+
 // What was found of a matter's acts, counted on.
 fn matter_found(
     alloc: Global,
@@ -416,8 +295,8 @@ fn matter_found(
         }
     }
     if begins_with_opening(acts) {
-        if !are_seated(alloc, acts, kept.matter.seats())? {
-            return Ok(TrailFound::Flawed(TrailFlaw::Matter(matter)));
+        if let Some(flaw) = replay_flaw(alloc, kept, acts)? {
+            return Ok(TrailFound::Flawed(flaw));
         }
     } else if !may_all_be_allowed(acts) {
         return Ok(TrailFound::Flawed(TrailFlaw::Matter(matter)));
@@ -450,16 +329,20 @@ fn matters_found(
     matters: &[KeptMatter],
     acts: &[MatterAct],
 ) -> Result<TrailFound, AllocError>
-    requires { AllByRecursion IsKeptWhole matters.now }
+    requires { AreKeptWhole matters.now }
     ensures { IfOk result (AreMattersFound matters.now acts.now) }
 {
+    let groups = acts_by_matter(alloc, matters, acts)?;
     let mut counts = TrailCounts {
         approved: 0,
         earlier: 0,
+        matters: 0,
     };
-    for kept in matters {
-        let own = acts_of(alloc, kept.number, acts)?;
-        match matter_found(alloc, kept, &own, counts)? {
+    for (place, kept) in matters.iter().enumerate() {
+        let own = &groups[place];
+        let is_there = !kept.matter.is_gone();
+        counts.matters = one_more(counts.matters, is_there, !begins_with_opening(own));
+        match matter_found(alloc, kept, own, counts)? {
             TrailFound::Fits(more) => counts = more,
             TrailFound::Flawed(flaw) => return Ok(TrailFound::Flawed(flaw)),
         }
@@ -467,17 +350,18 @@ fn matters_found(
     Ok(TrailFound::Fits(counts))
 }
 
-/// Returns whether a firm's trail fits its rows, and how many of its payments have their approval in it, or the first
-/// flaw found; the flaw is there.
+/// Returns whether a firm's trail fits its rows, how many of its payments have their approval in it, and how many of
+/// its matters are older than their acts; or the first flaw found. The flaw is there.
 ///
-/// Of each matter whose acts begin with its opening, the policy allowed each act to its caller with the seats of that
-/// moment, the seats are those that the acts left, and each payment that is or was issued has exactly one approval, on
-/// the day of its issue, and nothing else has one. Of a matter that is older than its acts, the policy allowed each act
-/// with some seats, and an issued payment may have no approval. An act of an entry is of one that is there, and a
-/// matter without records has no acts.
+/// Of each matter whose acts begin with its opening, the rows say of each act what was asked, or what the bank showed,
+/// and all of it, asked or shown again in order from nothing, makes the same rows and the same acts. So the policy
+/// allowed each act to its caller with the seats of that moment, and each payment that is or was issued has exactly one
+/// approval, on the day of its issue. Of a matter that is older than its acts, the policy allowed each act with some
+/// seats, and an issued payment may have no approval. An act of an entry is of one that is there, and a matter without
+/// records has no acts.
 ///
-/// This takes one pass over all acts for each matter, one over the matter's for each of its entries, and memory for a
-/// copy of one matter's acts at a time. The only error is out of memory.
+/// This takes one pass over all acts, and one over a matter's for each of its entries, and memory for a copy of all acts
+/// and of one matter at a time. The only error is out of memory.
 pub fn audit_trail(alloc: Global, rows: &AllRows) -> Result<TrailFound, AllocError>
     requires { AreKeptWhole rows.now.matters.items }
     ensures { IfOk result (IsTrailFound (firm_of_all rows.now)) }

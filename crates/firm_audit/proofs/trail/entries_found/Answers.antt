@@ -1,4 +1,4 @@
-use Rattle.firm_audit.proofs.Names.{ap, ◌∙◌}
+use Rattle.firm_audit.proofs.Names.{ap, refl, ◌∙◌}
 use Rattle.firm_audit.specs.Trails.{IsKeptApproved, has_day}
 use Rattle.firm_audit.proofs.Counted.{entry-more, some-day}
 use Rattle.firm_audit.proofs.FoundTrails.{approved-as}
@@ -19,9 +19,9 @@ loop-one-preserved c =
           (all-next (IsKeptApproved acts) kept place one c.loop-one-test.true c.one-item.is approved rest);
       counted =
           entry-more acts kept place one c.args.before c.loop-one.counts
-          (record { approved = c.one_more.result; earlier = c.one_more-in-loop-one.result })
+          (record { approved = c.one_more.result; earlier = c.one_more-in-loop-one.result; matters = c.loop-one.counts.matters })
           c.is_some-is_issued.result c.has_approval-is_approved.result c.loop-one-test.true c.one-item.is
           (c.is_some-is_issued.ensures ∙ (some-day c.issue_day-issued.result ∙ ap has_day c.issue_day-issued.ensures))
           (c.has_approval-is_approved.ensures ∙ ap has_day (c.deref-in-loop-one.ensures.value ∙ c.in_ok-days.ensures))
-          c.one_more.ensures c.one_more-in-loop-one.ensures c.loop-one.invariant.counted;
+          c.one_more.ensures c.one_more-in-loop-one.ensures refl c.loop-one.invariant.counted;
     }
