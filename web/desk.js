@@ -154,8 +154,8 @@ export class Desk {
     }
 
     // What changes something. A browser has one password for a site: where somebody else has signed on in another
-    // window meanwhile, or nobody can say who it is, nothing is sent. Neither does an old page send to a newer desk. Where
-    // no answer came it can be sent again, as what was sent and not answered.
+    // window meanwhile, or nobody can say who it is, nothing is sent. Neither does an old page send to a newer desk.
+    // Where no answer came it can be sent again, as what was sent and not answered.
     async post(path, body) {
         const now = await askWho();
         if (now.person && !this.isOf(now)) return { ...NO_ANSWER, isUnknown: false, other: now.person };

@@ -15,7 +15,7 @@ from shared import free_port, wait_for
 
 from . import firms
 from .checks import Checks
-from .firm import Desk, Firm, password
+from .firm import ROOT, Desk, Firm, password
 from .month import DAY, HEADINGS, SHOWN, SPITEFUL
 from .reports import ADDRESSES
 from .views import LOOKS, NARROW, WIDE
@@ -171,9 +171,8 @@ def signed_on(person: str, firm: Firm, folder: pathlib.Path, checks: Checks) -> 
 
 VIEWS = ("#/", "#/open", "#/statement", "#/records", *ADDRESSES, f"#/reconciliation/{DAY}", f"#/clients/{DAY}",
          f"#/month/{DAY}", f"#/report/receipts/2026-03-01/{DAY}", f"#/report/outstanding/{DAY}", "#/m/000001",
-         "#/m/000001/card",
-         "#/m/000001/account/2026-03-01/2026-03-31", "#/m/000001/propose", "#/m/000001/e/0002", "#/m/000001/seats",
-         f"#/accounts/2026-03-01/{DAY}")
+         "#/m/000001/card", "#/m/000001/account/2026-03-01/2026-03-31", "#/m/000001/propose", "#/m/000001/e/0002",
+         "#/m/000001/e/0001/another", "#/m/000001/move", "#/own", "#/m/000001/seats", f"#/accounts/2026-03-01/{DAY}")
 
 
 def look_at_views(browser: Firefox, checks: Checks) -> None:
@@ -187,7 +186,9 @@ def look_at_views(browser: Firefox, checks: Checks) -> None:
             browser.to(view)
             checks.so(f"{at} is drawn", "The page failed" not in browser.text() and "Not shown" not in browser.text(),
                       browser.text())
-            for what, call, wanted in (("the pale texts", "paleTexts()", []), ("what is small", "smallControls()", []),
+            for what, call, wanted in (("the values that are no words", "rawValues()", []),
+                                       ("what is called by its kind", "mislabelledFields()", []),
+                                       ("the pale texts", "paleTexts()", []), ("what is small", "smallControls()", []),
                                        ("the ids that stand twice", "idsThatStandTwice()", []),
                                        ("what stands aside", "widthAside()", 0)):
                 checks.same(f"{at}: {what}", browser.run(f"{LOOKS} return {call}"), wanted)
@@ -225,9 +226,25 @@ def bring_statement(browser: Firefox, folder: pathlib.Path, checks: Checks) -> N
     checks.so("and imported", "statement.csv was imported." in told and "Lines that found their place 1" in told, told)
 
 
+def read_bank_file(browser: Firefox, checks: Checks) -> None:
+    """A worker reads the bank's own file; one balance is typed, and the month is closed."""
+    browser.to("#/statement")
+    browser.type("#file", str(ROOT / "cases" / "bank-files" / "july" / "fetched-later.ofx"))
+    browser.click("button", "Match")
+    told = browser.text()
+    checks.so("the bank's own file asks for a balance", "those between are missing. Type one balance" in told, told)
+    browser.type("#closing", f"370,041.25{TAB}")
+    browser.settle()
+    told = browser.text()
+    checks.so("the month is closed by it", "370,041.25 on 2026-07-31" in told, told)
+    files = browser.run("return performance.getEntriesByType('resource').map(({ name }) => name).join(' ')")
+    checks.so("a worker reads it", "/page/bank/worker.js" in files, files)
+
+
 def propose(browser: Firefox, checks: Checks) -> None:
+    """The number of the next check is there."""
     browser.to("#/m/000001/propose")
-    for name, words in (("amount", "12"), ("payee", "Court Clerk"), ("purpose", "copies"), ("instrument", "1012")):
+    for name, words in (("amount", "12"), ("payee", "Court Clerk"), ("purpose", "copies")):
         browser.type(f"[name={name}]", words)
     browser.click("button", "Propose it")
     told = browser.text()
@@ -237,14 +254,14 @@ def propose(browser: Firefox, checks: Checks) -> None:
 def be_a_lawyer(browser: Firefox, checks: Checks) -> None:
     """The first view has what waits; it is approved, and does not stand there any more."""
     told = browser.text()
-    checks.so("a lawyer's first view", "My matters" in told and "Court Clerk | copies | 1012" in told, told)
+    checks.so("a lawyer's first view", "My matters" in told and "Court Clerk | copies | 1008" in told, told)
     browser.click("main a", "0007")
     browser.click("button", "Approve 12.00")
     told = browser.text()
     checks.so("a lawyer approves", "Approved: 12.00 to Court Clerk." in told and "Void the payment" in told, told)
     browser.to("#/")
     told = browser.text()
-    checks.so("what was approved waits no more", "Court Clerk | copies | 1012" not in told, told)
+    checks.so("what was approved waits no more", "Court Clerk | copies | 1008" not in told, told)
     browser.to("#/report/journal")
     told = browser.text()
     checks.so("a lawyer reads no report", "Only the cashier reads the firm's reports" in told, told)
@@ -305,6 +322,7 @@ def play(program: str, folder: pathlib.Path, checks: Checks) -> None:
             book_by_keys(browser, checks)
             propose(browser, checks)
             bring_statement(browser, folder, checks)
+            read_bank_file(browser, checks)
         with signed_on("lee", firm, folder, checks) as browser:
             be_a_lawyer(browser, checks)
         with signed_on("ada", firm, folder, checks) as browser:

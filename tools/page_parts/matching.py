@@ -359,8 +359,8 @@ LEFT = (
 def advise(bank: Bank) -> None:
     """What the page's own module says of reasons that no file here has."""
     script = ("import('/page/reasons.js').then(({ adviceOn, whyLeft }) => done([adviceOn(arguments[0]), "
-              "whyLeft(arguments[0]).flat(Infinity).filter(Boolean).map((part) => part.textContent ?? part).join('')]), "
-              "String)")
+              "whyLeft(arguments[0]).flat(Infinity).filter(Boolean).map((part) => part.textContent ?? part)"
+              ".join('')]), String)")
     for reason, words, advice in LEFT:
         told = bank.browser.wait(script, reason)
         bank.checks.same(f"why a line with the reason {reason} is left", told[1], words)
@@ -464,7 +464,8 @@ def wait_for_an_import(bank: Bank) -> None:
     bank.browser.run(HEAR)
     bank.choose("none.csv", HEAD + "2026-03-14,OPEN,,zero,\n", "Import as it is")
     heard = bank.browser.run("return window.heard")
-    for words in ("Importing lines: 1", "Importing lines: 1, 5 seconds so far", "Importing lines: 1, 10 seconds so far"):
+    for words in ("Importing lines: 1", "Importing lines: 1, 5 seconds so far",
+                  "Importing lines: 1, 10 seconds so far"):
         bank.checks.so(f"while it waits the page says {words!r}", words in heard, heard)
     bank.has("A long statement may still be read.", "none.csv is kept in this browser")
     bank.put_away()

@@ -1,5 +1,5 @@
-"""What the bank does by itself: a deposit that comes back and whose money is spent, interest that is passed on, and what
-the month's end tells of payments with one number and of early lines."""
+"""What the bank does by itself: a deposit that comes back and whose money is spent, interest that is passed on, and
+what the month's end tells of payments with one number and of early lines."""
 import json
 import pathlib
 
@@ -60,7 +60,7 @@ def split(day: str, number: str, one: str, other: str) -> str:
 
 
 def month_end(bank: Bank) -> None:
-    """Of payments with one number those are told that the bank has not shown; an early line has its client and words."""
+    """Of payments with one number those are told that the bank has not shown; an early line has client and words."""
     desk = bank.firm.desk
     ask(desk, bank.checks, "cashier", "/matters/000002/entries/0003/deposit", amount="40.00", source="Cy Ruiz",
         description="wire of July")
@@ -99,8 +99,8 @@ def take_back_what_is_spent(bank: Bank) -> None:
     line = next(each for each in browser.find(".left .line") if "RETURNED" in each.text)
     next(each for each in line.find_elements("css selector", "button") if each.text == "Use this").click()
     browser.press("Match again")
-    bank.has("The firm owes 860.00 to matter 000002.", "340.00 of it is left", "Imported now, the line is an exception.",
-             "The firm pays 860.00 of its own money into the trust account")
+    bank.has("The firm owes 860.00 to matter 000002.", "340.00 of it is left",
+             "Imported now, the line is an exception.", "The firm pays 860.00 of its own money into the trust account")
     bank.checks.same("whether it is imported without a word", [each.text for each in browser.find("button")
                                                                 if each.text == "Import these"], [])
     look(browser, "a shortfall", bank.checks)
@@ -137,7 +137,7 @@ INTEREST = HEAD + ("2026-08-03,,I2,-590.12,IOLTA INTEREST REMITTANCE\n2026-08-03
 
 
 def pass_interest_on(bank: Bank) -> None:
-    """A matter is opened for it once; the interest is its deposit, the remittance its payment. Nothing is the firm's."""
+    """A matter is opened for it once; the interest is its deposit, the remittance its payment. None is the firm's."""
     browser = bank.browser
     own = bank.firm.desk.ask("cashier", "GET", "/firm/trial-balance")[1]
     bank.choose("interest.csv", INTEREST)

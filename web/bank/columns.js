@@ -20,7 +20,8 @@ export const CREDIT = /^(?:cr|c|crdt|credit|deposit|[+])$/i;
 
 // Cells of rows that are no lines of the account: its sums and balances.
 const SUMMARY = new RegExp('^(?:(?:sub|grand )?totals?'
-    + '(?: (?:credits|debits|deposits|withdrawals|payments|fees|checks))?|(?:beginning|opening|starting|previous|ending|closing|final) (?:ledger )?balance'
+    + '(?: (?:credits|debits|deposits|withdrawals|payments|fees|checks))?'
+    + '|(?:beginning|opening|starting|previous|ending|closing|final) (?:ledger )?balance'
     + '|balance (?:brought |carried )?forward)(?: (?:as of|on|for) .*)?:?$', 'iu');
 // Of these the ones with which the file opens.
 const OPENS = /^(?:beginning|opening|starting|previous|balance (?:brought )?forward)/iu;

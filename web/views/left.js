@@ -244,8 +244,9 @@ class Line {
         const tell = () => {
             const named = this.file.typed.has(no) && readReference(this.file.typed.get(no));
             const doubts = named === 'FIRM' ? this.doubtsOfFirm() : [];
-            told.replaceChildren(...(named ? [strong('Named here: '), referenceLink(named), '.',
-                doubts.map((each) => el('span', { class: 'warning' }, ' ', each))].flat(Infinity).filter(Boolean) : []));
+            const warnings = doubts.map((each) => el('span', { class: 'warning' }, ' ', each));
+            const parts = named ? [strong('Named here: '), referenceLink(named), '.', warnings] : [];
+            told.replaceChildren(...parts.flat(Infinity).filter(Boolean));
         };
         const input = el('input', { id, name: id, type: 'text', value: this.file.typed.get(no) ?? reference,
             autocomplete: 'off', spellcheck: 'false', 'aria-describedby': `${id}-error`,
@@ -344,8 +345,8 @@ export class LeftLines {
                 button(`Show all ${this.items.length}`, () => this.show(this.items.length))] : []));
     }
 
-    // What waits for the bank is known, or can't be read (null); with the deposits that the bank has shown, the lines of
-    // the firm's own, and the matter that takes interest.
+    // What waits for the bank is known, or can't be read (null); with the deposits that the bank has shown, the lines
+    // of the firm's own, and the matter that takes interest.
     know(entries, deposits, ownLines, account) {
         Object.assign(this, { entries, deposits, ownLines, account, isRead: true });
         for (const each of this.lines) if (each instanceof Line) each.know();

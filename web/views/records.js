@@ -68,8 +68,8 @@ class Records {
         }
         Object.assign(this, { name, records: readRecords(bytes), answers: [] });
         if (this.records.length && !this.records.some(hasVerb)) {
-            this.show(warningBox(`Nothing of ${name} was sent.`, p('None of its lines begins with a verb of a day sheet, '
-                + 'such as deposit. Is it the bank\u2019s? That is matched and imported as a ',
+            this.show(warningBox(`Nothing of ${name} was sent.`, p('None of its lines begins with a verb of a day '
+                + 'sheet, such as deposit. Is it the bank\u2019s? That is matched and imported as a ',
             link('#/statement', 'bank statement'), '.')));
             return;
         }

@@ -278,8 +278,8 @@ class Statement {
         await this.match();
     }
 
-    // Reads what waits for the bank, the deposits that it has shown, the firm's own lines and, for a line of interest, the
-    // matter that takes it, beside all else; what is late for another list is dropped.
+    // Reads what waits for the bank, the deposits that it has shown, the firm's own lines and, for a line of interest,
+    // the matter that takes it, beside all else; what is late for another list is dropped.
     async readEntries(left, told) {
         this.asks += 1;
         const mine = this.asks;
