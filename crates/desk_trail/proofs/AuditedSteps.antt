@@ -10,12 +10,15 @@ use Rattle.matter_rows.specs.declared.act.Act.{Act}
 use Rattle.matter_rows.specs.declared.head.Head.{Head}
 use Rattle.firm_rows.proofs.Ordered.{all-append}
 use Rattle.trail_laws.specs.Dossier.{Dossier}
+use Rattle.trail_laws.specs.Replayed.{IsReplayedIfOpened}
 use Rattle.trail_laws.specs.Signed.{IsSigned, approves, begins_with_opening, days_of_approval, days_of_issue, nothing_before}
 use Rattle.trail_laws.proofs.Growing.{Adds, AreBare, signed-bare, signed-more}
+use Rattle.trail_laws.proofs.Replayed.{opened-none}
 use Rattle.trail_laws.proofs.Steps.{step-adds}
 use Rattle.firm_audit.specs.Trails.{IsApprovedAs, IsSignedFrom, IsTrailOf, IsTrailWhere, MayBeAllowed}
 use Rattle.desk_trail.proofs.FittingActs.{AreFitting, AtMostOne, all-or-none, entry-once, may-be-allowed, none-fit, signed-later, steps-fit}
 use Rattle.desk_trail.proofs.KeptRuns.{StepsKeep}
+use Rattle.desk_trail.proofs.ReplayedRuns.{steps-replayed}
 
 -- What the audit asks of one matter, whether or not it is gone.
 
@@ -27,9 +30,10 @@ pub record AreAudited (p : Dossier) : Type 0 where
   pub allowed : AllByRecursion MayBeAllowed p.acts
   pub approved : (n : ℕ) → IsApprovedLater p n
 
-pub record IsWell (p : Dossier) : Type 0 where
+pub record IsWell (m : ℕ) (p : Dossier) : Type 0 where
   pub fitting : AreFitting p
   pub audited : AreAudited p
+  pub replayed : IsReplayedIfOpened m p
 
 -- a dossier without acts
 pub audited-none : (p : Dossier) → p.acts ≡ [] → AreAudited p
@@ -39,8 +43,12 @@ audited-none p none = record {
   approved = λ n. inl (ap (days_of_approval n) none);
 }
 
-pub well-none : (p : Dossier) → p.acts ≡ [] → IsWell p
-well-none p none = record { fitting = none-fit p none; audited = audited-none p none }
+pub well-none : (m : ℕ) (p : Dossier) → p.acts ≡ [] → IsWell m p
+well-none m p none = record {
+  fitting = none-fit p none;
+  audited = audited-none p none;
+  replayed = opened-none m p none;
+}
 
 -- From the audit, and to it.
 
@@ -49,44 +57,52 @@ approved-from : (p : Dossier) (n : ℕ) (opens : Bool)
 approved-from p n true is = inr is
 approved-from p n false is = is
 
-audited-from : (p : Dossier) (opens : Bool) → begins_with_opening p.acts ≡ opens → IsSignedFrom opens p → AreAudited p
-audited-from p true begins s = record {
-  opened = λ opens. s;
-  allowed = may-be-allowed [] p.acts s.allowed;
-  approved = λ n. signed-later nothing_before p n s;
+audited-from : (m : ℕ) (p : Dossier) (opens : Bool) → begins_with_opening p.acts ≡ opens → IsSignedFrom opens m p
+    → AreAudited p
+audited-from m p true begins s = record {
+  opened = λ opens. s.1;
+  allowed = may-be-allowed [] p.acts s.1.allowed;
+  approved = λ n. signed-later nothing_before p n s.1;
 }
-audited-from p false begins s = record {
+audited-from m p false begins s = record {
   opened = λ opens. absurd (false≢true (sym begins ∙ opens));
   allowed = s.allowed;
   approved = λ n. approved-from p n (begins_with_opening p.acts) (s.approved n);
 }
 
-pub well-of : (p : Dossier) → IsTrailOf p → IsWell p
-well-of p trail = cases (is_gone p.rows.head) refl trail
+replayed-from : (m : ℕ) (p : Dossier) (opens : Bool) → begins_with_opening p.acts ≡ opens → IsSignedFrom opens m p
+    → IsReplayedIfOpened m p
+replayed-from m p true begins s = λ opens. s.0
+replayed-from m p false begins s = λ opens. absurd (false≢true (sym begins ∙ opens))
+
+pub well-of : (m : ℕ) (p : Dossier) → IsTrailOf m p → IsWell m p
+well-of m p trail = cases (is_gone p.rows.head) refl trail
   where
-    cases : (gone : Bool) → is_gone p.rows.head ≡ gone → IsTrailWhere gone p → IsWell p
-    cases true gone none = well-none p none
+    cases : (gone : Bool) → is_gone p.rows.head ≡ gone → IsTrailWhere gone m p → IsWell m p
+    cases true gone none = well-none m p none
     cases false here is = record {
       fitting = record { gone = λ gone. absurd (false≢true (sym here ∙ gone)); there = is.0 };
-      audited = audited-from p (begins_with_opening p.acts) refl is.1;
+      audited = audited-from m p (begins_with_opening p.acts) refl is.1;
+      replayed = replayed-from m p (begins_with_opening p.acts) refl is.1;
     }
 
-signed-by : (p : Dossier) (opens : Bool) → begins_with_opening p.acts ≡ opens → AreAudited p → IsSignedFrom opens p
-signed-by p true begins is = is.opened begins
-signed-by p false begins is = record {
-  allowed = is.allowed;
+signed-by : (m : ℕ) (p : Dossier) (opens : Bool) → begins_with_opening p.acts ≡ opens → IsWell m p
+    → IsSignedFrom opens m p
+signed-by m p true begins well = (well.replayed begins, well.audited.opened begins)
+signed-by m p false begins well = record {
+  allowed = well.audited.allowed;
   approved = λ n.
       let approved = days_of_approval n p.acts in
       let issued = days_of_issue (entry_at p.rows.entries n) in
-      subst (λ opened. IsApprovedAs opened approved issued) (sym begins) (is.approved n);
+      subst (λ opened. IsApprovedAs opened approved issued) (sym begins) (well.audited.approved n);
 }
 
-pub trail-by : (p : Dossier) → IsWell p → IsTrailOf p
-trail-by p well = cases (is_gone p.rows.head) refl
+pub trail-by : (m : ℕ) (p : Dossier) → IsWell m p → IsTrailOf m p
+trail-by m p well = cases (is_gone p.rows.head) refl
   where
-    cases : (gone : Bool) → is_gone p.rows.head ≡ gone → IsTrailWhere gone p
+    cases : (gone : Bool) → is_gone p.rows.head ≡ gone → IsTrailWhere gone m p
     cases true gone = well.fitting.gone gone
-    cases false here = (well.fitting.there, signed-by p (begins_with_opening p.acts) refl well.audited)
+    cases false here = (well.fitting.there, signed-by m p (begins_with_opening p.acts) refl well)
 
 -- A step.
 
@@ -143,8 +159,9 @@ steps-audited p step sound is =
     step-adds nothing_before p step (λ begun after. AreAudited after)
     (λ after adds. audited-more p after adds sound is) audited-bare
 
-pub steps-well : StepsKeep IsWell
-steps-well p step sound is = record {
+pub steps-well : (m : ℕ) → StepsKeep (IsWell m)
+steps-well m p step sound is = record {
   fitting = steps-fit p step sound is.fitting;
   audited = steps-audited p step sound is.audited;
+  replayed = steps-replayed m p step sound is.replayed;
 }

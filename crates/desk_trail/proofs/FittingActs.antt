@@ -26,13 +26,12 @@ use Rattle.trust_matter.specs.declared.ask.Ask.TheVariants as ask
 use Rattle.firm_rows.proofs.Ordered.{all-append, all-map}
 use Rattle.trail_laws.specs.Dossier.{Dossier, acts_after, dossier_after_step}
 use Rattle.trail_laws.specs.Replayed.{asked_by, clients_in, of_entry, of_found, own_by_deed}
-use Rattle.trail_laws.specs.Signed.{AreAllowed, Beginning, IsNothing, IsSigned, begins_with_opening, days_of_approval, days_of_issue, issue_days, nothing_before, seats_by}
+use Rattle.trail_laws.specs.Signed.{AreAllowed, Beginning, IsSigned, days_of_approval, days_of_issue, issue_days, seats_by}
 use Rattle.trail_laws.proofs.AskedAgain.{ask-is}
 use Rattle.trail_laws.proofs.ShownAgain.{line-is}
 use Rattle.trail_laws.proofs.Told.{Grown, Keeps, StaysAt, StepIs}
-use Rattle.firm_audit.specs.Trails.{AreOfEntries, IsApprovedAs, IsOfEntry, MayBeAllowed, IsSignedFrom, IsTrailOf, IsTrailWhere}
+use Rattle.firm_audit.specs.Trails.{AreOfEntries, IsApprovedAs, IsOfEntry, MayBeAllowed}
 use Rattle.desk_trail.proofs.KeptRuns.{StepsKeep}
-use Rattle.desk_trail.specs.SignedRuns.{IsSignedSince}
 
 -- The act that a step adds.
 
@@ -181,15 +180,6 @@ pub all-or-none : (before days : List ℕ) → AtMostOne (before ++ days) → (d
 all-or-none [] days one = inr refl
 all-or-none (day ∷ before) days one = inl (none-behind before days one)
 
--- where nothing was before, a signed dossier is signed from nothing
-signed-opened : (b : Beginning) (p : Dossier) → IsSigned b p → IsNothing b → IsSigned nothing_before p
-signed-opened b p s nothing = record {
-  seats = subst (λ seats. fold seats_by seats p.acts ≡ p.rows.seats) nothing.seats s.seats;
-  allowed = subst (λ seats. AreAllowed seats p.acts) nothing.seats s.allowed;
-  issued = λ n. ap (λ days. days ++ days_of_approval n p.acts) (sym (nothing.issued n)) ∙ s.issued n;
-  opened = λ begins. record { seats = refl; issued = λ n. refl };
-}
-
 -- in a signed dossier an entry's approvals are those of its issue, or it was issued before and has none
 pub signed-later : (b : Beginning) (p : Dossier) (n : ℕ) → IsSigned b p
     → IsApprovedAs false (days_of_approval n p.acts) (days_of_issue (entry_at p.rows.entries n))
@@ -207,25 +197,3 @@ signed-later b p n s = cases (all-or-none (b.issued n) (days_of_approval n p.act
 pub may-be-allowed : (seats : List Seat) (acts : List Act) → AreAllowed seats acts → AllByRecursion MayBeAllowed acts
 may-be-allowed seats [] are = tt
 may-be-allowed seats (act ∷ acts) are = ((seats, are.0), may-be-allowed (seats_by seats act) acts are.1)
-
-signed-from : (b : Beginning) (p : Dossier) (opened : Bool) → IsSigned b p → begins_with_opening p.acts ≡ opened
-    → IsSignedFrom opened p
-signed-from b p true s begins = signed-opened b p s (s.opened begins)
-signed-from b p false s begins = record {
-  allowed = may-be-allowed b.seats p.acts s.allowed;
-  approved = λ n.
-      let approved = days_of_approval n p.acts in
-      let issued = days_of_issue (entry_at p.rows.entries n) in
-      subst (λ opened. IsApprovedAs opened approved issued) (sym begins) (signed-later b p n s);
-}
-
-since-from : (b : Beginning) (p : Dossier) → IsSignedSince b p → IsSignedFrom (begins_with_opening p.acts) p
-since-from b p (inl s) = signed-from b p (begins_with_opening p.acts) s refl
-since-from b p (inr s) = signed-from nothing_before p (begins_with_opening p.acts) s.signed refl
-
-pub trail-of : (b : Beginning) (p : Dossier) → AreFitting p → IsSignedSince b p → IsTrailOf p
-trail-of b p fits since = cases (is_gone p.rows.head) refl
-  where
-    cases : (gone : Bool) → is_gone p.rows.head ≡ gone → IsTrailWhere gone p
-    cases true gone = fits.gone gone
-    cases false here = (fits.there, since-from b p since)

@@ -36,7 +36,8 @@ Carries firm new =
 
 carried : (firm new : Firm) → Carries firm new → KeepsTrail firm new
 carried firm new carries = record {
-  fits = λ fits m. trail-by (dossier_of m new) (carries IsWell steps-well m (well-of (dossier_of m firm) (fits m)));
+  fits = λ fits m.
+      trail-by m (dossier_of m new) (carries (IsWell m) (steps-well m) m (well-of m (dossier_of m firm) (fits m)));
   signed = λ m b. carries (IsSignedSince b) (steps-signed b) m;
   replayed = λ m. carries (IsReplayedIfOpened m) (steps-replayed m) m;
   complete = λ m. carries AreComplete steps-complete m;
@@ -126,7 +127,7 @@ complete-whole firm m kept = kept.complete m (complete-none (dossier_of m empty_
 
 pub begun-trails_are_whole : BegunTrailsAreWhole
 begun-trails_are_whole firm kept = record {
-  fits = kept.fits (λ m. trail-by (dossier_of m empty_firm) (well-none (dossier_of m empty_firm) refl));
+  fits = kept.fits (λ m. trail-by m (dossier_of m empty_firm) (well-none m (dossier_of m empty_firm) refl));
   allowed = λ m. let s = signed-whole firm m kept in record { allowed = s.allowed; left = s.seats };
   approved = λ m n day issued. approved-whole firm m n day kept issued;
   named = λ s v sound there.
@@ -139,7 +140,7 @@ begun-trails_are_whole firm kept = record {
 
 pub older-trails_are_kept : OlderTrailsAreKept
 older-trails_are_kept first firm none sound kept = record {
-  fits = kept.fits (λ m. trail-by (dossier_of m first) (well-none (dossier_of m first) (bare m)));
+  fits = kept.fits (λ m. trail-by m (dossier_of m first) (well-none m (dossier_of m first) (bare m)));
   approved = λ m n day before issued.
       let b = beginning_of (of m first) in
       let since = kept.signed m b (inl (older-firms_are_signed m first (bare m))) in
