@@ -6,7 +6,7 @@ use Rattle.trust_base.specs.Refusals.{refused_by}
 use Rattle.trust_base.specs.Texts.{entry_text, matter_text}
 use Rattle.trust_base.specs.declared.refusal.StoreFault.{StoreFault}
 use Rattle.firm_audit.specs.Flaws.{IsFlawOf}
-use Rattle.firm_audit.specs.Trails.{AreApprovalsOf, HasItsTrail, IsTrailFlawOf}
+use Rattle.firm_audit.specs.Trails.{AreTrailCountsOf, HasItsTrail, IsTrailFlawOf}
 use Rattle.firm_audit.specs.declared.flaw.Flaw.{Flaw}
 use Rattle.firm_audit.specs.declared.flaw.Flaw.TheVariants as flaws
 use Rattle.firm_audit.specs.declared.trail.TrailCounts.{TrailCounts}
@@ -42,15 +42,18 @@ counts_text c =
     ++ (codes "\nEXCEPTIONS " ++ (decimal c.exceptions
     ++ (codes "\nBALANCES " ++ (decimal c.balances ++ codes "\n")))))))))))
 
--- how many payments that are or were issued have their approval in the trail, and how many are older than it
+-- how many payments that are or were issued have their approval in the trail, and how many are older than it; and how
+-- many matters are older than their acts
 abbrev pub approvals_text : TrailCounts → List ℕ
 approvals_text c =
     codes "APPROVALS " ++ (decimal c.approved
-    ++ (codes "\nEARLIER APPROVALS " ++ (decimal c.earlier ++ codes "\n")))
+    ++ (codes "\nEARLIER APPROVALS " ++ (decimal c.earlier
+    ++ (codes "\nEARLIER MATTERS " ++ (decimal c.matters ++ codes "\n")))))
 
 -- where the trail does not fit the rows
 abbrev pub trail_flaw_text : TrailFlaw → List ℕ
 trail_flaw_text (trail_flaws.Matter m) = codes "TRAIL " ++ matter_text m
+trail_flaw_text (trail_flaws.Act m n) = codes "TRAIL " ++ (matter_text m ++ (codes " ACT " ++ decimal n))
 trail_flaw_text (trail_flaws.Entry m n) = codes "TRAIL " ++ (matter_text m ++ (codes "-" ++ entry_text n))
 
 -- what is not sound
@@ -130,7 +133,7 @@ WasRefused before after row = IsRaisedBy (refused_alone row + 1) before after
 -- refused to read it, and had counted so many faults before and after
 abbrev pub IsTrueOf : Firm → ℕ → ℕ → CheckFound → Type 0
 IsTrueOf firm before after (found.Sound counts trail) =
-    FirmSound firm × AreCountsOf firm counts × HasItsTrail firm × AreApprovalsOf firm trail
+    FirmSound firm × AreCountsOf firm counts × HasItsTrail firm × AreTrailCountsOf firm trail
 IsTrueOf firm before after (found.Amiss counts flaw) =
     FirmSound firm × AreCountsOf firm counts × IsTrailFlawOf firm flaw
 IsTrueOf firm before after (found.Flawed flaw) = IsFlawOf firm flaw
@@ -166,7 +169,7 @@ pub record IsSaidSound (firm : Firm) (output : Output) : Type 0 where
   pub sound : FirmSound firm
   pub are : AreCountsOf firm counts
   pub fits : HasItsTrail firm
-  pub approvals : AreApprovalsOf firm trail
+  pub approvals : AreTrailCountsOf firm trail
 
 -- a flaw was printed, which the firm has, or a row that the book refused to read
 pub record IsSaidUnsound (before after : Seen) (output : Output) : Type 0 where

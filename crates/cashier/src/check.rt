@@ -64,7 +64,7 @@ impl fmt::Display for CountLines {
     }
 }
 
-// The lines for how many payments have their approval in the trail.
+// The lines for how many payments have their approval in the trail, and how many matters are older than their acts.
 #[derive(Clone, Copy)]
 struct ApprovalLines {
     counts: TrailCounts,
@@ -75,7 +75,11 @@ impl fmt::Display for ApprovalLines {
 
     fn fmt<W: fmt::Write>(&self, f: &mut fmt::Formatter<W>) -> fmt::Result {
         let (approved, earlier) = (self.counts.approved, self.counts.earlier);
-        write!(f, "APPROVALS {approved}\nEARLIER APPROVALS {earlier}\n")
+        let matters = self.counts.matters;
+        write!(
+            f,
+            "APPROVALS {approved}\nEARLIER APPROVALS {earlier}\nEARLIER MATTERS {matters}\n"
+        )
     }
 }
 
@@ -91,6 +95,7 @@ impl fmt::Display for TrailFlawName {
     fn fmt<W: fmt::Write>(&self, f: &mut fmt::Formatter<W>) -> fmt::Result {
         match self.flaw {
             TrailFlaw::Matter(matter) => write!(f, "TRAIL {matter}"),
+            TrailFlaw::Act { matter, act } => write!(f, "TRAIL {matter} ACT {act}"),
             TrailFlaw::Entry { matter, entry } => write!(f, "TRAIL {matter}-{entry}"),
         }
     }

@@ -51,9 +51,14 @@ pub fn write_trail_flaw<W: fmt::Write>(f: &mut fmt::Formatter<W>, flaw: &TrailFl
     match flaw {
         TrailFlaw::Matter(matter) => write!(
             f,
-            "matter {matter} ({ACT_TABLE}, {SEAT_TABLE}): \
-            an act in it was not its caller's to do, its seats are not those that its acts left, \
-            or it has acts and no records"
+            "matter {matter} ({ACT_TABLE}): its acts make other records than it has; \
+            or it has acts and no records; \
+            or it is older than its acts, and one was never its caller's to do"
+        ),
+        TrailFlaw::Act { matter, act } => write!(
+            f,
+            "act {act} of matter {matter} ({ACT_TABLE}): \
+            by the matter's records it does not follow from the acts before it"
         ),
         TrailFlaw::Entry { matter, entry } => write!(
             f,
