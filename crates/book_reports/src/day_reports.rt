@@ -276,7 +276,7 @@ fn append_month<B: Book>(
     let cut = append_approvals(alloc, book, month, text)?;
     Ok(Limits {
         lacks_statement: stated.lacks_statement,
-        is_purged: stated.is_purged || cut.is_purged,
+        is_purged: stated.is_purged | cut.is_purged,
     })
 }
 
