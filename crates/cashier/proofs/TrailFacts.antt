@@ -7,11 +7,12 @@ use Rattle.trust_desk.specs.Crashes.{AreNoFaultsButLast, IsMadeInRun}
 use Rattle.desk_trail.proofs.KeptRuns.{sound-behind}
 use Rattle.desk_trail.proofs.KeptTrails.{first-items_keep, items-keep_trails, onward, run-stops_keep_trails, runs-keep_trails, steps-keep_trails, stops-keep_trails, unchanged}
 use Rattle.desk_trail.specs.KeptTrails.{KeepsTrail}
+use Rattle.portal_http.specs.Clients.{Clients, clients_of}
 use Rattle.portal_http.specs.declared.server.ClientEnd.{ClientEnd}
 use Rattle.portal_http.specs.declared.server.ClientEnd.TheVariants as became
 use Rattle.portal_http.specs.declared.stream.StreamEnd.{StreamEnd}
 use Rattle.portal_http.specs.Served.{Served}
-use Rattle.portal_requests.specs.Requests.{heard_of}
+use Rattle.portal_http.specs.Requests.{heard_of}
 use Rattle.cashier.specs.Calls.{LeavesSame, LeavesTrail}
 use Rattle.cashier.specs.Crashes.{LeavesItems, LeavesRun, MeansGoingOn}
 use Rattle.cashier.specs.Outcome.{FileEnds, MatchFileEnds}
@@ -102,6 +103,13 @@ match-kept : (day : ℕ) (file : File) (output : Output) (told : Outcome) (befor
 match-kept day file output told before after (inl read) = same-kept before after read.ends.firm
 match-kept day file output told before after (inr unopened) = same-kept before after unopened.firm
 
+port-kept : {W : Type 0} (day : ℕ) (clients : Clients W) (refused : Type 0) (output : Output) (told : Outcome)
+    (before after : Firm) → FirmSound before → PortEnds day clients refused output told before after
+    → KeepsTrail before after
+port-kept day clients refused output told before after sound (inl served) =
+    clients-kept clients.contents day clients.comes before served.ends after sound served.met
+port-kept day clients refused output told before after sound (inr none) = same-kept before after none.firm
+
 pub run-kept : {W : Type 0} (words : List Text) (known : Known W) (output : Output) (told : Outcome)
     (before after : Firm) → FirmSound before → Ran words known output told before after → KeepsTrail before after
 run-kept words known output told before after sound (inl sheet) = sheet.trail
@@ -111,11 +119,9 @@ run-kept words known output told before after sound (inr (inr (inl match))) =
     match-kept match.today (known.files match.path.now) output told before after match.ends
 run-kept words known output told before after sound (inr (inr (inr (inl stream)))) =
     stream-kept before after sound stream.ends.ends
-run-kept words known output told before after sound (inr (inr (inr (inr (inl serve))))) = cases serve.ends
-  where
-    cases : PortEnds serve.today _ _ output told before after → KeepsTrail before after
-    cases (inl served) = clients-kept known.contents serve.today _ before served.ends after sound served.met
-    cases (inr refused) = same-kept before after refused.firm
+run-kept words known output told before after sound (inr (inr (inr (inr (inl serve))))) =
+    port-kept serve.today (clients_of serve.count known.contents (known.ports serve.port).comes)
+    (known.ports serve.port).refuses output told before after sound serve.ends
 run-kept words known output told before after sound (inr (inr (inr (inr (inr (inl report)))))) =
     steps-keep_trails report.today before after _ report.prints.reply sound report.prints.steps
 run-kept words known output told before after sound (inr (inr (inr (inr (inr (inr (inl check))))))) =
