@@ -14,6 +14,7 @@ from .firm import Desk, Fault, Firm, FrontEnd, Relay, password
 
 DAY = "2026-03-31"
 SHEET = "open,000001,,Ada Chen,lee\ndeposit,000001,0001,500.00,Ada Chen,retainer\n"
+LOST = ("chart.js", "views/month.js", "page.js")
 LONG = 90  # seconds until a page that is not whole says so, on a busy machine
 
 
@@ -34,7 +35,7 @@ def is_in_time(browser: Browser, words: str) -> bool:
 def lose_a_file(firm: Firm, checks: Checks) -> None:
     """Each of these files is refused once: the page says so, and is there once they come."""
     browser = Browser("cashier", firm.origin)
-    for name in ("chart.js", "views/month.js", "page.js"):
+    for name in LOST:
         browser.web.execute_cdp_cmd("Network.enable", {})
         browser.web.execute_cdp_cmd("Network.setCacheDisabled", {"cacheDisabled": True})
         browser.web.execute_cdp_cmd("Network.setBlockedURLs", {"urls": [f"*/{name}"]})
