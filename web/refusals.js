@@ -101,7 +101,7 @@ const REFUSALS = {
         `They may go from ${told.day} on.`],
     NoStatement: () => ['No closing balance of that day was imported.',
         'Import the statement that ends on the day, or ask for a day on which one ended.'],
-    PeriodPurged: () => ["A matter with entries of that time was purged, so that time can't be told whole.",
+    PeriodPurged: () => ["A matter that was open then was purged, so that time can't be told whole.",
         'Use what was printed or kept then.'],
     Store: () => ['The disk of the desk failed.', SEND_AGAIN],
     Memory: () => ['The desk has no room left.', SEND_AGAIN],

@@ -1,5 +1,5 @@
-// A client's statement of account: what a period began with, each movement with the ledger behind it, and what it ended
-// with. For the people of the matter too.
+// A client's statement of account: what a period began with, each movement with the balance behind it, and what it
+// ended with. For the people of the matter too.
 
 import { grouped } from '../amounts.js';
 import { noteBox, refusedBox } from '../boxes.js';
@@ -19,7 +19,7 @@ const FIRST = 200;
 const STALE = 180;
 
 const COLUMNS = [column('Day', 'tight'), column('Entry', 'tight'), column('What', 'tight'), column('Details'),
-    column('Amount', 'right'), column('Ledger', 'right')];
+    column('Amount', 'right'), column('Balance', 'right')];
 
 const cellsOf = ({ day, reference, kind, words, amount, sum }) =>
     [number(day), referenceLink(reference), MOVED[kind], label(words), money(amount), money(sum)];
