@@ -7,7 +7,7 @@ ghost use Rattle.desk_laws.specs.Counts.{EveryItemIsCounted};
 ghost use Rattle.desk_laws.specs.Matching.{FilledLinesAreApplied, FilledLinesAreInBook, SecondMatchFillsNothing};
 ghost use Rattle.desk_laws.specs.Dismissed.{DismissedOnce, DismissingMovesNothing, RunsKeepDismissals, StepsKeepDismissals};
 ghost use Rattle.desk_laws.specs.OnceOnly.{BalanceOnce, FirmLineOnce, LineOnceOnly, OnceOnly};
-ghost use Rattle.desk_laws.specs.Purging.{PurgingChangesNoFigure};
+ghost use Rattle.desk_laws.specs.Purging.{PurgingChangesNoClient, PurgingChangesNoFigure};
 ghost use Rattle.desk_laws.specs.ReasonsTold.{ReasonsAreVerdicts};
 ghost use Rattle.desk_laws.specs.ToldOwn.{EachIsToldOwn};
 ghost use Rattle.desk_laws.specs.Statuses.{RefusalsHaveTheirStatus};
@@ -82,9 +82,11 @@ pub fn every_item_is_counted()
 {}
 
 /// Purging a matter of a sound firm at the desk changes no figure and no list of a day whose records are complete
-/// afterwards, that is, no purged matter was closed after it, nor the clients' ledgers as of that day.
+/// afterwards, that is, no purged matter was closed after it. It changes no client's ledger as of a day, if no purged
+/// matter was open as of it.
 pub fn purging_changes_no_figure()
-    ensures { PurgingChangesNoFigure }
+    ensures figures { PurgingChangesNoFigure }
+    ensures clients { PurgingChangesNoClient }
 {}
 
 /// Dismissing a line from the exceptions moves nothing: the rows of all matters, the journal, the firm's own lines, the

@@ -24,7 +24,8 @@
 //!   its amount, so that another of its day with that amount is a repeat, and one with another amount is an exception
 //!   for ever (`balance_once`).
 //! - `laws` `purging_changes_no_figure`: an ask to purge a matter of a sound firm, whether it is accepted or refused,
-//!   changes no figure and no list of a day whose records are complete afterwards, nor a client's ledger as of it.
+//!   changes no figure and no list of a day whose records are complete afterwards (`figures`), and no client's ledger
+//!   as of a day as of which no purged matter was open (`clients`).
 //! - `laws` `dismissing_moves_nothing`, `dismissed_once`: whoever asks to dismiss a line, and whether it is dismissed
 //!   or refused: the rows of all matters, the journal, the firm's own lines, the balances and the acts stay as they
 //!   are. A line that was dismissed is no exception, and to dismiss it again is refused.

@@ -3,7 +3,8 @@ use Rattle.desk_laws.proofs.Names.{◌≡◌, ℕ, false, Option, Some, None, re
 use Rattle.matter_parts.specs.declared.edit.Edit.TheVariants as edit
 use Rattle.matter_parts.proofs.Moved.{figures-none}
 use Rattle.trust_matter.specs.declared.ask.Ask.TheVariants as ask
-use Rattle.firm_figures.specs.Purged.{IsPurge, is_period_purged}
+use Rattle.firm_figures.specs.Clients.{client_lines}
+use Rattle.firm_figures.specs.Purged.{IsPurge, is_period_purged, is_purged_at}
 use Rattle.figure_laws.proofs.PurgedClients.{no_client-left}
 use Rattle.figure_laws.proofs.PurgedPeriods.{no_figure-left, no_list-left}
 use Rattle.desk_laws.specs.Purging.{IsReportedAsBefore}
@@ -27,19 +28,37 @@ is-change rows day last kept = grind (arith, ints, nat_tests, figures-none)
 abbrev purge_ask : ℕ → Caller → Asked
 purge_ask day caller = asked_on day caller ask.Purge
 
-by-refusal : (day p m : ℕ) (caller : Caller) (firm : Firm) (o : Option Refusal) → FirmSound firm → refusal (of m firm) (purge_ask day caller) ≡ o
-    → is_period_purged p (after_asked o m (purge_ask day caller) firm) ≡ false → IsReportedAsBefore p firm (after_asked o m (purge_ask day caller) firm)
-by-refusal day p m caller firm (Some r) sound told whole = record { figures = refl; lists = record { transit = refl; out = refl; early = refl; exceptions = refl }; clients = refl }
-by-refusal day p m caller firm None sound accepted whole =
+-- the purge that an accepted ask makes
+purge-of_ask : (day m : ℕ) (caller : Caller) (firm : Firm) → FirmSound firm → refusal (of m firm) (purge_ask day caller) ≡ None
+    → IsPurge m firm (purge_of day (last_after (of m firm).head (edit.Purge day) day))
+purge-of_ask day m caller firm sound accepted =
     let last : ℕ = last_after (of m firm).head (edit.Purge day) day in
     let kept : IsKept (of m firm) (edit.Purge day) last = kept-by_step (step (of m firm) (purge_ask day caller) (sound.matters m) tt accepted) in
-    let purge : IsPurge m firm (purge_of day last) = record { fits = is-change (of m firm) day last kept; day = day; clears = refl } in
+    record { fits = is-change (of m firm) day last kept; day = day; clears = refl }
+
+figures-left : (day p m : ℕ) (caller : Caller) (firm : Firm) (o : Option Refusal) → FirmSound firm → refusal (of m firm) (purge_ask day caller) ≡ o
+    → is_period_purged p (after_asked o m (purge_ask day caller) firm) ≡ false → IsReportedAsBefore p firm (after_asked o m (purge_ask day caller) firm)
+figures-left day p m caller firm (Some r) sound told whole = record { figures = refl; lists = record { transit = refl; out = refl; early = refl; exceptions = refl } }
+figures-left day p m caller firm None sound accepted whole =
+    let last : ℕ = last_after (of m firm).head (edit.Purge day) day in
+    let purge = purge-of_ask day m caller firm sound accepted in
     record {
       figures = no_figure-left sound-covered p m (purge_of day last) firm sound purge whole;
       lists = no_list-left sound-covered p m (purge_of day last) firm sound purge whole;
-      clients = no_client-left sound-covered p m (purge_of day last) firm sound purge whole;
     }
 
+clients-left : (day p m : ℕ) (caller : Caller) (firm : Firm) (o : Option Refusal) → FirmSound firm → refusal (of m firm) (purge_ask day caller) ≡ o
+    → is_purged_at p (after_asked o m (purge_ask day caller) firm) ≡ false
+    → client_lines p (after_asked o m (purge_ask day caller) firm) ≡ client_lines p firm
+clients-left day p m caller firm (Some r) sound told whole = refl
+clients-left day p m caller firm None sound accepted whole =
+    let last : ℕ = last_after (of m firm).head (edit.Purge day) day in
+    no_client-left sound-covered p m (purge_of day last) firm sound (purge-of_ask day m caller firm sound accepted) whole
+
 pub returns : goal.returns
-returns c =
-    λ day p m caller firm sound whole. by-refusal day p m caller firm (refusal (of m firm) (purge_ask day caller)) sound refl whole
+returns c = record {
+  figures = λ day p m caller firm sound whole.
+      figures-left day p m caller firm (refusal (of m firm) (purge_ask day caller)) sound refl whole;
+  clients = λ day p m caller firm sound whole.
+      clients-left day p m caller firm (refusal (of m firm) (purge_ask day caller)) sound refl whole;
+}
