@@ -144,14 +144,14 @@ fn tell_waiting<M: Remarks, B: Book>(
 }
 
 // Which matters' records a report wants; None for one that wants those of all that are there.
-fn records_wanted(command: ReportCommand) -> Option<WantedRecords> {
+fn records_wanted(command: &ReportCommand) -> Option<WantedRecords> {
     match command {
-        ReportCommand::Reconcile(day) => Some(WantedRecords::ClosedAfter(day)),
-        ReportCommand::AsOf(DayReport::Clients | DayReport::Outstanding, day) => {
-            Some(WantedRecords::OpenAt(day))
-        }
-        ReportCommand::AsOf(DayReport::Month, day) => Some(WantedRecords::OfMonth(day)),
-        ReportCommand::Within(_, period) => Some(WantedRecords::OpenWithin(period)),
+        ReportCommand::Reconcile(day) => Some(WantedRecords::ClosedAfter(*day)),
+        ReportCommand::AsOf(report, day) => Some(match report {
+            DayReport::Clients | DayReport::Outstanding => WantedRecords::OpenAt(*day),
+            DayReport::Month => WantedRecords::OfMonth(*day),
+        }),
+        ReportCommand::Within(_, period) => Some(WantedRecords::OpenWithin(*period)),
         ReportCommand::Ledger(_)
         | ReportCommand::Account(_, _)
         | ReportCommand::Trail(_)
@@ -238,7 +238,7 @@ pub fn run_report<M: Remarks, W: Write, B: Book>(
         return outcome;
     }
     if let Outcome::Refused = outcome {
-        if let Some(wanted) = records_wanted(command) {
+        if let Some(wanted) = records_wanted(&command) {
             if is_purged {
                 tell_purged(alloc, remarks, desk, wanted);
             }
