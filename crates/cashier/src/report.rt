@@ -190,8 +190,8 @@ fn tell_of_day_to_come<M: Remarks>(remarks: &M, command: ReportCommand, today: D
 /// import would now accept it. After these and a reconciliation, which bank lines look like the same line. After a
 /// trial balance or a journal of a day that `is_past`, that there is later work. After an account, a reconciliation,
 /// what waits for the bank, and a packet of month's end, which of its payments the bank has not shown for more than 180
-/// days. After a refusal because of purged matters, which they are. The contract does not say what is told. A fault that ends it
-/// is reported too, but is not a fault of the run. If nobody is told, the book is not read for it.
+/// days. After a refusal because of purged matters, which they are. The contract does not say what is told. A fault that
+/// ends it is reported too, but is not a fault of the run. If nobody is told, the book is not read for it.
 ///
 /// The outcome is `Done` if the text was written, and `Refused` if the line of a refusal was. If the store failed or
 /// memory ran out, the line for that was printed, and it is `StoreFault` or `MemoryFault`. If a write failed, it is
@@ -238,10 +238,13 @@ pub fn run_report<M: Remarks, W: Write, B: Book>(
         return outcome;
     }
     if let Outcome::Refused = outcome {
-        if let Some(wanted) = records_wanted(&command) {
-            if is_purged {
-                tell_purged(alloc, remarks, desk, wanted);
-            }
+        let wanted = if is_purged {
+            records_wanted(&command)
+        } else {
+            None
+        };
+        if let Some(wanted) = wanted {
+            tell_purged(alloc, remarks, desk, wanted);
         }
         return outcome;
     }
