@@ -306,6 +306,20 @@ def search(browser: Firefox, checks: Checks) -> None:
     checks.so("a check's number is found in Firefox", "Found: 1 of 9." in told and "Sunrise" in told, told)
 
 
+def sign_off(firm: Firm, folder: pathlib.Path, checks: Checks) -> None:
+    """The browser forgets the password, once its question for another one is left."""
+    browser = Firefox("ada", firm.origin, folder / "firefox-leaving")
+    try:
+        before = len(firm.front.log())
+        for path in ("/sign-off", "/matters"):
+            browser.ask("WebDriver:Navigate", url=firm.origin + path)
+            browser.ask("WebDriver:DismissAlert")
+        asked = [line for line in firm.front.log()[before:] if not line.endswith("/favicon.ico")]
+        checks.same("what Firefox asks as who signed off", asked, ["401 ada GET /sign-off", "401 - GET /matters"])
+    finally:
+        browser.end()
+
+
 def play(program: str, folder: pathlib.Path, checks: Checks) -> None:
     if not shutil.which(PROGRAM):
         print(f"page: left out: Firefox: there is no {PROGRAM}", flush=True)
@@ -327,5 +341,6 @@ def play(program: str, folder: pathlib.Path, checks: Checks) -> None:
             be_a_lawyer(browser, checks)
         with signed_on("ada", firm, folder, checks) as browser:
             be_a_client(browser, checks)
+        sign_off(firm, folder, checks)
     finally:
         firm.end()

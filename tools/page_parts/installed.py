@@ -1,5 +1,5 @@
 """A firm that stands already, new and without a matter, as the package leaves it: a deposit and a payment are booked,
-shown by the bank's own file, approved, paid, and reconciled, by a cashier, two lawyers and a client."""
+shown by the bank's own file, approved, paid, and reconciled, by a cashier, two lawyers and a client, who signs off."""
 import datetime
 import pathlib
 import re
@@ -84,6 +84,14 @@ def reconcile(walk: Walk, day: datetime.date) -> None:
     walk.has(walk.ada, f"LEDGER {MATTER} Ada Chen", "4565.00")
 
 
+def sign_off(walk: Walk) -> None:
+    """The browser forgets the password, and is shown nothing."""
+    walk.ada.open("")
+    walk.ada.web.get(f"{walk.firm.origin}/sign-off")
+    walk.ada.web.get(f"{walk.firm.origin}/")
+    walk.checks.same("what the page shows to who signed off", walk.ada.find("main"), [])
+
+
 def play(origin: str, folder: pathlib.Path, checks: Checks) -> None:
     walk = Walk(typing.cast(Firm, Standing(origin)), folder, checks)
     try:
@@ -96,5 +104,6 @@ def play(origin: str, folder: pathlib.Path, checks: Checks) -> None:
         approve(walk)
         match(walk, [(day, ",B2,-435.00,CHECK 1001"), (day, "CLOSE,,4565.00,Closing balance")])
         reconcile(walk, day)
+        sign_off(walk)
     finally:
         walk.close()
