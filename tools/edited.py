@@ -6,7 +6,8 @@ import subprocess
 
 HUNK = re.compile(r"@@ -(\d+)(?:,(\d+))? \+(\d+)(?:,(\d+))? @@")
 FUNCTION = re.compile(r"( *)(?:pub(?:\(crate\))? )?(?:const )?fn (\w+)")
-IMPL = re.compile(r"impl(?:<.*?>)? (?:([\w:]+)(?:<.*>)? for )?&?([\w:]+)(?:<.*>)? ?")
+TRAIT = re.compile(r"(?:pub(?:\(crate\))? )?trait (\w+)")
+WORD = re.compile(r"'?\w+|&")
 CLAUSES = ("requires", "ensures", "ghost")
 # What a crate has beside its sources, and no proof of it reads.
 BESIDE = ("must-fail", "wrong-bodies", "stdin", "args", "stdout")
@@ -28,10 +29,36 @@ class Function:
         self.name, self.first, self.last = name, first, last
 
 
+def past_brackets(text):
+    """Where the angle brackets end with which a text begins; its start if it begins with none."""
+    depth = 0
+    for at, character in enumerate(text):
+        depth += (character == "<") - (character == ">")
+        if depth == 0:
+            return at + (character == ">")
+    return 0
+
+
+def words_of(text):
+    """The words of a type or a trait, without lifetimes; of a path the last."""
+    return [it for it in WORD.findall(re.sub(r"\w+::", "", text)) if it[0] != "'"]
+
+
+def joined(words, own):
+    """Words in one, without an impl's own parameters."""
+    return "".join("Ref" if it == "&" else it[0].upper() + it[1:] for it in words if it not in own)
+
+
 def impl_of(line):
-    """What a check calls the functions of an `impl`: their type, and the trait behind it, as in RemarkDisplay."""
-    found = IMPL.match(line)
-    return "".join(word.split("::")[-1] for word in (found[2], found[1] or "")) if found else None
+    """What a check calls an `impl`: RemarkDisplay where it is of a trait (Drop is not named), else Text+LabelForm."""
+    head = line.removeprefix("impl").rstrip("{} ")
+    at = past_brackets(head)
+    own = {it.split(":")[0].strip() for it in re.split(r"[<>,+]", head[:at])}
+    trait, _, of = head[at:].strip().rpartition(" for ")
+    name, *arguments = words_of(of)
+    if trait and trait != "Drop":
+        return (joined([name, *arguments], own) or "Any") + joined(words_of(trait), own)
+    return name if own.issuperset(arguments) else "+".join([name, *arguments])
 
 
 def is_head_over(lines, at, indent):
@@ -49,6 +76,8 @@ def functions_in(lines):
     for at, line in enumerate(lines):
         if line.startswith("impl"):
             impl = impl_of(line)
+        elif trait := TRAIT.match(line):
+            impl = trait[1]
         elif line.startswith("}"):
             impl = None
         begins = FUNCTION.match(line)
