@@ -1,6 +1,8 @@
 -- The bank's words, and fields one behind the other.
 use Rattle.trust_reports.proofs.Names.{◌≡◌, ℕ, List, [], ◌∷◌, ◌++◌, codes, map, flat_map, true, arith, append_assoc, append-nil, encode_utf8, encode_utf8_all, IsUtf8, is_utf8, map-append, further, line, shown, ints, nat_tests}
+use Rattle.std.proofs.Common.{◌+◌, ◌<◌, ap, get_or, length, sym, take, ◌∙◌}
 use Rattle.std.proofs.lemmas.Grind.{flat_map-append}
+use Rattle.std.proofs.lemmas.List.{take_more}
 use Rattle.std.proofs.lemmas.Str.{IsUtf8-from_is_utf8, encodes-append}
 use Rattle.std.specs.Prelude.{ℤ, neg_ℤ}
 use Rattle.firm_figures.specs.declared.figures.ReconciliationFigures.{ReconciliationFigures}
@@ -22,9 +24,20 @@ pub fields_more : (out a b t field : List ℕ) (fields more : List (List ℕ)) �
     → t ≡ out ++ line field (fields ++ more)
 fields_more out a b t field fields more first second third = rw (third, second, first) (simp (flat_map-append, append_assoc))
 
+-- a line more of a list
+pub lines_more : {A : Type 0} (f : A → List ℕ) (xs : List A) (i : ℕ) (x : A) (out a t : List ℕ) → i < length xs → x ≡ get_or xs i x → a ≡ out ++ flat_map f (take i xs) → t ≡ a ++ f x
+    → t ≡ out ++ flat_map f (take (i + 1) xs)
+lines_more f xs i x out a t within is before now =
+    let more : take (i + 1) xs ≡ take i xs ++ x ∷ [] = take_more xs i x within ∙ ap (λ y. take i xs ++ y ∷ []) (sym is) in
+    rw (now, before, more) (simp (flat_map-append, append_assoc, append-nil))
+
 -- three parts, one behind the other
 pub three_parts : (out a b t x y z : List ℕ) → a ≡ out ++ x → b ≡ a ++ y → t ≡ b ++ z → t ≡ out ++ (x ++ (y ++ z))
 three_parts out a b t x y z first second third = rw (third, second, first) (simp append_assoc)
+
+-- four parts
+pub four_parts : (out a b c t w x y z : List ℕ) → a ≡ out ++ w → b ≡ a ++ x → c ≡ b ++ y → t ≡ c ++ z → t ≡ out ++ (w ++ (x ++ (y ++ z)))
+four_parts out a b c t w x y z first second third fourth = rw (fourth, third, second, first) (simp append_assoc)
 
 -- the rest of a report after a heading and two blocks that were written as one
 pub in_figures : (out a t h b k z : List ℕ) → a ≡ out ++ h → t ≡ a ++ ((b ++ k) ++ z) → t ≡ out ++ (h ++ (b ++ (k ++ z)))

@@ -1,5 +1,6 @@
 -- How the trail and the approvals of a period are printed.
-use Rattle.std.specs.Prelude.{ℕ, cond, List, [], ◌∷◌, ◌++◌, codes, flat_map, map, Option, Some, None}
+use Rattle.std.specs.Prelude.{ℕ, Bool, true, false, not, ◌==◌, List, [], ◌∷◌, ◌++◌, codes, flat_map, map, Option, Some, None}
+use Rattle.std.specs.List.{list_any}
 use Rattle.trust_base.specs.Periods.{Span}
 use Rattle.trust_base.specs.Texts.{amount_text, day_text, matter_text}
 use Rattle.matter_rows.specs.declared.act.Caller.{Caller}
@@ -60,38 +61,56 @@ dismissal_line d =
     ++ (flat_map further (codes "-" ∷ caller_text caller.Cashier ∷ codes "DISMISSED" ∷ [])
     ++ further (exception_line d.line))
 
--- The trail: the acts in the order of acceptance, and behind them the dismissals in theirs.
+-- Acts that begin late.
 
-abbrev pub trail_text : ℕ → List MatterAct → List Dismissal → List ℕ
-trail_text today acts dismissals =
-    heading (codes "TRAIL") today ++ (flat_map act_line acts ++ flat_map dismissal_line dismissals)
+-- a line where they begin later than what they are of
+abbrev pub earlier_text : Bool → List ℕ
+earlier_text true = line (codes "EARLIER ACTS ARE NOT RECORDED") []
+earlier_text false = []
 
--- The trail of a matter.
+-- The trail: the acts in the order of acceptance, and behind them the dismissals in theirs. The line above them stands
+-- where they begin later than some matter.
 
--- a line where the acts begin later than the matter
-abbrev pub earlier_text : List MatterAct → List ℕ
-earlier_text acts = cond (begins_with_opening (map (λ (a : MatterAct). a.act) acts))
-    []
-    (line (codes "EARLIER ACTS ARE NOT RECORDED") [])
+abbrev pub trail_text : ℕ → Bool → List MatterAct → List Dismissal → List ℕ
+trail_text today late acts dismissals =
+    heading (codes "TRAIL") today
+    ++ (earlier_text late ++ (flat_map act_line acts ++ flat_map dismissal_line dismissals))
+
+-- The trail of a matter. Its acts begin late where they do not begin with its opening.
+
+abbrev pub begins_late : List MatterAct → Bool
+begins_late acts = not (begins_with_opening (map (λ (a : MatterAct). a.act) acts))
 
 abbrev pub matter_trail_text : ℕ → ℕ → List MatterAct → List ℕ
 matter_trail_text today m acts =
     line (codes "TRAIL") (matter_text m ∷ day_text today ∷ [])
-    ++ (earlier_text acts ++ flat_map act_line acts)
+    ++ (earlier_text (begins_late acts) ++ flat_map act_line acts)
 
 -- The approvals of a period.
 
--- a dash if no act says who approved
-abbrev pub approver_text : Option Caller → List ℕ
-approver_text None = codes "-"
-approver_text (Some who) = caller_text who
+-- a row of the trail that can't be read may be an act of this matter: it names it, or no matter
+abbrev pub may_be_of : ℕ → Option ℕ → Bool
+may_be_of m None = true
+may_be_of m (Some named) = named == m
+
+-- an act of the matter may be among those that can't be read
+abbrev pub is_unread : List (Option ℕ) → ℕ → Bool
+is_unread unread m = list_any (may_be_of m) unread
+
+-- who approved; where no act says so, a question mark if one of the matter may be unread, and otherwise a dash
+abbrev pub approver_text : Bool → Option Caller → List ℕ
+approver_text unread (Some who) = caller_text who
+approver_text true None = codes "?"
+approver_text false None = codes "-"
 
 -- the day of issue, the entry, the amount, who approved it, what became of it, and the payment's names
-abbrev pub approval_line : IssuedPayment → List ℕ
-approval_line v =
+abbrev pub approval_line : List (Option ℕ) → IssuedPayment → List ℕ
+approval_line unread v =
     line (day_text v.issued)
-    (reference_text v.matter v.number ∷ amount_text v.payment.amount ∷ approver_text v.approver
+    (reference_text v.matter v.number ∷ amount_text v.payment.amount
+    ∷ approver_text (is_unread unread v.matter) v.approver
     ∷ (end_fields v.payment.state ++ payment_names v.payment))
 
-abbrev pub approvals_text : Span → List IssuedPayment → List ℕ
-approvals_text s lines = period_heading (codes "APPROVALS") s ++ flat_map approval_line lines
+-- the payments, given the matters that the unread rows of the trail name
+abbrev pub approvals_text : Span → List IssuedPayment → List (Option ℕ) → List ℕ
+approvals_text s lines unread = period_heading (codes "APPROVALS") s ++ flat_map (approval_line unread) lines

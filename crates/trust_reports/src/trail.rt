@@ -1,11 +1,9 @@
 // The trail: who did what, and which exceptions were dismissed.
 
-ghost use Rattle.std.specs.Prelude.{◌≡◌, [], ◌∷◌, ◌++◌, OnOk, OnErr, flat_map, map};
-ghost use Rattle.trail_laws.specs.Signed.{begins_with_opening};
-ghost use Rattle.firm_rows.specs.declared.matter_act.MatterAct.{MatterAct};
+ghost use Rattle.std.specs.Prelude.{◌≡◌, [], ◌∷◌, ◌++◌, OnOk, OnErr, flat_map};
 ghost use Rattle.trust_reports.specs.Texts.{further};
-ghost use Rattle.trust_reports.specs.TextsOfActs.{act_line, deed_fields, dismissal_line, earlier_text, matter_trail_text};
-ghost use Rattle.trust_reports.specs.TextsOfActs.{role_text, trail_text};
+ghost use Rattle.trust_reports.specs.TextsOfActs.{act_line, begins_late, deed_fields, dismissal_line, earlier_text};
+ghost use Rattle.trust_reports.specs.TextsOfActs.{matter_trail_text, role_text, trail_text};
 
 use crate::page::{
     Page, Piece, Printed, append, push_day, push_fields, push_heading, push_line, push_word,
@@ -108,25 +106,25 @@ impl Printed for Dismissal {
     }
 }
 
-// Whether the first act is the opening of the matter.
-fn begins_with_opening(acts: &[MatterAct]) -> bool
-    ensures { result ≡ begins_with_opening (map (λ (a : MatterAct). a.act) acts.now) }
+// Whether the first act of a matter is not its opening.
+fn begins_late(acts: &[MatterAct]) -> bool
+    ensures { result ≡ begins_late acts.now }
 {
     match acts.first() {
-        Some(first) => matches!(&first.act.deed, Deed::Opened(_)),
-        None => false,
+        Some(first) => !matches!(&first.act.deed, Deed::Opened(_)),
+        None => true,
     }
 }
 
-// Appends a line where the acts begin later than the matter.
-fn push_earlier(page: &mut Page, acts: &[MatterAct]) -> Result<(), AllocError>
+// Appends a line where acts begin late.
+fn push_earlier(page: &mut Page, is_late: bool) -> Result<(), AllocError>
     ensures before { page.new.before ≡ page.old.before }
-    ensures text { OnOk result (page.new.text ≡ page.old.text ++ earlier_text acts.now) }
+    ensures text { OnOk result (page.new.text ≡ page.old.text ++ earlier_text is_late) }
 {
-    if begins_with_opening(acts) {
-        return Ok(());
+    if is_late {
+        return push_line(page, &Piece::Word("EARLIER ACTS ARE NOT RECORDED"), &[]);
     }
-    push_line(page, &Piece::Word("EARLIER ACTS ARE NOT RECORDED"), &[])
+    Ok(())
 }
 
 #[derive(Drop)]
@@ -142,7 +140,7 @@ impl Printed for MatterTrail<'_> {
     fn push_to(&self, page: &mut Page) -> Result<(), AllocError> {
         let fields = [Piece::Matter(self.matter), Piece::Day(self.today)];
         push_line(page, &Piece::Word("TRAIL"), &fields)?;
-        push_earlier(page, self.acts)?;
+        push_earlier(page, begins_late(self.acts))?;
         page.push_lines(self.acts)
     }
 }
@@ -150,21 +148,23 @@ impl Printed for MatterTrail<'_> {
 #[derive(Drop)]
 struct Trail<'a> {
     today: Day,
+    is_late: bool,
     acts: &'a [MatterAct],
     dismissals: &'a [Dismissal],
 }
 
 impl Printed for Trail<'_> {
-    ghost printed = { λ t. trail_text t.today t.acts.now t.dismissals.now };
+    ghost printed = { λ t. trail_text t.today t.is_late t.acts.now t.dismissals.now };
 
     fn push_to(&self, page: &mut Page) -> Result<(), AllocError> {
         push_heading(page, "TRAIL", self.today)?;
+        push_earlier(page, self.is_late)?;
         page.push_lines(self.acts)?;
         page.push_lines(self.dismissals)
     }
 }
 
-/// Appends the trail on a business day. For each of these acts, in their order, it has its business day, the matter or
+/// Appends the trail on a business day. A line says so if the acts begin late (`is_late`). For each of these acts, in their order, it has its business day, the matter or
 /// the entry, who did it and what was done, with the person whose seat it is, or the client's part. Then, for each of
 /// these dismissals, in their order, it has its business day, `-`, the cashier, and the bank line as it was in the
 /// report of the exceptions.
@@ -172,17 +172,20 @@ impl Printed for Trail<'_> {
 /// The only error is out of memory; `out` is then unchanged.
 pub fn trail_text(
     today: Day,
+    is_late: bool,
     acts: &[MatterAct],
     dismissals: &[Dismissal],
     out: &mut Vec<u8>,
 ) -> Result<(), AllocError>
-    ensures ok { OnOk result (out.new.items ≡ out.old.items ++ trail_text today acts.now dismissals.now) }
+    ensures ok { OnOk result
+        (out.new.items ≡ out.old.items ++ trail_text today is_late acts.now dismissals.now) }
     ensures err { OnErr result (out.new.items ≡ out.old.items) }
 {
     append(
         out,
         &Trail {
             today,
+            is_late,
             acts,
             dismissals,
         },
