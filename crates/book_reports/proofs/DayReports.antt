@@ -1,6 +1,6 @@
 -- The reports as of a day and of a period, from what was read.
 use Rattle.book_reports.proofs.Names.{Seen, ◌≡◌, ℕ, false, List, [], ◌∷◌, ◌++◌, Ok, IsRead, ap, subst, append_assoc, ◌∙◌, Firm, has_no_statement, reconciliation_report, AreCountable, IsFirmLineInRange, IsRowInRange}
-use Rattle.std.specs.Prelude.{◌||◌}
+use Rattle.std.specs.Prelude.{◌||◌, Option}
 use Rattle.trust_base.specs.Periods.{Span, month_to}
 use Rattle.firm_periods.specs.Doubles.{in_order}
 use Rattle.firm_periods.specs.Named.{NamedKept, is_earlier, is_purged_within, listed, named_kept, named_sum}
@@ -9,12 +9,13 @@ use Rattle.firm_periods.specs.declared.named_sink.Pick.TheVariants as pick
 use Rattle.trust_reports.specs.TextsOfPeriods.{disbursements_text, outstanding_text, receipts_text}
 use Rattle.firm_periods.proofs.Approvals.{approvals-kept}
 use Rattle.firm_periods.proofs.NamedLists.{named-kept}
-use Rattle.firm_periods.specs.Approvals.{ApprovalsKept, approvals_kept, approvals_of}
+use Rattle.firm_periods.specs.Approvals.{ApprovalsKept, approvals, approvals_of}
 use Rattle.firm_periods.specs.declared.approvals_sink.IssuedPayment.{IssuedPayment}
 use Rattle.trust_reports.specs.TextsOfActs.{approvals_text}
 use Rattle.book_reports.specs.declared.day_reports.Limits.{Limits}
+use Rattle.book_reports.specs.declared.day_reports.ReadApprovals.{ReadApprovals}
 use Rattle.book_reports.specs.declared.day_reports.ReadList.{ReadList}
-use Rattle.book_reports.specs.DayReports.{IsAppended, IsListed}
+use Rattle.book_reports.specs.DayReports.{AreApprovalsRead, IsAppended, IsListed}
 use Rattle.book_reports.specs.Reports.{approvals_report, clients_report, disbursements_report, is_period_purged, is_purged_at, month_report, outstanding_report, parts, receipts_report}
 
 -- What was read of a list.
@@ -68,18 +69,23 @@ outstanding-told {a} {b} {c} {k} {j} day limits old new first here second there 
     }
 
 -- or the approvals
-pub approvals-told : (a b : Seen) {kept : ApprovalsKept} (s : Span) (lines : List IssuedPayment) (limits : Limits) (old new : List ℕ)
-    → (b.clean → a.stands → kept ≡ approvals_kept s a.firm)
-    → lines ≡ approvals_of kept → limits.lacks_statement ≡ false → limits.is_purged ≡ kept.purged → new ≡ old ++ approvals_text s lines
+pub approvals-told : (a b : Seen) {read : ReadApprovals} (s : Span) (lines : List IssuedPayment) (limits : Limits) (old new : List ℕ)
+    → (b.clean → a.stands → AreApprovalsRead s a.firm read)
+    → lines ≡ approvals_of read.approvals → limits.lacks_statement ≡ false → limits.is_purged ≡ read.approvals.purged
+    → new ≡ old ++ approvals_text s lines read.unread.items
     → b.clean → a.stands → IsAppended limits false (is_purged_within s a.firm) old (approvals_report s a.firm) new
 unfolding approvals_report
-approvals-told a b {kept} s lines limits old new told listed none cut text clean stands =
-    let is = told clean stands in
+approvals-told a b {read} s lines limits old new told listed none cut text clean stands =
+    let whole = told clean stands in
+    let is = whole.approvals in
     let made = approvals-kept s a.firm in
     record {
       stated = none;
       cut = cut ∙ (ap (λ (k : ApprovalsKept). k.purged) is ∙ made.purged);
-      text = text ∙ ap (λ (vs : List IssuedPayment). old ++ approvals_text s vs) (listed ∙ (ap approvals_of is ∙ made.lines));
+      text =
+          text
+          ∙ (ap (λ (vs : List IssuedPayment). old ++ approvals_text s vs read.unread.items) (listed ∙ (ap approvals_of is ∙ made.lines))
+          ∙ ap (λ (unread : List (Option ℕ)). old ++ approvals_text s (approvals s a.firm) unread) whole.unread);
     }
 
 -- The parts of a packet, one behind the other.

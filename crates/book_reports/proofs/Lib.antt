@@ -4,4 +4,5 @@ pub mod Counting
 pub mod DayReports
 mod ReconciliationAnswers
 mod ReportTexts
+mod FirmTrails
 mod Names

@@ -6,8 +6,6 @@ use Rattle.figure_laws.proofs.ClientTotal as client_total
 use Rattle.figure_laws.proofs.Lists.{journal-kept, retention-kept}
 use Rattle.figure_laws.proofs.Trial.{total-kept, trial-kept}
 use Rattle.trust_reports.specs.Texts.{heading}
-use Rattle.trust_reports.specs.TextsOfActs.{act_line, dismissal_line, trail_text}
-unfoldable use Rattle.book_reports.specs.Reports.{trail_report}
 
 pub trial-told : (today : ℕ) (firm : Firm) (kept : TrialKept) → FirmSound firm → AreCountable IsRowInRange firm.rows → AreCountable IsFirmLineInRange firm.firm_lines → kept ≡ trial_kept firm → trial_text today kept.lines kept.own (trial_sum kept) ≡ trial_report today firm
 unfolding trial_report
@@ -42,20 +40,6 @@ unfolding exceptions_report
 exceptions-told today firm text is =
     is
     ∙ (lines-written exception_line (exceptions_text today []) firm.exceptions ∙ ap (λ begun. begun ++ flat_map exception_line firm.exceptions) (append-nil (heading (codes "EXCEPTIONS") today)))
-
-pub trail-told : (today : ℕ) (firm : Firm) (acts text : List ℕ)
-    → acts ≡ fold (λ text act. text ++ act_line act) (trail_text today [] []) firm.acts
-    → text ≡ fold (λ text dismissal. text ++ dismissal_line dismissal) acts firm.dismissals
-    → text ≡ trail_report today firm
-unfolding trail_report
-trail-told today firm acts text is behind =
-    let begun : List ℕ = heading (codes "TRAIL") today in
-    let done : acts ≡ begun ++ flat_map act_line firm.acts =
-    is ∙ (lines-written act_line (trail_text today [] []) firm.acts ∙ ap (λ b. b ++ flat_map act_line firm.acts) (append-nil begun)) in
-    behind
-    ∙ (lines-written dismissal_line acts firm.dismissals
-    ∙ (ap (λ b. b ++ flat_map dismissal_line firm.dismissals) done
-    ∙ append_assoc begun (flat_map act_line firm.acts) (flat_map dismissal_line firm.dismissals)))
 
 -- what is put behind one another is all of it
 pub all-put : {A : Type 0} (ys xs : List A) → fold (λ zs x. zs ++ x ∷ []) ys xs ≡ ys ++ xs

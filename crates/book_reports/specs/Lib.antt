@@ -4,3 +4,4 @@ pub mod DayReports
 pub mod Kept
 pub mod Checking
 pub mod Trails
+pub mod FirmTrails

@@ -1,9 +1,9 @@
 -- The reports of a firm. Each is the text of a list made from its rows.
-use Rattle.std.specs.Prelude.{ℕ, Bool, List, [], ◌∷◌, ◌++◌, Option, Some, None, is_none}
+use Rattle.std.specs.Prelude.{ℕ, Bool, nat_lt, List, [], ◌∷◌, ◌++◌, Option, Some, None, is_none}
 use Rattle.trust_base.specs.Periods.{Span, month_to}
 use Rattle.firm_rows.specs.Firm.{Firm}
 use Rattle.firm_rows.specs.FirmLines.{balance_of}
-use Rattle.firm_audit.specs.Trails.{acts_in}
+use Rattle.firm_audit.specs.Trails.{acts_in, earlier_matters}
 use Rattle.trust_reports.specs.Clients.{client_lines, clients_total}
 use Rattle.trust_reports.specs.Figures.{closing_on, own_by}
 pub use Rattle.trust_reports.specs.Purged.{is_period_purged, is_purged_at}
@@ -42,9 +42,14 @@ exceptions_report today firm = exceptions_text today firm.exceptions
 unfoldable pub own_card_report : ℕ → Firm → List ℕ
 own_card_report today firm = own_card_text today firm.firm_lines
 
--- who did what, and which exceptions were dismissed, each in the order of acceptance
+-- some matter that is there is older than its acts, as the audit of the trail counts them
+abbrev pub begins_late : Firm → Bool
+begins_late firm = nat_lt 0 (earlier_matters firm)
+
+-- who did what, and which exceptions were dismissed, each in the order of acceptance; with a line that says so if the
+-- acts begin later than some matter
 unfoldable pub trail_report : ℕ → Firm → List ℕ
-trail_report today firm = trail_text today firm.acts firm.dismissals
+trail_report today firm = trail_text today (begins_late firm) firm.acts firm.dismissals
 
 -- who did what in one matter
 unfoldable pub matter_trail_report : ℕ → ℕ → Firm → List ℕ
@@ -86,9 +91,9 @@ unfoldable pub disbursements_report : Span → Firm → List ℕ
 disbursements_report s firm =
     disbursements_text s (disbursements s.from s.to firm) (sum_moved (disbursements s.from s.to firm))
 
--- the payments issued in it, each with who approved it
+-- the payments issued in it, each with who approved it, where every act can be read
 unfoldable pub approvals_report : Span → Firm → List ℕ
-approvals_report s firm = approvals_text s (approvals s firm)
+approvals_report s firm = approvals_text s (approvals s firm) []
 
 -- Of a month's end.
 

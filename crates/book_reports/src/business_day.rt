@@ -7,6 +7,7 @@ ghost use Rattle.trust_store.specs.Calls.{IsRead};
 use crate::cleared_lines::{Beside, ClearedLines};
 use crate::report::Report;
 use crate::text_sink::TextSink;
+use crate::trail_sink::TrailSink;
 use std::alloc::Global;
 use trust_base::{Day, StoreFault};
 use trust_reports::{
@@ -63,11 +64,14 @@ pub fn find_report<B: Book>(
             Ok(text)
         }
         Report::Trail => {
-            trail_text(today, &[], &[], &mut text)?;
-            let mut trail = TextSink::below(text);
+            let mut trail = TrailSink::new(alloc);
             book.each_act(&mut trail)?;
+            book.each_row(&mut trail)?;
             book.each_dismissal(&mut trail)?;
-            Ok(trail.finish())
+            let is_late = trail.is_late(alloc)?;
+            trail_text(today, is_late, &[], &[], &mut text)?;
+            text.extend_from_slice(&trail.finish())?;
+            Ok(text)
         }
     }
 }

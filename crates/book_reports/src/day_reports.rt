@@ -1,8 +1,7 @@
 //! The reports of a firm as of a day and of a period, each made of one state of a book.
 
 ghost use Rattle.std.specs.Prelude.{◌≡◌, IfOk, false};
-ghost use Rattle.firm_periods.specs.Approvals.{approvals_kept};
-ghost use Rattle.book_reports.specs.DayReports.{IsAppended, IsListed};
+ghost use Rattle.book_reports.specs.DayReports.{AreApprovalsRead, IsAppended, IsListed};
 ghost use Rattle.book_reports.specs.Kept.{IsKeptOf};
 ghost use Rattle.book_reports.specs.ReportTexts.{day_report_text, is_day_report_purged, lacks_statement, period_report_text};
 ghost use Rattle.book_reports.specs.Reports.{approvals_report, clients_report, disbursements_report, has_no_statement, is_period_purged, is_purged_at, is_purged_within, month_report, outstanding_report, receipts_report, reconciliation_report};
@@ -10,9 +9,10 @@ ghost use Rattle.trust_store.specs.Calls.{IsRead};
 
 use crate::cleared_lines::{Beside, ClearedLines};
 use crate::report::{DayReport, PeriodReport};
+use crate::unread_acts::matters_named;
 use firm_periods::{ApprovalsSink, NamedList, NamedSink, Pick};
 use std::alloc::Global;
-use trust_base::{Day, Period, StoreFault};
+use trust_base::{Day, MatterNo, Period, StoreFault};
 use trust_reports::{
     ClientsSink, ReconciliationSink, approvals_text, clients_text, disbursements_text,
     outstanding_text, receipts_text, reconciliation_text,
@@ -188,23 +188,31 @@ fn append_disbursements<B: Book>(
     })
 }
 
-// Hands all acts and then all rows of a book to the sink of the approvals of a period.
+// The approvals of a period, and the matters that the rows of the trail name which can't be read.
+#[derive(Drop)]
+struct ReadApprovals {
+    approvals: ApprovalsSink,
+    unread: Vec<Option<MatterNo>>,
+}
+
+// Hands all acts that can be read, and then all rows of a book, to the sink of the approvals of a period.
 fn read_approvals<B: Book>(
     alloc: Global,
     book: &mut B,
     period: Period,
-) -> Result<ApprovalsSink, StoreFault>
+) -> Result<ReadApprovals, StoreFault>
     ensures told { (B.seen book.new).clean → (B.seen book.old).stands
-        → IfOk result (λ sink. sink ≡ approvals_kept period (B.seen book.old).firm) }
+        → IfOk result (AreApprovalsRead period (B.seen book.old).firm) }
     ensures read { IsRead result (B.seen book.old) (B.seen book.new) }
 {
     let mut approvals = ApprovalsSink::new(alloc, period);
-    book.each_act(&mut approvals)?;
+    let rows = book.each_readable_act(alloc, &mut approvals)?;
     book.each_row(&mut approvals)?;
-    Ok(approvals)
+    let unread = matters_named(alloc, &rows)?;
+    Ok(ReadApprovals { approvals, unread })
 }
 
-// Appends the approvals of a period.
+// Appends the approvals of a period, also where some acts can't be read.
 fn append_approvals<B: Book>(
     alloc: Global,
     book: &mut B,
@@ -216,10 +224,10 @@ fn append_approvals<B: Book>(
         text.old.items (approvals_report period (B.seen book.old).firm) text.new.items) }
     ensures read { IsRead result (B.seen book.old) (B.seen book.new) }
 {
-    let approvals = read_approvals(alloc, book, period)?;
-    let is_purged = approvals.is_period_purged();
-    let lines = approvals.finish(alloc)?;
-    approvals_text(period, &lines, text)?;
+    let read = read_approvals(alloc, book, period)?;
+    let is_purged = read.approvals.is_period_purged();
+    let lines = read.approvals.finish(alloc)?;
+    approvals_text(period, &lines, &read.unread, text)?;
     Ok(Limits {
         lacks_statement: false,
         is_purged,

@@ -23,8 +23,8 @@
 //!   a crash too (`read`). An error wants no cause.
 //! - `find_unread`: it reads, and any of its reads may fail: the book stays as it is, also after a crash if the store
 //!   still serves (`reads`), as it does after an Ok (`serves`). No clause says what it finds.
-//! - `tell_rows`, `tell_earlier`, `tell_outstanding`, `tell_waiting`, `tell_purged`: the book stays as it is, after a
-//!   crash too. No clause says what is reported.
+//! - `tell_rows`, `tell_earlier`, `tell_outstanding`, `tell_waiting`, `tell_purged`, `tell_unread`: the book stays as it
+//!   is, after a crash too. No clause says what is reported.
 //!
 //! A report keeps sums and what it prints; the reconciliation also keeps the payments issued and not voided by its day,
 //! of which it lists those with another's instrument, and the balances dated by its day.
@@ -40,7 +40,9 @@ mod outstanding;
 mod purged;
 mod report;
 mod text_sink;
+mod trail_sink;
 mod unread;
+mod unread_acts;
 mod watching;
 
 pub use business_day::find_report;
@@ -53,4 +55,7 @@ pub use outstanding::{tell_outstanding, tell_waiting};
 pub use purged::{WantedRecords, tell_purged};
 pub use report::{DayReport, PeriodReport, Report};
 pub use unread::{Unread, find_unread};
-pub use watching::{AppliedLine, ClearedLine, EarlierWatch, PaymentWatch, PurgedWatch, RowWatch};
+pub use unread_acts::tell_unread;
+pub use watching::{
+    ActWatch, AppliedLine, ClearedLine, EarlierWatch, PaymentWatch, PurgedWatch, RowWatch,
+};

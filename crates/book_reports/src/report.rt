@@ -13,7 +13,8 @@ pub enum Report {
     Retention,
     /// The ledger card of the firm's own money.
     OwnLedger,
-    /// The trail: who did what, and behind it which exceptions were dismissed, each in the order of acceptance.
+    /// The trail: who did what, and behind it which exceptions were dismissed, each in the order of acceptance. It says
+    /// so if it begins later than a matter.
     Trail,
 }
 

@@ -1,16 +1,15 @@
-//! A text that grows by a line for each row.
+//! A text that grows by a line for each exception.
 
 ghost use Rattle.std.specs.Prelude.{◌≡◌, ◌++◌};
-ghost use Rattle.trust_reports.specs.TextsOfActs.{act_line, dismissal_line};
 ghost use Rattle.trust_reports.specs.TextsOfLists.{exception_line};
 
-use firm_rows::{ActSink, Dismissal, DismissalSink, ExceptionSink, MatterAct};
+use firm_rows::ExceptionSink;
 use std::alloc::AllocError;
 use std::marker::Model;
 use trust_base::Line;
-use trust_reports::{act_line, dismissal_line, exception_line};
+use trust_reports::exception_line;
 
-/// Writes a line for each exception, act or dismissal, as it is received.
+/// Writes a line for each exception, as it is received.
 ///
 /// Contracts see it as the text so far.
 #[derive(Drop)]
@@ -47,21 +46,5 @@ impl ExceptionSink for TextSink {
 
     fn exception(&mut self, line: &Line) -> Result<(), AllocError> {
         exception_line(line, &mut self.text)
-    }
-}
-
-impl ActSink for TextSink {
-    ghost remembered = { λ text act. text ++ act_line act };
-
-    fn act(&mut self, act: &MatterAct) -> Result<(), AllocError> {
-        act_line(act, &mut self.text)
-    }
-}
-
-impl DismissalSink for TextSink {
-    ghost taken_out = { λ text dismissal. text ++ dismissal_line dismissal };
-
-    fn dismissal(&mut self, dismissal: &Dismissal) -> Result<(), AllocError> {
-        dismissal_line(dismissal, &mut self.text)
     }
 }

@@ -53,3 +53,9 @@ pub trait PurgedWatch {
     /// Called for a matter that was purged, with the days on which it was opened and closed.
     fn purged(&self, matter: MatterNo, opened: Day, closed: Day);
 }
+
+/// Is told which rows of the trail stand for no act. Nothing depends on whether it succeeds.
+pub trait ActWatch {
+    /// Called for a row of the trail with its number in the order of acceptance, from 1.
+    fn unread_act(&self, number: u64);
+}

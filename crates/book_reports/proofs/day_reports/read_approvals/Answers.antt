@@ -1,5 +1,7 @@
-use Rattle.book_reports.proofs.Names.{fold, ap, ◌∙◌, Firm, arith, ints, nat_tests, counted}
+use Rattle.book_reports.proofs.Names.{rules, ◌≡◌, fold, ap, ◌∙◌, Firm, arith, ints, nat_tests, counted}
+use Rattle.std.proofs.Common.{List, map}
 use Rattle.firm_periods.specs.Approvals.{with_approval, with_issued_row}
+use Rattle.trust_store.specs.declared.unread_act.UnreadAct.{UnreadAct}
 use Rattle.book_reports.proofs.ReadCalls.{both-handed, read-then}
 use Rattle.book_reports.proofs.day_reports.read_approvals.Goals as goal
 
@@ -8,12 +10,17 @@ returns-clause-told g c =
     λ clean stands.
     let B = g.B.Book in
     let firm : Firm = (B.seen c.args.book.now).firm in
-    let first = c.in_ok-each_act.ensures in
+    let first = c.in_ok-rows.ensures in
     let second = c.in_ok-each_row.ensures in
+    let served = second.read.was_clean clean in
     let handed = both-handed (λ (f : Firm). f.acts) (λ (f : Firm). f.rows) first.read first.handed second.read second.handed clean stands in
-    handed.1.all ∙ ap (λ s. fold with_issued_row s firm.rows) (handed.0.all ∙ ap (λ s. fold with_approval s firm.acts) c.new-approvals.ensures)
+    let lent : c.deref.result.now ≡ c.in_ok-rows.rows.items = search rules in
+    record {
+      approvals = handed.1.all ∙ ap (λ s. fold with_issued_row s firm.rows) (handed.0.all ∙ ap (λ s. fold with_approval s firm.acts) c.new-approvals.ensures);
+      unread = c.in_ok-unread.ensures ∙ ap (λ (rows : List UnreadAct). map (λ row. row.matter) rows) (lent ∙ first.whole served stands);
+    }
 
 pub returns-clause-read : goal.returns-clause-read
 returns-clause-read g c =
-    let all = read-then c.in_ok-each_act.ensures.read c.in_ok-each_row.ensures.read in
+    let all = read-then c.in_ok-rows.ensures.read c.in_ok-each_row.ensures.read in
     grind (arith, ints, nat_tests, counted)

@@ -1,0 +1,64 @@
+//! The rows of a book's trail that stand for no act.
+
+ghost use Rattle.std.specs.Prelude.{◌≡◌, IfOk, map};
+ghost use Rattle.trust_store.specs.Calls.{IsRead};
+
+use crate::watching::ActWatch;
+use firm_rows::{ActSink, MatterAct};
+use std::alloc::{AllocError, Global};
+use std::marker::Model;
+use trust_base::{MatterNo, StoreFault};
+use trust_store::{Book, UnreadAct};
+
+/// The matter that each of these rows names, or None if it names none.
+pub(crate) fn matters_named(
+    alloc: Global,
+    unread: &[UnreadAct],
+) -> Result<Vec<Option<MatterNo>>, AllocError>
+    ensures { IfOk result (λ matters. matters.items ≡ map (λ row. row.matter) unread.now) }
+{
+    let mut matters = Vec::with_capacity(alloc, unread.len())?;
+    for row in unread {
+        matters.push(row.matter)?;
+    }
+    Ok(matters)
+}
+
+// Passes over acts.
+//
+// Contracts see nothing of it.
+#[derive(Drop)]
+struct ActsPassed;
+
+impl Model for ActsPassed {
+    ghost Value = { Unit };
+
+    ghost view = { λ passed. tt };
+}
+
+impl ActSink for ActsPassed {
+    ghost remembered = { λ passed act. passed };
+
+    fn act(&mut self, _act: &MatterAct) -> Result<(), AllocError> {
+        Ok(())
+    }
+}
+
+/// Reports to `watch`, in the order of acceptance, the rows of the trail that stand for no act. The book is unchanged.
+/// The contract does not say what `watch` is told.
+///
+/// Returns `Store` if the book's store failed, and `Memory` if memory ran out.
+pub fn tell_unread<B: Book, V: ActWatch>(
+    alloc: Global,
+    book: &mut B,
+    watch: &V,
+) -> Result<(), StoreFault>
+    ensures { IsRead result (B.seen book.old) (B.seen book.new) }
+{
+    let mut passed = ActsPassed;
+    let unread = book.each_readable_act(alloc, &mut passed)?;
+    for row in &unread {
+        watch.unread_act(row.number);
+    }
+    Ok(())
+}
