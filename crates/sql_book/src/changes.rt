@@ -3,20 +3,21 @@
 
 ghost use Rattle.std.specs.Prelude.{◌≡◌, ◌≤◌, [], ◌∷◌, ◌++◌, pos, None, Some, map, IfOk, IfSome};
 ghost use Rattle.std.specs.Option.{option_copied};
+ghost use Rattle.trust_values.specs.Limits.{IsEntryNo};
 ghost use Rattle.matter_rows.specs.declared.limits.TheConstants.{MAX_TOTAL};
 ghost use Rattle.matter_parts.specs.declared.edit.Edit.TheVariants as edit;
 ghost use Rattle.firm_rows.specs.Firm.{own_movement};
 ghost use Rattle.firm_rows.specs.FirmChange.{OfMatter};
 ghost use Rattle.firm_rows.specs.FirmLines.{as_firm_line};
 ghost use Rattle.sql_tables.specs.Given.{firm_line_given, movement_given};
-ghost use Rattle.sql_rows.specs.Acts.{IsCaller};
+ghost use Rattle.sql_rows.specs.Acts.{IsCaller, IsDeed};
 ghost use Rattle.sql_rows.specs.Columns.{firm_line_columns, movement_columns};
 ghost use Rattle.sql_rows.specs.Scripts.{IsTyped, IsTypedAct, IsTypedEdit};
 ghost use Rattle.sql_rows.specs.Steps.{ActsGone, AddMovement, EntriesGone, MovementsGone, SeatsGone, SetPurged, step_of, act_steps, movement_steps, matter_steps};
 
 use firm_rows::{Movement, Owner};
 use matter_parts::{Change, Edit, Left, Opening};
-use matter_rows::{Act, Caller, EntryMovement};
+use matter_rows::{Act, Caller, Deed, EntryMovement};
 use sql_rows::{
     act_columns, entry_columns, head_columns, movement_columns, seat_columns, totals_columns,
 };
@@ -119,16 +120,14 @@ fn day_is_typed(day: Day)
     ensures { 1 ≤ day }
 {}
 
-fn number_is_typed(number: EntryNo)
-    ensures { 1 ≤ number }
-{}
-
 fn entry_is_typed(entry: Option<EntryNo>)
-    ensures { IfSome entry (λ number. 1 ≤ number) }
+    ensures { IfSome entry IsEntryNo }
 {
     match entry {
         None => {}
-        Some(number) => number_is_typed(number),
+        Some(number) => {
+            let _number = number.get();
+        }
     }
 }
 
@@ -143,14 +142,51 @@ fn caller_is_typed(caller: &Caller)
     }
 }
 
-fn act_is_typed(act: Option<&Act>)
-    ensures { IsTypedAct (option_copied act.entry) }
+fn deed_is_typed(deed: &Deed)
+    ensures { IsDeed deed.now }
+{
+    match deed {
+        Deed::Opened(lawyer) => {
+            let _text = lawyer.as_slice();
+        }
+        Deed::Seated(seat) => {
+            let _text = seat.person.as_slice();
+        }
+        Deed::Unseated(person) => {
+            let _text = person.as_slice();
+        }
+        Deed::Offered(part) => {
+            let _cents = part.get();
+        }
+        Deed::Closed
+        | Deed::Deposited
+        | Deed::Cancelled
+        | Deed::Cleared
+        | Deed::Returned
+        | Deed::Proposed
+        | Deed::Approved
+        | Deed::Declined
+        | Deed::Withdrawn
+        | Deed::Voided
+        | Deed::Earned
+        | Deed::Disputed
+        | Deed::Claimed
+        | Deed::Accepted
+        | Deed::Awarded => {}
+    }
+}
+
+fn act_is_typed(matter: MatterNo, act: Option<&Act>)
+    ensures { IsTypedAct matter (option_copied act.entry) }
 {
     let Some(act) = act else {
         return;
     };
+    let _number = matter.get();
+    let _day = act.day.get();
     entry_is_typed(act.entry);
     caller_is_typed(&act.caller);
+    deed_is_typed(&act.deed);
 }
 
 fn opening_is_typed(opening: &Opening)
@@ -174,7 +210,7 @@ pub(crate) fn edit_script<'a>(
         map step_of script.items ≡ matter_steps matter change.now change.now.edit) }
     ensures typed { IfOk result (λ _. IsTyped (OfMatter matter None change.now)) }
 {
-    act_is_typed(change.act());
+    act_is_typed(matter, change.act());
     let moves = change.moves();
     let totals = SqlStatement::Totals(totals_columns(matter, change.last(), moves.figures));
     match change.edit() {

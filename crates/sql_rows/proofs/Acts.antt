@@ -71,7 +71,7 @@ deed_back deed.Accepted = refl
 deed_back deed.Awarded = refl
 
 -- whatever its number
-pub act_back : (x : MatterAct) (seq : ℤ) → IsTypedAct (Some x.act)
+pub act_back : (x : MatterAct) (seq : ℤ) → IfSome x.act.entry (λ n. 1 ≤ n) × IsCaller x.act.caller
     → act_from (record (act_columns x) { seq = seq }) ≡ x
 act_back x seq typed = λ i. record {
   matter = x.matter;
@@ -87,9 +87,12 @@ typed : (o : Option ℕ) → IfSome o IsEntryNo → IfSome o (λ n. 1 ≤ n)
 typed None is = tt
 typed (Some n) is = is.0
 
+is_back : (x : MatterAct) (seq : ℤ) → IsAct x → act_from (record (act_columns x) { seq = seq }) ≡ x
+is_back x seq is = act_back x seq (typed x.act.entry is.entry, is.caller)
+
 -- an act is the one that its columns stand for
 pub act_read : (x : MatterAct) (row : table.Act) → IsAct x → act_columns x ≡ row → x ≡ act_from row
-act_read x row is same = sym (act_back x (pos 0) (typed x.act.entry is.entry, is.caller)) ∙ ap act_from same
+act_read x row is same = sym (is_back x (pos 0) is) ∙ ap act_from same
 
 -- and so is a deed
 pub deed_of_columns : (d : Deed) (code : ℤ) (text : List ℕ) (number : ℤ) → deed_column d ≡ code → text_column d ≡ text
@@ -98,22 +101,23 @@ deed_of_columns d code text number c t n = sym (deed_back d) ∙ (λ i. deed_fro
 
 -- One that is added.
 
-acts_added : (x : MatterAct) (seq : ℤ) (xs : List table.Act) → IsTypedAct (Some x.act)
+acts_added : (x : MatterAct) (seq : ℤ) (xs : List table.Act) → IsAct x
     → map act_from (xs ++ record (act_columns x) { seq = seq } ∷ []) ≡ map act_from xs ++ x ∷ []
-acts_added x seq xs typed = map-append act_from xs (record (act_columns x) { seq = seq } ∷ [])
-    ∙ ap (λ y. map act_from xs ++ y ∷ []) (act_back x seq typed)
+acts_added x seq xs is = map-append act_from xs (record (act_columns x) { seq = seq } ∷ [])
+    ∙ ap (λ y. map act_from xs ++ y ∷ []) (is_back x seq is)
 
-written_act_added : (x : MatterAct) (seq : ℤ) (xs : List table.Act) → IsTypedAct (Some x.act)
+written_act_added : (x : MatterAct) (seq : ℤ) (xs : List table.Act) → IsAct x
     → AllByRecursion IsWrittenAct xs → AllByRecursion IsWrittenAct (xs ++ record (act_columns x) { seq = seq } ∷ [])
-written_act_added x seq xs typed all =
-    all-append IsWrittenAct xs _ all (sym (ap act_columns (act_back x seq typed)), tt)
+written_act_added x seq xs is all =
+    let back = sym (is_back x seq is) in
+    all-append IsWrittenAct xs _ all ((ap act_columns back, subst IsAct back is), tt)
 
 -- Those of a matter that are gone.
 
 -- a row is of the matter where its act is
 same_matter : (m : ℕ) (x : table.Act) → IsWrittenAct x → is_act_of (pos m) x ≡ (nat_abs x.matter == m)
 same_matter m x is =
-    ap (λ z. int_eq z (pos m)) (ap (λ (y : table.Act). y.matter) is) ∙ int_eq-nat (nat_abs x.matter) m
+    ap (λ z. int_eq z (pos m)) (ap (λ (y : table.Act). y.matter) is.0) ∙ int_eq-nat (nat_abs x.matter) m
 
 -- those that are left stand for the acts without those of the matter
 acts_gone : (m : ℕ) (xs : List table.Act) → AllByRecursion IsWrittenAct xs
@@ -212,7 +216,7 @@ module _ (m : ℕ) (a b : Lists) (one : 1 ≤ m) (all : AllByRecursion IsWritten
     pub written : AllByRecursion IsWrittenAct (acts_among acts)
     pub dismissed : dismissals_among acts ≡ dismissals_among a.acts
 
-  act_made : (o : Option Act) → IsTypedAct o → AreMade (act_steps m o) a b → IsActMade o
+  act_made : (o : Option Act) → IsTypedAct m o → AreMade (act_steps m o) a b → IsActMade o
   act_made None typed made = record {
     acts = a.acts;
     same = made;
@@ -233,7 +237,7 @@ module _ (m : ℕ) (a b : Lists) (one : 1 ≤ m) (all : AllByRecursion IsWritten
         dismissed = among.1;
       }
 
-  added : (o : Option Act) (e : Edit) → IsTypedAct o → AreMade (act_steps m o) a b
+  added : (o : Option Act) (e : Edit) → IsTypedAct m o → AreMade (act_steps m o) a b
       → joined_acts m e o (map act_from (acts_among a.acts)) ≡ map act_from (acts_among a.acts) ++ joined_act m o
       → AreActsMade m o e a b
   added o e typed made is =
@@ -244,7 +248,7 @@ module _ (m : ℕ) (a b : Lists) (one : 1 ≤ m) (all : AllByRecursion IsWritten
       }
 
   -- each change does so, but one of nothing, and a purge, which removes those of the matter
-  pub acts_made : (o : Option Act) (e : Edit) → IsTypedAct o → AreMade (trail_steps m o e) a b → AreActsMade m o e a b
+  pub acts_made : (o : Option Act) (e : Edit) → IsTypedAct m o → AreMade (trail_steps m o e) a b → AreActsMade m o e a b
   acts_made o edit.Nothing typed made =
       record { acts = a.acts; same = made; after = record { shown = refl; written = all; dismissed = refl } }
   acts_made o (edit.Open x) typed made = added o (edit.Open x) typed made refl

@@ -27,7 +27,7 @@ nothing_made m c a b none meant made =
     }
 
 -- behind the rows the acts are made
-with_acts_made : (m : ℕ) (c : MatterChange) (a mid b : Lists) → 1 ≤ m → IsTypedAct c.act → AreMeant a
+with_acts_made : (m : ℕ) (c : MatterChange) (a mid b : Lists) → 1 ≤ m → IsTypedAct m c.act → AreMeant a
     → AreRowsMade m c a mid → AreMade (trail_steps m c.act c.edit) mid b → IsMatterMade m c a b
 with_acts_made m c a mid b one typed meant rows made =
     let written : AllByRecursion IsWrittenAct (table.acts_among mid.acts) =
@@ -49,7 +49,7 @@ edit_kinds c _ is = inr (inl (subst WritesNoEntry (sym is) tt))
 
 -- so the steps of a change, whatever it is, make what it says
 pub matter_made : (m : ℕ) (c : MatterChange) (a b : Lists) → 1 ≤ m → AreKeyed a → AreMeant a → IsTypedEdit c.edit
-    → IsTypedAct c.act → IsChange (of m (firm_from a)) c → AreMade (matter_steps m c c.edit) a b
+    → IsTypedAct m c.act → IsChange (of m (firm_from a)) c → AreMade (matter_steps m c c.edit) a b
     → IsMatterMade m c a b
 matter_made m c a b one keyed meant typed act may made =
     let parts = made-append (row_steps m c c.edit) (trail_steps m c.act c.edit) a b made in

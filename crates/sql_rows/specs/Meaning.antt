@@ -52,7 +52,7 @@ use Rattle.sql_tables.specs.Lists.{Lists}
 use Rattle.sql_rows.specs.Codes.{payment_kind, fee_kind, claim_kind, deposit_cleared, deposit_cancelled}
 use Rattle.sql_rows.specs.Codes.{deposit_returned, payment_declined, payment_issued, payment_cleared, payment_voided}
 use Rattle.sql_rows.specs.Codes.{claim_offered, claim_settled, fee_fund, claim_fund, lawyer_role, closing_balance}
-use Rattle.sql_rows.specs.Acts.{act_columns, deed_column}
+use Rattle.sql_rows.specs.Acts.{IsAct, act_columns, deed_column}
 use Rattle.sql_rows.specs.Columns.{balance_columns, movement_columns, firm_line_columns, exception_columns, seat_columns}
 use Rattle.sql_rows.specs.Dismissals.{after_tab, before_tab, dismissal_columns}
 use Rattle.sql_rows.specs.Entries.{Parts, entry_columns}
@@ -320,8 +320,9 @@ IsWrittenException e = record e { id = pos 0 } ≡ exception_columns (exception_
 abbrev pub IsWrittenBalance : table.Balance → Type 0
 IsWrittenBalance b = record b { id = pos 0 } ≡ balance_columns (balance_from b)
 
+-- and its act has values that an act may have: no day that is none, and no name that is none
 abbrev pub IsWrittenAct : table.Act → Type 0
-IsWrittenAct a = record a { seq = pos 0 } ≡ act_columns (act_from a)
+IsWrittenAct a = (record a { seq = pos 0 } ≡ act_columns (act_from a)) × IsAct (act_from a)
 
 abbrev pub IsWrittenDismissal : table.Act → Type 0
 IsWrittenDismissal a = record a { seq = pos 0 } ≡ dismissal_columns (dismissal_from a)

@@ -7,13 +7,14 @@ use Rattle.matter_parts.specs.declared.edit.Edit.TheVariants as edit
 use Rattle.firm_rows.specs.declared.ledger.BalanceKind.{BalanceKind}
 use Rattle.firm_rows.specs.FirmChange.{FirmChange, OfMatter, Repeated, Unmatched, Dismissed, OfFirm, OfBalance, after, FitsFirm}
 use Rattle.sql_tables.specs.Lists.{Lists}
-use Rattle.sql_rows.specs.Acts.{IsCaller}
+use Rattle.sql_rows.specs.Acts.{IsAct}
 use Rattle.sql_rows.specs.Columns.{IsBankLine}
 use Rattle.sql_rows.specs.Meaning.{AreKeyed, AreSound, firm_from}
 use Rattle.sql_rows.specs.Steps.{steps_of, AreMade}
 
 -- What the types guarantee of a change's values, as much as the tables need: a column uses 0 for no day, matter 0 for
 -- the firm, entry 0 for none, the name `cashier` for the cashier, and a tab for the end of a field of a dismissed line.
+-- Of an act it is all that they guarantee, so that every row of one can be read.
 
 -- the days of an edit whose columns use 0 for no day: the day of closing, also when a matter is opened, and that of a
 -- purge
@@ -27,13 +28,13 @@ IsTypedEdit (edit.Purge day) = 1 ≤ day
 IsTypedEdit (edit.Append x) = Unit {0}
 IsTypedEdit (edit.Exchange x) = Unit {0}
 
--- the entry and the caller of an act, if there is one
-abbrev pub IsTypedAct : Option Act → Type 0
-IsTypedAct None = Unit {0}
-IsTypedAct (Some act) = IfSome act.entry (λ number. 1 ≤ number) × IsCaller act.caller
+-- all of an act of this matter, if there is one
+abbrev pub IsTypedAct : ℕ → Option Act → Type 0
+IsTypedAct m None = Unit {0}
+IsTypedAct m (Some act) = IsAct (record { matter = m; act = act })
 
 abbrev pub IsTyped : FirmChange → Type 0
-IsTyped (OfMatter m line c) = (1 ≤ m) × IsTypedEdit c.edit × IsTypedAct c.act
+IsTyped (OfMatter m line c) = (1 ≤ m) × IsTypedEdit c.edit × IsTypedAct m c.act
 IsTyped (Repeated line) = Unit {0}
 IsTyped (Unmatched line) = Unit {0}
 IsTyped (Dismissed day line) = IsBankLine line

@@ -37,7 +37,8 @@
 //!   own, balances, strays, repeats and dismissals).
 //!
 //! These are definitions and laws alone: the firm of any tables, when tables stand for the rows of a sound firm, what a
-//! crash may leave of them, and what a change writes into them.
+//! crash may leave of them, and what a change writes into them. Tables with a row of the trail that no act has, a day
+//! that is none or a name that is none, stand for no firm.
 #![tactic(auto)]
 
 mod act;
