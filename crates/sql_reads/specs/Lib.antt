@@ -2,3 +2,4 @@ pub mod Parts
 pub mod Causes
 pub mod Fed
 pub mod Shown
+pub mod Unread

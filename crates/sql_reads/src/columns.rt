@@ -166,7 +166,9 @@ pub(crate) fn movement_in(row: &Row) -> Result<MovementColumns, StoreFault>
 
 /// Reads the columns of an act, borrowing its texts from the row.
 pub(crate) fn act_in(row: &Row) -> Result<ActColumns<'_>, StoreFault>
-    ensures { IfOk result (λ c. act_given c ≡ table.act_in (Int (pos 0) ∷ Null ∷ row.now)) }
+    ensures ok { IfOk result (λ c. act_given c ≡ table.act_in (Int (pos 0) ∷ Null ∷ row.now)) }
+    ensures store { IfErr result (λ e. e ≡ StoreFault.Store) }
+    ensures none { IfErr result (λ e. (x : table.Act) → row.now ≢ table.act_values x) }
 {
     Ok(ActColumns {
         matter: number_at(row, 0)?,

@@ -40,6 +40,10 @@
 //!   at an error it has taken a prefix of them (`handed`); nothing changes (`left`).
 //! - `each_act_of`: the same of the acts of one matter, as the firm has them (`handed`, `left`). That it looks at no
 //!   other row of the trail is its query's, and cases try it.
+//! - `each_readable_act`: a sink takes each act, as the firm has them, in its order (`handed`), and no row is told as
+//!   one that stands for none (`whole`). **Whatever rows the trail holds**, the sink takes the act that each row shows,
+//!   but for those that are told by their number and their matter, and these stand for no act (`read`). Nothing changes
+//!   (`left`).
 #![tactic(auto)]
 
 mod columns;
@@ -52,7 +56,7 @@ mod query;
 pub use firm::all_rows;
 pub use lists::{
     Listing, StoredActs, StoredBalances, StoredDismissals, StoredExceptions, StoredFirmLines,
-    StoredMovements, balance_at, each_act_of, each_listed, firm_ledger,
+    StoredMovements, balance_at, each_act_of, each_listed, each_readable_act, firm_ledger,
 };
 pub use matter::{each_row, matter_for, opened_matters, whole_matter};
 pub use query::fault_of;

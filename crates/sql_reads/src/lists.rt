@@ -3,10 +3,11 @@
 // time; the ledger is also read at once, and a single balance by its kind and day.
 
 ghost use Rattle.std.specs.Prelude.{◌≡◌, ◌≢◌, ℤ, ◌+ℤ◌, Err, false, List, [], ◌∷◌, ◌++◌, map, IfOk, IfErr, OnOk};
+ghost use Rattle.std.specs.List.{AllByRecursion};
 ghost use Rattle.sqlite_value.specs.declared.value.Value.TheVariants.{Int};
-ghost use Rattle.sqlite_value.specs.Order.{column};
+ghost use Rattle.sqlite_value.specs.Order.{Row as Shows, column};
 ghost use Rattle.sqlite.specs.Held.{state};
-ghost use Rattle.sqlite.specs.State.{HasCleanDisk};
+ghost use Rattle.sqlite.specs.State.{HasCleanDisk, Shown};
 ghost use Rattle.trust_base.specs.Limits.{IsBankAmount};
 ghost use Rattle.firm_rows.specs.Countable.{IsActInRange};
 ghost use Rattle.firm_rows.specs.FirmLines.{IsOwnBalance, balance_of, kept_balance};
@@ -14,17 +15,20 @@ ghost use Rattle.firm_rows.specs.Handing.{AreHanded};
 ghost use Rattle.trust_store.specs.MatterActs.{acts_in};
 ghost use Rattle.sql_schema.specs.declared.layout.Layout.{Layout};
 ghost use Rattle.sql_tables.specs.Reading.{IsSelect, LeavesAll};
-ghost use Rattle.sql_tables.specs.Rows.{FirmLine as LineRow, firm_line_values};
+ghost use Rattle.sql_tables.specs.Rows.{Act as ActRow, FirmLine as LineRow, act_values, firm_line_values};
 ghost use Rattle.sql_tables.specs.Standing.{Stands};
-ghost use Rattle.sql_rows.specs.Meaning.{firm_line_from};
+ghost use Rattle.sql_tables.specs.Texts.{act_scan_text};
+ghost use Rattle.sql_rows.specs.Meaning.{IsWrittenAct, act_from, firm_line_from};
 ghost use Rattle.sql_rows.specs.Standing.{StandsSound, firm_in};
 ghost use Rattle.sql_reads.specs.Fed.{IsListOf};
+ghost use Rattle.sql_reads.specs.Shown.{act_at};
+ghost use Rattle.sql_reads.specs.Unread.{AreRead, NamesMatter, StandsForNone};
 
 use crate::columns::{act_in, balance_in, exception_in, firm_line_in, movement_in, number_at};
 use crate::query::{RowTaking, hand_rows, rows_of};
 use firm_rows::{
     ActSink, BalanceKind, BalanceSink, DismissalSink, ExceptionSink, FirmLedger, FirmLine,
-    FirmLineSink, MAX_OWN, MovementSink,
+    FirmLineSink, MAX_OWN, MatterAct, MovementSink,
 };
 use sql_rows::{
     act_of, balance_of, dismissal_of, exception_of, firm_line_of, kind_column, movement_of,
@@ -33,9 +37,14 @@ use sqlite::{Alter, Connection, Row};
 use sqlite_value::value::ValueRef;
 use std::alloc::Global;
 use trust_base::{BankAmount, Day, MatterNo, StoreFault};
+use trust_store::UnreadAct;
 
 // The lines of the firm's own, in order of acceptance.
 const FIRM_LINES: &str = "SELECT day, bank_ref, amount, text FROM firm_line ORDER BY seq";
+
+// The acts, in order of acceptance.
+const ACTS: &str =
+    "SELECT matter, entry, day, deed, caller, text, number FROM trail WHERE matter <> 0 ORDER BY seq";
 
 // The acts of a matter, in order of acceptance.
 const ACTS_OF: &str =
@@ -181,6 +190,14 @@ impl<K: BalanceSink> Listing<K> for StoredBalances {
     }
 }
 
+// Reads the act of a row. Returns `Store` if the row stands for none.
+fn act_shown(alloc: Global, row: &Row) -> Result<MatterAct, StoreFault>
+    ensures ok { IfOk result (λ a. a ≡ act_at row.now) }
+    ensures none { result ≡ Err StoreFault.Store → StandsForNone row.now }
+{
+    act_of(alloc, act_in(row)?)
+}
+
 /// The acts, in order of acceptance.
 #[derive(Drop)]
 pub struct StoredActs {
@@ -196,7 +213,7 @@ impl<K: ActSink> RowTaking<K> for StoredActs {
     ghost fits = { λ _ row. IsActInRange (act_at row) };
 
     fn take(&self, row: &Row, sink: &mut K) -> Result<(), StoreFault> {
-        let act = act_of(self.alloc, act_in(row)?)?;
+        let act = act_shown(self.alloc, row)?;
         sink.act(&act)?;
         Ok(())
     }
@@ -209,7 +226,7 @@ impl<K: ActSink> Listing<K> for StoredActs {
     ghost hands = { λ firm result old new. AreHanded K.remembered IsActInRange firm.acts result old new };
 
     fn select<S: Alter>(&self) -> &'static str {
-        "SELECT matter, entry, day, deed, caller, text, number FROM trail WHERE matter <> 0 ORDER BY seq"
+        ACTS
     }
 }
 
@@ -280,6 +297,68 @@ pub fn each_act_of<S: Alter, K: ActSink>(
 {
     let key = [ValueRef::Int(matter.get() as i64)];
     hand_rows(conn, ACTS_OF, &key, &StoredActs { alloc }, sink).and(Ok(()))
+}
+
+// The matter that a row of the trail names. None if it names none that there may be.
+fn matter_named(row: &Row) -> Option<MatterNo>
+    ensures { NamesMatter row.now result }
+{
+    let number = number_at(row, 0).ok()?;
+    if number < 0 || number > 99_999_999 {
+        return None;
+    }
+    MatterNo::from_number(number as u32)
+}
+
+// Passes the act of each row to the sink, and returns the rows that stand for none.
+fn hand_readable<K: ActSink>(
+    alloc: Global,
+    rows: &[Row],
+    sink: &mut K,
+) -> Result<Vec<UnreadAct>, StoreFault>
+    ensures read { IfOk result (λ unread. AreRead K.remembered 1 rows.now unread.items sink.old sink.new) }
+    ensures handed { (xs : List ActRow) → rows.now ≡ map act_values xs → AllByRecursion IsWrittenAct xs
+        → AreHanded K.remembered IsActInRange (map act_from xs) result sink.old sink.new }
+{
+    let mut unread = Vec::new(alloc);
+    let mut number: u64 = 0;
+    'each: for row in rows {
+        number = number.saturating_add(1);
+        let found = match act_shown(alloc, row) {
+            Ok(act) => act,
+            Err(StoreFault::Store) => {
+                let matter = matter_named(row);
+                unread.push(UnreadAct { number, matter })?;
+                continue;
+            }
+            Err(StoreFault::Memory) => return Err(StoreFault::Memory),
+        };
+        sink.act(&found)?;
+    }
+    Ok(unread)
+}
+
+/// Passes each act that can be read to the sink, in order of acceptance, and returns the rows that stand for none, in
+/// that order. Returns `Memory` if memory runs out; the sink keeps the acts before. Holds all rows of acts at once.
+pub fn each_readable_act<S: Alter, K: ActSink>(
+    conn: &mut Connection<S>,
+    alloc: Global,
+    sink: &mut K,
+) -> Result<Vec<UnreadAct>, StoreFault>
+    requires { conn.old.in_transaction ≡ false }
+    ensures mode { conn.new.in_transaction ≡ false }
+    ensures handed { (l : Layout) → HasCleanDisk (state S.Store conn.new) → StandsSound l (state S.Store conn.old).now
+        → AreHanded K.remembered IsActInRange (firm_in l (state S.Store conn.old).now.trees).acts
+        result sink.old sink.new }
+    ensures whole { (l : Layout) → HasCleanDisk (state S.Store conn.new) → StandsSound l (state S.Store conn.old).now
+        → IfOk result (λ unread. unread.items ≡ []) }
+    ensures read { HasCleanDisk (state S.Store conn.new) → IfOk result (λ unread. (rows : List Shows)
+        × Shown act_scan_text [] (state S.Store conn.old) (state S.Store conn.new) rows
+        × AreRead K.remembered 1 rows unread.items sink.old sink.new) }
+    ensures left { LeavesAll result (state S.Store conn.old) (state S.Store conn.new) }
+{
+    let rows = rows_of(conn, ACTS, &[])?;
+    hand_readable(alloc, &rows, sink)
 }
 
 // Adds a line. Returns `Store` if the lines would add up to a balance that the firm may not have, and never else.

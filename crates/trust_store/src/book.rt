@@ -1,6 +1,6 @@
 // The trait of all books.
 
-ghost use Rattle.std.specs.Prelude.{◌≡◌, ℕ, None, IfOk, IsOk};
+ghost use Rattle.std.specs.Prelude.{◌≡◌, ℕ, [], None, IfOk, IsOk};
 ghost use Rattle.matter_parts.specs.declared.edit.Edit.TheVariants.{Nothing};
 ghost use Rattle.matter_parts.specs.Parts.{IsWhole};
 ghost use Rattle.firm_rows.specs.Countable.{IsRowInRange, IsMovementInRange, IsFirmLineInRange, IsLineInRange, IsBalanceInRange, IsActInRange, IsDismissalInRange};
@@ -15,6 +15,7 @@ ghost use Rattle.trust_store.specs.MatterActs.{acts_in};
 ghost use Rattle.trust_store.specs.Named.{IsPartFor};
 
 use crate::all_rows::AllRows;
+use crate::unread_act::UnreadAct;
 use firm_rows::{
     ActSink, BalanceKind, BalanceSink, DismissalSink, ExceptionSink, FirmLedger, FirmLineSink,
     MovementSink, RowSink, Verdict,
@@ -131,6 +132,19 @@ pub trait Book {
         ensures handed { (seen self.new).clean → (seen self.old).stands
             → AreHanded S.remembered IsActInRange (acts_in matter (seen self.old).firm.acts)
             result sink.old sink.new }
+        ensures read { IsRead result (seen self.old) (seen self.new) };
+
+    /// Passes each act that can be read to the sink, in the order of acceptance, and returns the rows that stand for
+    /// none, in that order: none of a book that stands for a sound firm. Stops if the sink runs out of memory.
+    fn each_readable_act<S: ActSink>(
+        &mut self,
+        alloc: Global,
+        sink: &mut S,
+    ) -> Result<Vec<UnreadAct>, StoreFault>
+        ensures handed { (seen self.new).clean → (seen self.old).stands
+            → AreHanded S.remembered IsActInRange (seen self.old).firm.acts result sink.old sink.new }
+        ensures whole { (seen self.new).clean → (seen self.old).stands
+            → IfOk result (λ unread. unread.items ≡ []) }
         ensures read { IsRead result (seen self.old) (seen self.new) };
 
     /// Passes each dismissal to the sink, in the order of acceptance. Stops if the sink runs out of memory.

@@ -17,6 +17,7 @@ use crate::Book;
 use crate::all_rows::{AllRows, copies};
 use crate::balances::{add_balance, balance_kept};
 use crate::exceptions::{add_line, remove_line};
+use crate::unread_act::UnreadAct;
 use firm_rows::laws::{firm_stays_sound, verdicts_fit};
 use firm_rows::{
     ActSink, BalanceKind, BalanceRow, BalanceSink, Dismissal, DismissalSink, ExceptionSink,
@@ -245,6 +246,15 @@ impl Book for PlainBook {
         sink: &mut S,
     ) -> Result<(), StoreFault> {
         Ok(hand_acts_of(&self.acts, matter, sink)?)
+    }
+
+    fn each_readable_act<S: ActSink>(
+        &mut self,
+        alloc: Global,
+        sink: &mut S,
+    ) -> Result<Vec<UnreadAct>, StoreFault> {
+        hand_acts(&self.acts, sink)?;
+        Ok(Vec::new(alloc))
     }
 
     fn each_dismissal<S: DismissalSink>(&mut self, sink: &mut S) -> Result<(), StoreFault> {

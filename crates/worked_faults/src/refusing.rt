@@ -10,7 +10,7 @@ use firm_rows::{
 use std::alloc::Global;
 use trust_base::{Day, EntryNo, Line, MatterNo, StoreFault};
 use trust_matter::{BankLine, Change, Edit, LineVerdict, Matter};
-use trust_store::{AllRows, Book};
+use trust_store::{AllRows, Book, UnreadAct};
 
 /// A book for tests. Its nth write returns `Store`; every other call goes to the inner book. A change of nothing is not
 /// a write. A bank line is one, even if it is a repeat or matches nothing.
@@ -145,6 +145,17 @@ impl<B: Book> Book for RefusingBook<B> {
     ) -> Result<(), StoreFault> {
         match self.inner.each_act_of(matter, sink) {
             Ok(()) => Ok(()),
+            Err(fault) => Err(told(&mut self.refusals, fault)),
+        }
+    }
+
+    fn each_readable_act<S: ActSink>(
+        &mut self,
+        alloc: Global,
+        sink: &mut S,
+    ) -> Result<Vec<UnreadAct>, StoreFault> {
+        match self.inner.each_readable_act(alloc, sink) {
+            Ok(unread) => Ok(unread),
             Err(fault) => Err(told(&mut self.refusals, fault)),
         }
     }
