@@ -77,10 +77,11 @@ export function readMovements(text) {
 const APPROVAL = new RegExp('^(\\d{4}-\\d\\d-\\d\\d) (M\\d{6}-\\d{4}) (\\d+\\.\\d\\d) (\\S+)'
     + '(?: (CLEARED|VOIDED) (\\d{4}-\\d\\d-\\d\\d)(?: (.*?))?)? \\| (.*)$', 'su');
 
-// The approvals of a period: each issued payment, who approved it, if an act says so, and what became of it.
+// The approvals of a period: each issued payment, who approved it (`-` if no act says so, `?` if that may be unread), and
+// what became of it.
 export const readApprovals = (text) => linesOf(text).slice(1).map((line) => {
     const [, day, reference, amount, approver, end, endDay, bankRef, words] = APPROVAL.exec(line);
-    return { day, reference, amount, approver: approver === '-' ? null : approver, end, endDay, bankRef, words };
+    return { day, reference, amount, approver, end, endDay, bankRef, words };
 });
 
 const DISMISSED = /^(\d{4}-\d\d-\d\d) - (\S+) DISMISSED (.*)$/su;
@@ -96,9 +97,12 @@ function readDone(text) {
     return { day, reference, caller, deed, more };
 }
 
+// Whether the firm's trail begins later than a matter.
+export const beginsLate = (text) => linesOf(text)[1] === 'EARLIER ACTS ARE NOT RECORDED';
+
 // What was done, by the business day, of one day the acts first.
-export const readTrail = (text) =>
-    linesOf(text).slice(1).map(readDone).sort((one, other) => one.day.localeCompare(other.day));
+export const readTrail = (text) => linesOf(text).slice(beginsLate(text) ? 2 : 1).map(readDone)
+    .sort((one, other) => one.day.localeCompare(other.day));
 
 const BALANCED = /^(\d{4}-\d\d-\d\d) (M\d{6}-\d{4}) (-?\d+\.\d\d) (-?\d+\.\d\d) ([A-Z]+)$/;
 

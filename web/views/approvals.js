@@ -20,8 +20,10 @@ function endOf({ end, endDay, bankRef }) {
     return [`${ENDS[end]}, `, number(endDay), bankRef ? [', ', label(bankRef)] : ''].flat();
 }
 
+const UNNAMED = new Map([['-', 'not recorded'], ['?', 'can\u2019t be read']]);
+
 const cellsOf = (each) => [number(each.day), referenceLink(each.reference),
-    each.approver ? label(each.approver) : 'not recorded', label(each.words), endOf(each), money(each.amount)];
+    UNNAMED.get(each.approver) ?? label(each.approver), label(each.words), endOf(each), money(each.amount)];
 
 export const approvalsTable = (text, first) => longTable({ caption: 'What was approved, and by whom',
     columns: COLUMNS, items: readApprovals(text), cells: cellsOf, first });

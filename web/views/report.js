@@ -2,7 +2,7 @@
 
 import { button, el, label, link, money, number, p, printed, referenceLink } from '../elements.js';
 import { readMatters } from '../lists.js';
-import { countLines, dayOf, readJournal, readRetention, readTrail, readTrial } from '../reports.js';
+import { beginsLate, countLines, dayOf, readJournal, readRetention, readTrail, readTrial } from '../reports.js';
 import { column, longTable } from '../tables.js';
 import { deedWords } from '../words.js';
 import { dismissal } from './exceptions.js';
@@ -23,8 +23,8 @@ function trialRows({ matters, firm, total }) {
         { words: 'All ledgers together', ledger: total }];
 }
 
-// Each report that takes no day: its title, what is said where it has no line, and, if it has one, its table: columns
-// and rows, in which the matters' clients are named.
+// Each report that takes no day: its title, what is said where it has no line, and, if it has one, its table: columns,
+// what may stand above it, and rows, in which the matters' clients are named.
 const REPORTS = {
     'trial-balance': {
         title: 'Trial balance',
@@ -56,6 +56,7 @@ const REPORTS = {
             caption: 'Who did what, newest first',
             columns: [column('Day', 'tight'), column('Reference', 'tight'), column('Client'), column('Who'),
                 column('What')],
+            note: (text) => beginsLate(text) && p('Earlier acts are not recorded.'),
             read: (text) => readTrail(text).reverse(),
             cells: ({ day, reference, caller, deed, more, line }, nameOf) => [number(day),
                 reference && actLink(reference), reference && nameOf(reference.slice(1, 7)), label(caller),
@@ -96,10 +97,10 @@ export const reportsList = (now) => el('ul', { class: 'actions', 'aria-label': '
     Object.keys(PLACES).map((name) => el('li', {}, linkTo(PLACES[name], name === now))));
 
 // The table of a report.
-function named(name, { caption, columns, read, cells }, text, matters) {
+function named(name, { caption, columns, note, read, cells }, text, matters) {
     const clients = new Map(matters.map(({ matter, client }) => [matter, client]));
     const nameOf = (matter) => label(clients.get(matter) ?? '');
-    return el('div', { class: `named ${name}` }, longTable({ caption, columns, items: read(text),
+    return el('div', { class: `named ${name}` }, note?.(text), longTable({ caption, columns, items: read(text),
         cells: (each) => cells(each, nameOf), first: FIRST }));
 }
 
