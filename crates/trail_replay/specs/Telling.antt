@@ -42,7 +42,21 @@ is_of_entry (deed.Opened lawyer) = false
 is_of_entry (deed.Seated seat) = false
 is_of_entry (deed.Unseated person) = false
 is_of_entry deed.Closed = false
-is_of_entry _ = true
+is_of_entry deed.Deposited = true
+is_of_entry deed.Cancelled = true
+is_of_entry deed.Cleared = true
+is_of_entry deed.Returned = true
+is_of_entry deed.Proposed = true
+is_of_entry deed.Approved = true
+is_of_entry deed.Declined = true
+is_of_entry deed.Withdrawn = true
+is_of_entry deed.Voided = true
+is_of_entry deed.Earned = true
+is_of_entry deed.Disputed = true
+is_of_entry deed.Claimed = true
+is_of_entry (deed.Offered part) = true
+is_of_entry deed.Accepted = true
+is_of_entry deed.Awarded = true
 
 abbrev pub dossier_of : Part → List Act → Dossier
 dossier_of m acts = record { rows = rows_kept m; acts = acts }
