@@ -32,11 +32,12 @@ pub record HadNoBook (untouched : Type 0) (told : Outcome) : Type 0 where
   pub nothing : untouched
 
 -- a run over the book that was found at a path: the book is clean, and the run over it ended this way; then the book
--- that the run left was read, if at all, and put back, or could not be, with this result. The claims about the firm
--- hold if the book's store is clean after the run, and if it stood for a sound firm when it was found; the claims about
--- a crash hold even if a fault has shut the store. The trail is kept by the run, and in what a crash leaves of one that
--- ends at its first fault. A check that ended well found the rows of a sound firm, whatever rows were found that can be
--- read; one that names a row which can't be read met a book that refused it
+-- that the run left was read, if at all, and put back, or could not be, with this result. No book was opened before it:
+-- opening takes the stores, and a run has them once. The claims about the firm hold if the book's store is clean after
+-- the run, and if it stood for a sound firm when it was found; the claims about a crash hold even if a fault has shut
+-- the store. The trail is kept by the run, and in what a crash leaves of one that ends at its first fault. A check that
+-- ended well found the rows of a sound firm, whatever rows were found that can be read; one that names a row which
+-- can't be read met a book that refused it
 pub record RanAtPath {B W : Type 0} (books : Books B) (path : Text) (words : List Text) (known : Known W)
     (output : Output) (told : Outcome) : Type 0 where
   pub before : B

@@ -61,11 +61,12 @@
 //!   standard input is read only if they mean a sheet or a stream (`input`). That is for every store of books
 //!   (`Stores`). If the words name no path by `--db`, the run is over a `PlainBook` without rows, and the firm that is
 //!   left is sound. If they name one, either no book could be opened there, and nothing was read or written
-//!   (`StoreFault`, or `MemoryFault`); or a book was opened that the store finds there (`finds`) and that serves. Then
-//!   what is said of the run holds if the book stood and its store is clean at the end (of a crash: even if a fault has
-//!   shut the store), and the firm that is left is sound. **The trail is kept by every run** (`trail`), and in what a
-//!   crash leaves of one that ends at its first fault (`stopped`). **If the words mean a check, what it printed is true
-//!   of the rows, as `run_check` says it, whatever the store kept that can be read as rows** (`checked`). The book that
+//!   (`StoreFault`, or `MemoryFault`); or a book was opened that the store finds there (`finds`) and that serves; no
+//!   other is opened, before or after, since `Stores::at` takes the store, and the run has it once. Then what is said
+//!   of the run holds if the book stood and its store is clean at the end (of a crash: even if a fault has shut the
+//!   store), and the firm that is left is sound. **The trail is kept by every run** (`trail`), and in what a crash
+//!   leaves of one that ends at its first fault (`stopped`). **If the words mean a check, what it printed is true of
+//!   the rows, as `run_check` says it, whatever the store kept that can be read as rows** (`checked`). The book that
 //!   the run left was put back (`puts`); if that failed and the run had ended by no fault, the outcome is one of these
 //!   two (`ran`).
 //! - `exit_of`: the exit status of each outcome.

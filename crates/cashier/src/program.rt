@@ -297,14 +297,14 @@ fn run_at_path<R: Read, F: Folder, C: Clock + Drop, N: Network, M: Remarks, S: S
     path: &str,
     reader: &mut R,
     around: Surroundings<'_, F, C, N, M>,
-    stores: &S,
+    stores: S,
     writer: &mut W,
 ) -> Outcome
     ensures began { result ≢ Outcome.CommandLine }
     ensures input { (words : List Text) → Means words plan.now.today plan.now.task
         → MeansSheet words ⊎ (MeansStream words ⊎ (reader.new ≡ reader.old)) }
     ensures ran { (words : List Text) → Means words plan.now.today plan.now.task
-        → RanAtPath (books_of S.AtPath.seen (S.finds stores.now) (S.puts stores.now)) path.now words
+        → RanAtPath (books_of S.AtPath.seen (S.finds stores) S.puts) path.now words
         (known_of (R.remaining reader.old) (F.files around.entry.folder.now)
         (N.ports around.entry.network.now) N.Listener.Writer.contents)
         (output_of W.contents writer.old writer.new) result
@@ -332,7 +332,7 @@ fn run_at_path<R: Read, F: Folder, C: Clock + Drop, N: Network, M: Remarks, S: S
         &mut desk,
     );
     tell_of_rows(alloc, remarks, plan, path, &applied, ended, &mut desk);
-    let put = stores.put_back(desk.into_book());
+    let put = S::put_back(desk.into_book());
     tell_of_putting(remarks, plan, path, ended, put);
     outcome_put_back(ended, put)
 }
@@ -340,8 +340,8 @@ fn run_at_path<R: Read, F: Folder, C: Clock + Drop, N: Network, M: Remarks, S: S
 /// Runs what the words that the program was called with ask for, its name first among them, over the book at the path
 /// of `--db`. If there is no `--db`, it uses a new, empty book in memory, which is dropped at the end.
 ///
-/// The book at the path is opened once. What a person is told of its rows when the run is over comes of that opening:
-/// it is only read for it, before it is put back.
+/// The book at the path is opened once, since `Stores::at` takes the stores. What a person is told of its rows when the
+/// run is over comes of that opening: it is only read for it, before it is put back.
 ///
 /// If the words can't be read or are invalid, or memory runs out before they are parsed, nothing is read, run or
 /// written, and no book is opened: the outcome is `MemoryFault` if memory ran out, and otherwise `CommandLine`. If the
@@ -356,16 +356,24 @@ fn run_at_path<R: Read, F: Folder, C: Clock + Drop, N: Network, M: Remarks, S: S
 /// a fault, the outcome is `StoreFault` or `MemoryFault`; what was accepted is kept even then.
 ///
 /// The firm that is left in memory is sound, as it is after each record, each line of a statement and each message.
-pub fn run_called<R: Read, F: Folder, C: Clock + Drop, N: Network, M: Remarks, S: Stores, W: Write>(
+pub fn run_called<
+    R: Read,
+    F: Folder,
+    C: Clock + Drop,
+    N: Network,
+    M: Remarks,
+    S: Stores + Drop,
+    W: Write,
+>(
     alloc: Global,
     called: &Result<Vec<String>, ErrorKind>,
     reader: &mut R,
     around: Surroundings<'_, F, C, N, M>,
-    stores: &S,
+    stores: S,
     writer: &mut W,
 ) -> Outcome
     ensures ran { IfOk called.now
-        (λ words. HasRun (books_of S.AtPath.seen (S.finds stores.now) (S.puts stores.now))
+        (λ words. HasRun (books_of S.AtPath.seen (S.finds stores) S.puts)
         ((reader.new ≡ reader.old) × (writer.new ≡ writer.old)) (map string_bytes words.items)
         (known_of (R.remaining reader.old) (F.files around.entry.folder.now)
         (N.ports around.entry.network.now) N.Listener.Writer.contents)

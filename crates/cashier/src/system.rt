@@ -136,9 +136,9 @@ fn tell_outcome(
 ///
 /// It combines `run_called`, `notice_of` and `exit_of`, whose contracts say what a run does, what is reported about it
 /// and how it ends. This function has no contract: nothing can be promised about what the operating system supplies.
-pub fn run_on_system<S: Stores>(
+pub fn run_on_system<S: Stores + Drop>(
     rt: &(impl Env + Input + Files + Print + Eprint + Clock + Net + Drop + AllocGlobal),
-    stores: &S,
+    stores: S,
 ) -> ExitCode {
     let remarks = SystemRemarks::new(rt);
     let around = Surroundings {

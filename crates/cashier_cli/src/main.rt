@@ -7,5 +7,5 @@ use std::process::ExitCode;
 use system_store::SystemStores;
 
 fn main(rt: HostRuntime) -> ExitCode {
-    run_on_system(&rt, &SystemStores { rt: &rt })
+    run_on_system(&rt, SystemStores { rt: &rt })
 }

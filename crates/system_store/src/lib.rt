@@ -11,7 +11,8 @@
 //!   what it holds (`settled`).
 //! - `system_store::SystemStores` as `Stores`: of files of which nothing is known, `finds` says what `book_at` does,
 //!   and `puts` only that there are files to which a book was put back: that they are its connection's is said of
-//!   `copied`. That these two are what it calls, and that nothing else is done to a book's files, no clause says.
+//!   `copied`. That these two are what it calls, each once, and that nothing else is done to a book's files, no clause
+//!   says.
 //! - `system_store::laws` `put_books_are_found`, `stopped_books_are_found`, `stopped_moves_are_found`,
 //!   `stopped_extensions_are_found`: for two runs over one path. If the first put its book back, the second finds the
 //!   same rows, in a book that stands, lasts and is settled. If the first was broken off, at whatever moment, the

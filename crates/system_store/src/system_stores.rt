@@ -39,9 +39,9 @@ pub type SystemFile = FileWith<Unknown>;
 /// A path that is a link stands for the file that it leads to. A missing or empty file gets a book without rows, unless
 /// the log beside it has changes: then the book is gone, and neither is touched. A file that holds a book gives that
 /// book. While a book is in use its file is locked, and another run over it gets a fault of the store. A file in whose
-/// place another was put before it was locked is not used. A book that was put back is in its file alone. One that was not, because the run was broken off, is in the file and the log together, and the next run
-/// finds it there (`laws`).
-#[derive(Clone, Copy)]
+/// place another was put before it was locked is not used. A book that was put back is in its file alone. One that was
+/// not, because the run was broken off, is in the file and the log together, and the next run finds it there (`laws`).
+#[derive(Drop)]
 pub struct SystemStores<'a> {
     /// The system.
     pub rt: &'a HostRuntime,
@@ -234,13 +234,15 @@ impl Stores for SystemStores<'_> {
 
     ghost finds = { λ _ _ book. IsFoundIn unknown_files book };
 
-    ghost puts = { λ _ book answer. OnOk answer (IsPutBack book) };
+    ghost puts = { λ book answer. OnOk answer (IsPutBack book) };
 
-    fn at(&self, alloc: Global, path: &str) -> Result<SqlBook<SystemFile>, NoBook> {
+    fn at(self, alloc: Global, path: &str) -> Result<SqlBook<SystemFile>, NoBook> {
         book_at(alloc, self.rt, path, Unknown)
     }
 
-    fn put_back(&self, book: SqlBook<SystemFile>) -> Result<(), StoreFault> {
+    fn put_back(book: SqlBook<SystemFile>) -> Result<(), StoreFault>
+        ensures put { OnOk result (IsPutBack book) }
+    {
         match copied(book.release()) {
             Ok(_files) => Ok(()),
             Err(error) => Err(fault_of(error)),

@@ -54,18 +54,20 @@ pub trait Stores {
     ghost finds: { Self → List ℕ → Self.AtPath → Type 0 };
 
     /// What became of a book that was put back, given the result.
-    ghost puts: { Self → Self.AtPath → Result Unit StoreFault → Type 0 };
+    ghost puts: { Self.AtPath → Result Unit StoreFault → Type 0 };
 
     /// Opens the book at a path. If there is none, creates one without rows. The error says why there is no usable
     /// book; nothing that is at the path is changed then. The rows of an existing book are not looked at.
-    fn at(&self, alloc: Global, path: &str) -> Result<Self::AtPath, NoBook>
-        ensures found { IfOk result (λ book. (Self.AtPath.seen book).sure → finds self.now path.now book) }
+    ///
+    /// It takes the stores, so that a run to which they are given opens one book, once.
+    fn at(self, alloc: Global, path: &str) -> Result<Self::AtPath, NoBook>
+        ensures found { IfOk result (λ book. (Self.AtPath.seen book).sure → finds self path.now book) }
         ensures serves { IfOk result (λ book. (Self.AtPath.seen book).sure → (Self.AtPath.seen book).clean) };
 
     /// Puts a book back at its path, so that its rows are found there, and in no other file beside it.
     ///
     /// `Store` means that it could not be written there; `Memory` means out of memory. Even then nothing that the book
     /// accepted is lost: it is beside the path, where `at` finds it.
-    fn put_back(&self, book: Self::AtPath) -> Result<(), StoreFault>
-        ensures put { puts self.now book result };
+    fn put_back(book: Self::AtPath) -> Result<(), StoreFault>
+        ensures put { puts book result };
 }
