@@ -11,13 +11,17 @@ ghost use Rattle.trust_store.specs.Calls.{IsRead};
 
 use crate::exception_telling::ExceptionTelling;
 use crate::outcome::{Outcome, outcome_of_reply, write_reply};
-use crate::report_telling::{NowReport, NowTelling, PaymentTelling, PurgedTelling, TwiceTelling};
+use crate::report_telling::{
+    ActTelling, NowReport, NowTelling, PaymentTelling, PurgedTelling, TwiceTelling,
+};
 use cashier_remarks::{Remark, Remarks, ReportRemark};
 use command_line::ReportCommand;
 use std::alloc::Global;
 use std::io::Write;
 use trust_base::{Day, MatterNo, Refusal, StoreFault};
-use trust_desk::{Body, ClearedLines, DayReport, Desk, Report, Request, RowWatch, WantedRecords};
+use trust_desk::{
+    Body, ClearedLines, DayReport, Desk, PeriodReport, Report, Request, RowWatch, WantedRecords,
+};
 use trust_matter::{Ask, Caller};
 use trust_store::Book;
 
@@ -143,6 +147,34 @@ fn tell_waiting<M: Remarks, B: Book>(
     }
 }
 
+// Reports which rows of the trail can't be read, and which fault ended that, if any.
+fn tell_unread<M: Remarks, B: Book>(alloc: Global, remarks: &M, desk: &mut Desk<B>)
+    ensures { (told : Result Unit StoreFault) × IsRead told (B.seen desk.old) (B.seen desk.new) }
+{
+    if let Err(fault) = desk.tell_unread(alloc, &ActTelling { remarks }) {
+        remarks.tell(&Remark::Report(ReportRemark::RowsEnd(fault)));
+    }
+}
+
+// Reports beside a packet of month's end which payments the bank has long not shown, which rows of the trail can't be
+// read, and which fault ended that, if any.
+fn tell_month<M: Remarks, B: Book>(
+    alloc: Global,
+    telling: &PaymentTelling<'_, M>,
+    desk: &mut Desk<B>,
+)
+    ensures { (told : Result Unit StoreFault) × IsRead told (B.seen desk.old) (B.seen desk.new) }
+{
+    match desk.tell_waiting(alloc, telling) {
+        Ok(()) => tell_unread(alloc, telling.remarks, desk),
+        Err(fault) => {
+            telling
+                .remarks
+                .tell(&Remark::Report(ReportRemark::RowsEnd(fault)))
+        }
+    }
+}
+
 // Which matters' records a report wants; None for one that wants those of all that are there.
 fn records_wanted(command: &ReportCommand) -> Option<WantedRecords> {
     match command {
@@ -190,8 +222,9 @@ fn tell_of_day_to_come<M: Remarks>(remarks: &M, command: ReportCommand, today: D
 /// import would now accept it. After these and a reconciliation, which bank lines look like the same line. After a
 /// trial balance or a journal of a day that `is_past`, that there is later work. After an account, a reconciliation,
 /// what waits for the bank, and a packet of month's end, which of its payments the bank has not shown for more than 180
-/// days. After a refusal because of purged matters, which they are. The contract does not say what is told. A fault that
-/// ends it is reported too, but is not a fault of the run. If nobody is told, the book is not read for it.
+/// days. After the approvals and a packet of month's end, which rows of the trail can't be read. After a refusal
+/// because of purged matters, which they are. The contract does not say what is told. A fault that ends it is reported
+/// too, but is not a fault of the run. If nobody is told, the book is not read for it.
 ///
 /// The outcome is `Done` if the text was written, and `Refused` if the line of a refusal was. If the store failed or
 /// memory ran out, the line for that was printed, and it is `StoreFault` or `MemoryFault`. If a write failed, it is
@@ -264,7 +297,7 @@ pub fn run_report<M: Remarks, W: Write, B: Book>(
             };
             tell_waiting(alloc, &telling, desk)
         }
-        ReportCommand::AsOf(DayReport::Outstanding | DayReport::Month, day) => {
+        ReportCommand::AsOf(DayReport::Outstanding, day) => {
             let last = *day;
             let telling = PaymentTelling {
                 last,
@@ -273,6 +306,16 @@ pub fn run_report<M: Remarks, W: Write, B: Book>(
             };
             tell_waiting(alloc, &telling, desk)
         }
+        ReportCommand::AsOf(DayReport::Month, day) => {
+            let last = *day;
+            let telling = PaymentTelling {
+                last,
+                today,
+                remarks,
+            };
+            tell_month(alloc, &telling, desk)
+        }
+        ReportCommand::Within(PeriodReport::Approvals, _) => tell_unread(alloc, remarks, desk),
         ReportCommand::Firm(Report::Trial) if is_past => {
             let report = NowReport::Trial;
             let telling = NowTelling {
@@ -302,7 +345,7 @@ pub fn run_report<M: Remarks, W: Write, B: Book>(
         }
         ReportCommand::Firm(_)
         | ReportCommand::AsOf(DayReport::Clients, _)
-        | ReportCommand::Within(_, _)
+        | ReportCommand::Within(PeriodReport::Receipts | PeriodReport::Disbursements, _)
         | ReportCommand::Trail(_)
         | ReportCommand::Ledger(_) => {}
     }

@@ -3,7 +3,7 @@
 use crate::beginning::days_since_1970;
 use cashier_remarks::{DAYS_OUTSTANDING, Plain, Reference, Remark, Remarks, ReportRemark};
 use trust_base::{Day, Dollars, EntryNo, MatterNo};
-use trust_desk::{ClearedLine, PaymentWatch, PurgedWatch, RowWatch};
+use trust_desk::{ActWatch, ClearedLine, PaymentWatch, PurgedWatch, RowWatch};
 
 /// Reports what the rows of a book show in addition to a report that has all figures of its day: the reconciliation and
 /// the exceptions.
@@ -83,6 +83,20 @@ impl<M: Remarks> PaymentWatch for PaymentTelling<'_, M> {
                 issued,
             }));
         }
+    }
+}
+
+/// Reports which rows of the trail can't be read.
+#[derive(Drop)]
+pub struct ActTelling<'a, M> {
+    /// Receives the remarks.
+    pub remarks: &'a M,
+}
+
+impl<M: Remarks> ActWatch for ActTelling<'_, M> {
+    fn unread_act(&self, number: u64) {
+        let told = ReportRemark::UnreadAct(number);
+        self.remarks.tell(&Remark::Report(told));
     }
 }
 

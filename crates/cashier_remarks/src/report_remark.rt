@@ -2,6 +2,7 @@
 
 use crate::plain::Plain;
 use crate::reference::Reference;
+use sql_schema::ACT_TABLE;
 use std::fmt;
 use trust_base::{Day, Dollars, EntryNo, MatterNo, StoreFault};
 
@@ -46,6 +47,8 @@ pub enum ReportRemark<'a> {
         opened: Day,
         closed: Day,
     },
+    /// The nth row of the trail, from 1, can't be read, so that the report may lack who approved a payment.
+    UnreadAct(u64),
     /// Telling the reasons of exceptions was ended by this fault.
     ExceptionsEnd(StoreFault),
     /// Telling what goes with the report was ended by this fault.
@@ -96,6 +99,10 @@ impl fmt::Display for ReportRemark<'_> {
             } => write!(
                 f,
                 "matter {matter}, opened on {opened} and closed on {closed}, was purged: this report wants its records"
+            ),
+            ReportRemark::UnreadAct(number) => write!(
+                f,
+                "row {number} of {ACT_TABLE} can't be read: it may be the approval of a payment that shows ?"
             ),
             ReportRemark::ExceptionsEnd(fault) => {
                 write!(f, "{fault}: no reasons are told of the other exceptions")

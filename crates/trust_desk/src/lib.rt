@@ -31,8 +31,8 @@
 //! - `Desk::match_statement`: over every book: a statement whose references may be empty is refused as an import of it
 //!   would be, or becomes the statement for the import and the records that are left, as the definition gives them for
 //!   the day and the firm's rows (`matched`); the firm stays as it is (`same`), also after a crash (`crash`).
-//! - `Desk::check`, `find_unread`, `tell_rows`, `tell_earlier`, `tell_outstanding`, `tell_waiting`, `tell_purged`: what
-//!   `book_reports` promises of the same names, of the desk's book.
+//! - `Desk::check`, `find_unread`, `tell_rows`, `tell_earlier`, `tell_outstanding`, `tell_waiting`, `tell_purged`,
+//!   `tell_unread`: what `book_reports` promises of the same names, of the desk's book.
 //! - `Desk::tell_exceptions`: the book stays as it is, after a crash too (`read`). No clause says what is reported.
 //! - `Desk::apply_line`: an item of a statement, a matter's line, one of the firm's own, or a balance, is a step of the
 //!   definition and is counted as it says, or nothing changed (`step`, `err`). A matter that the item does not name
@@ -78,9 +78,9 @@ mod requests;
 mod watching;
 
 pub use book_reports::{
-    AppliedLine, Checked, ClearedLine, ClearedLines, DayReport, EarlierWatch, Flaw, PaymentWatch,
-    PeriodReport, PurgedWatch, Report, RowCounts, RowWatch, TrailCounts, TrailFlaw, TrailFound,
-    Unread, WantedRecords,
+    ActWatch, AppliedLine, Checked, ClearedLine, ClearedLines, DayReport, EarlierWatch, Flaw,
+    PaymentWatch, PeriodReport, PurgedWatch, Report, RowCounts, RowWatch, TrailCounts, TrailFlaw,
+    TrailFound, Unread, WantedRecords,
 };
 pub use desk::Desk;
 pub use importing::{Counted, ImportEnd, ImportStop};

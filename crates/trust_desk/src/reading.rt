@@ -10,8 +10,9 @@ ghost use Rattle.trust_store.specs.Calls.{IsRead};
 
 use crate::desk::Desk;
 use book_reports::{
-    AppliedLine, Checked, EarlierWatch, PaymentWatch, PurgedWatch, RowWatch, Unread, WantedRecords,
-    check, find_unread, tell_earlier, tell_outstanding, tell_purged, tell_rows, tell_waiting,
+    ActWatch, AppliedLine, Checked, EarlierWatch, PaymentWatch, PurgedWatch, RowWatch, Unread,
+    WantedRecords, check, find_unread, tell_earlier, tell_outstanding, tell_purged, tell_rows,
+    tell_unread, tell_waiting,
 };
 use std::alloc::Global;
 use trust_base::{Day, MatterNo, StoreFault};
@@ -83,6 +84,7 @@ impl<B: Book> Desk<B> {
     {
         tell_outstanding(alloc, &mut self.book, no, watch)
     }
+
     /// Reports to `watch` the payments of all matters that were issued and that no line of the bank has cleared, as
     /// `book_reports::tell_waiting`, with its errors. The book is unchanged.
     pub fn tell_waiting<V: PaymentWatch>(
@@ -106,5 +108,13 @@ impl<B: Book> Desk<B> {
         ensures { IsRead result (B.seen self.old) (B.seen self.new) }
     {
         tell_purged(alloc, &mut self.book, wanted, watch)
+    }
+
+    /// Reports to `watch` the rows of the trail that stand for no act, as `book_reports::tell_unread`, with its errors.
+    /// The book is unchanged.
+    pub fn tell_unread<V: ActWatch>(&mut self, alloc: Global, watch: &V) -> Result<(), StoreFault>
+        ensures { IsRead result (B.seen self.old) (B.seen self.new) }
+    {
+        tell_unread(alloc, &mut self.book, watch)
     }
 }
