@@ -1,6 +1,7 @@
 """What a month seldom has: a gap beside an exception, a matter that was closed on the first day, two fees with payments
 proposed from each, a check that was voided and written anew, a deposit older than the trail, an exception that a match
-would write under another entry, parts of a line that were imported, and a withdrawal in a file of records."""
+would write under another entry, parts of a line that were imported, a withdrawal in a file of records, and an approval
+that can't be read."""
 import json
 import pathlib
 import subprocess
@@ -23,6 +24,8 @@ deposit,000003,0002,40.00,Cleo Marsh,costs
 """
 # So is the book of a firm that began before programs kept a trail.
 FORGOTTEN = "DELETE FROM trail WHERE matter = 3"
+# The approval of Bob's payment becomes an act that there is not.
+SPOILED = "UPDATE trail SET deed = 99 WHERE matter = 2 AND deed = 10"
 # Bob's money comes and goes on the first day, on which his matter is closed.
 PAID_OUT = "propose,000002,0002,500.00,general,,Bob Ruiz,balance,1000\n"
 APPROVAL = "POST /matters/000002/entries/0002/approve HTTP/1.1\r\nx-caller: lee\r\n\r\n"
@@ -169,8 +172,23 @@ def withdraw_by_file(bank: Bank) -> None:
     bank.checks.same("the payment that was withdrawn", json.loads(told)["state"], "declined")
 
 
+def show_unread(bank: Bank) -> None:
+    """The firm's trail says that it begins late. Who gave an approval that can't be read is told as that."""
+    bank.browser.to("#/report/trail")
+    bank.has("Earlier acts are not recorded.")
+    desk = bank.firm.desk
+    desk.end()
+    subprocess.run([ROOT / "tools" / "sql", SPOILED, str(desk.book)], check=True)
+    desk.begin()
+    bank.browser.to(f"#/report/approvals/{FIRST}/{DAY}")
+    bank.browser.settle()
+    named = {row.text.split()[1]: "can\u2019t be read" in row.text for row in bank.browser.find("tbody tr")}
+    bank.checks.same("whose approval can't be read", named,
+                     {"M000002-0002": True, "M000001-0007": False, "M000001-0008": False})
+
+
 CHAPTERS = (tell_gap, show_closed, draw_on_fees, write_anew, name_doers, find_its_entry, split_and_go_on,
-            withdraw_by_file)
+            withdraw_by_file, show_unread)
 
 
 def play(program: str, folder: pathlib.Path, checks: Checks) -> None:
