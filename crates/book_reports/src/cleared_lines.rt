@@ -5,10 +5,7 @@ ghost use Rattle.trust_store.specs.Calls.{IsRead};
 ghost use Rattle.book_reports.specs.Checking.{AreReads};
 
 use crate::watching::{AppliedLine, ClearedLine, EarlierWatch, RowWatch};
-use firm_rows::{
-    BalanceRow, BalanceSink, ExceptionSink, FirmLine, FirmLineSink, MatterRow, MatterRowSink,
-    Movement, MovementSink, Owner,
-};
+use firm_rows::{BalanceRow, FirmLine, MatterRow, MatterRowSink, Movement, Owner, RowSink};
 use std::alloc::{AllocError, Global};
 use std::cmp::Ordering;
 use std::marker::Model;
@@ -193,10 +190,10 @@ impl MatterRowSink for ClearedLines {
     }
 }
 
-impl FirmLineSink for ClearedLines {
-    ghost lined = { λ lines line. lines };
+impl RowSink<FirmLine> for ClearedLines {
+    ghost taken = { λ lines line. lines };
 
-    fn firm_line(&mut self, line: &FirmLine) -> Result<(), AllocError> {
+    fn take(&mut self, line: &FirmLine) -> Result<(), AllocError> {
         self.keep_own(line)
     }
 }
@@ -258,38 +255,38 @@ impl<S: MatterRowSink> MatterRowSink for Beside<S> {
     }
 }
 
-impl<S: MovementSink> MovementSink for Beside<S> {
-    ghost moved = { S.moved };
+impl<S: RowSink<Movement>> RowSink<Movement> for Beside<S> {
+    ghost taken = { S.taken };
 
-    fn movement(&mut self, movement: &Movement) -> Result<(), AllocError> {
-        self.sink.movement(movement)
+    fn take(&mut self, movement: &Movement) -> Result<(), AllocError> {
+        self.sink.take(movement)
     }
 }
 
-impl<S: FirmLineSink> FirmLineSink for Beside<S> {
-    ghost lined = { S.lined };
+impl<S: RowSink<FirmLine>> RowSink<FirmLine> for Beside<S> {
+    ghost taken = { S.taken };
 
-    fn firm_line(&mut self, line: &FirmLine) -> Result<(), AllocError> {
+    fn take(&mut self, line: &FirmLine) -> Result<(), AllocError> {
         if self.lines.keep_own(line).is_err() {
             self.lines.stop();
         }
-        self.sink.firm_line(line)
+        self.sink.take(line)
     }
 }
 
-impl<S: ExceptionSink> ExceptionSink for Beside<S> {
-    ghost noted = { S.noted };
+impl<S: RowSink<Line>> RowSink<Line> for Beside<S> {
+    ghost taken = { S.taken };
 
-    fn exception(&mut self, line: &Line) -> Result<(), AllocError> {
-        self.sink.exception(line)
+    fn take(&mut self, line: &Line) -> Result<(), AllocError> {
+        self.sink.take(line)
     }
 }
 
-impl<S: BalanceSink> BalanceSink for Beside<S> {
-    ghost balanced = { S.balanced };
+impl<S: RowSink<BalanceRow>> RowSink<BalanceRow> for Beside<S> {
+    ghost taken = { S.taken };
 
-    fn balance(&mut self, row: &BalanceRow) -> Result<(), AllocError> {
-        self.sink.balance(row)
+    fn take(&mut self, row: &BalanceRow) -> Result<(), AllocError> {
+        self.sink.take(row)
     }
 }
 
@@ -433,10 +430,10 @@ impl MatterRowSink for Likening {
     }
 }
 
-impl FirmLineSink for Likening {
-    ghost lined = { λ lines line. lines };
+impl RowSink<FirmLine> for Likening {
+    ghost taken = { λ lines line. lines };
 
-    fn firm_line(&mut self, line: &FirmLine) -> Result<(), AllocError> {
+    fn take(&mut self, line: &FirmLine) -> Result<(), AllocError> {
         self.see(&Owner::Firm, line.date, &line.bank_ref, line.amount.get());
         Ok(())
     }

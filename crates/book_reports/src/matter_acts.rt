@@ -2,7 +2,7 @@
 
 ghost use Rattle.std.specs.Prelude.{◌≡◌, ◌++◌, ◌∷◌, []};
 
-use firm_rows::{ActSink, MatterAct};
+use firm_rows::{MatterAct, RowSink};
 use std::alloc::{AllocError, Global};
 use std::marker::Model;
 
@@ -41,10 +41,10 @@ impl MatterActs {
     }
 }
 
-impl ActSink for MatterActs {
-    ghost remembered = { λ acts act. acts ++ act ∷ [] };
+impl RowSink<MatterAct> for MatterActs {
+    ghost taken = { λ acts act. acts ++ act ∷ [] };
 
-    fn act(&mut self, act: &MatterAct) -> Result<(), AllocError> {
+    fn take(&mut self, act: &MatterAct) -> Result<(), AllocError> {
         let act = act.copied()?;
         self.acts.push(act)?;
         Ok(())

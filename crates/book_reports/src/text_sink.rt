@@ -3,7 +3,7 @@
 ghost use Rattle.std.specs.Prelude.{◌≡◌, ◌++◌};
 ghost use Rattle.trust_reports.specs.TextsOfLists.{exception_line};
 
-use firm_rows::ExceptionSink;
+use firm_rows::RowSink;
 use std::alloc::AllocError;
 use std::marker::Model;
 use trust_base::Line;
@@ -41,10 +41,10 @@ impl TextSink {
     }
 }
 
-impl ExceptionSink for TextSink {
-    ghost noted = { λ text line. text ++ exception_line line };
+impl RowSink<Line> for TextSink {
+    ghost taken = { λ text line. text ++ exception_line line };
 
-    fn exception(&mut self, line: &Line) -> Result<(), AllocError> {
+    fn take(&mut self, line: &Line) -> Result<(), AllocError> {
         exception_line(line, &mut self.text)
     }
 }

@@ -7,7 +7,7 @@ ghost use Rattle.matter_rows.specs.Rows.{is_gone};
 ghost use Rattle.book_reports.specs.FirmTrails.{first_noted, is_late, is_older, note_of, nothing_told, with_note};
 ghost use Rattle.book_reports.specs.FirmTrails.{with_act_told, with_dismissal_told, with_matter_there};
 
-use firm_rows::{ActSink, Dismissal, DismissalSink, MatterAct, MatterRow, MatterRowSink};
+use firm_rows::{Dismissal, MatterAct, MatterRow, MatterRowSink, RowSink};
 use std::alloc::{AllocError, Global};
 use std::collections::HashMap;
 use std::marker::Model;
@@ -140,10 +140,10 @@ impl TrailSink {
     }
 }
 
-impl ActSink for TrailSink {
-    ghost remembered = { with_act_told };
+impl RowSink<MatterAct> for TrailSink {
+    ghost taken = { with_act_told };
 
-    fn act(&mut self, act: &MatterAct) -> Result<(), AllocError> {
+    fn take(&mut self, act: &MatterAct) -> Result<(), AllocError> {
         self.notes.reserve(1)?;
         act_line(act, &mut self.lines)?;
         self.notes.push_reserved(ActNote::of(act));
@@ -168,10 +168,10 @@ impl MatterRowSink for TrailSink {
     }
 }
 
-impl DismissalSink for TrailSink {
-    ghost taken_out = { with_dismissal_told };
+impl RowSink<Dismissal> for TrailSink {
+    ghost taken = { with_dismissal_told };
 
-    fn dismissal(&mut self, dismissal: &Dismissal) -> Result<(), AllocError> {
+    fn take(&mut self, dismissal: &Dismissal) -> Result<(), AllocError> {
         dismissal_line(dismissal, &mut self.lines)
     }
 }

@@ -4,13 +4,10 @@ ghost use Rattle.std.specs.Prelude.{◌≡◌, false, Err, IfOk, IfSome, OnOk};
 ghost use Rattle.book_reports.specs.Checking.{AreReads, IsRaisedBy, IsRefusedAlone};
 ghost use Rattle.trust_store.specs.Calls.{IsRead};
 
-use firm_rows::{
-    ActSink, BalanceKind, BalanceRow, BalanceSink, Dismissal, DismissalSink, ExceptionSink,
-    FirmLine, FirmLineSink, MatterAct, MatterRow, MatterRowSink, Movement, MovementSink,
-};
+use firm_rows::{BalanceKind, MatterRow, MatterRowSink, RowSink};
 use std::alloc::{AllocError, Global};
 use std::marker::Model;
-use trust_base::{Day, EntryNo, Line, MatterNo, StoreFault};
+use trust_base::{Day, EntryNo, MatterNo, StoreFault};
 use trust_store::Book;
 
 /// The part of a book that can't be read, though its store works.
@@ -114,55 +111,10 @@ impl RowsSeen {
     }
 }
 
-impl ExceptionSink for RowsSeen {
-    ghost noted = { λ seen line. seen };
+impl<T> RowSink<T> for RowsSeen {
+    ghost taken = { λ seen row. seen };
 
-    fn exception(&mut self, _line: &Line) -> Result<(), AllocError> {
-        self.see();
-        Ok(())
-    }
-}
-
-impl MovementSink for RowsSeen {
-    ghost moved = { λ seen movement. seen };
-
-    fn movement(&mut self, _movement: &Movement) -> Result<(), AllocError> {
-        self.see();
-        Ok(())
-    }
-}
-
-impl FirmLineSink for RowsSeen {
-    ghost lined = { λ seen line. seen };
-
-    fn firm_line(&mut self, _line: &FirmLine) -> Result<(), AllocError> {
-        self.see();
-        Ok(())
-    }
-}
-
-impl BalanceSink for RowsSeen {
-    ghost balanced = { λ seen row. seen };
-
-    fn balance(&mut self, _row: &BalanceRow) -> Result<(), AllocError> {
-        self.see();
-        Ok(())
-    }
-}
-
-impl ActSink for RowsSeen {
-    ghost remembered = { λ seen act. seen };
-
-    fn act(&mut self, _act: &MatterAct) -> Result<(), AllocError> {
-        self.see();
-        Ok(())
-    }
-}
-
-impl DismissalSink for RowsSeen {
-    ghost taken_out = { λ seen dismissal. seen };
-
-    fn dismissal(&mut self, _dismissal: &Dismissal) -> Result<(), AllocError> {
+    fn take(&mut self, _row: &T) -> Result<(), AllocError> {
         self.see();
         Ok(())
     }

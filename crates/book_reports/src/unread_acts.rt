@@ -4,7 +4,7 @@ ghost use Rattle.std.specs.Prelude.{◌≡◌, IfOk, map};
 ghost use Rattle.trust_store.specs.Calls.{IsRead};
 
 use crate::watching::ActWatch;
-use firm_rows::{ActSink, MatterAct};
+use firm_rows::{MatterAct, RowSink};
 use std::alloc::{AllocError, Global};
 use std::marker::Model;
 use trust_base::{MatterNo, StoreFault};
@@ -36,10 +36,10 @@ impl Model for ActsPassed {
     ghost view = { λ passed. tt };
 }
 
-impl ActSink for ActsPassed {
-    ghost remembered = { λ passed act. passed };
+impl RowSink<MatterAct> for ActsPassed {
+    ghost taken = { λ passed act. passed };
 
-    fn act(&mut self, _act: &MatterAct) -> Result<(), AllocError> {
+    fn take(&mut self, _act: &MatterAct) -> Result<(), AllocError> {
         Ok(())
     }
 }

@@ -4,11 +4,10 @@ ghost use Rattle.std.specs.Prelude.{◌≡◌, true};
 
 use cashier_remarks::{Remark, Remarks};
 use command_line::{Plan, Task};
-use firm_rows::{BalanceRow, BalanceSink, ExceptionSink, FirmLine, FirmLineSink, RowSink};
+use firm_rows::{MatterRow, MatterRowSink, RowSink};
 use std::alloc::AllocError;
 use std::marker::Model;
-use trust_base::{EntryNo, Line, MatterNo};
-use trust_matter::{Entry, Head, Seat};
+use trust_base::MatterNo;
 use trust_store::{Book, PlainBook};
 
 // Whether any row was received.
@@ -25,52 +24,19 @@ impl Model for RowSeen {
     ghost view = { λ s. s.has_come };
 }
 
-impl RowSink for RowSeen {
-    ghost stepped = { λ _ _. true };
+impl MatterRowSink for RowSeen {
+    ghost taken = { λ _ _. true };
 
-    fn head(&mut self, _matter: MatterNo, _head: &Head) -> Result<(), AllocError> {
-        self.has_come = true;
-        Ok(())
-    }
-
-    fn seat(&mut self, _matter: MatterNo, _seat: &Seat) -> Result<(), AllocError> {
-        self.has_come = true;
-        Ok(())
-    }
-
-    fn entry(
-        &mut self,
-        _matter: MatterNo,
-        _number: EntryNo,
-        _entry: &Entry,
-    ) -> Result<(), AllocError> {
+    fn matter_row(&mut self, _matter: MatterNo, _row: MatterRow<'_>) -> Result<(), AllocError> {
         self.has_come = true;
         Ok(())
     }
 }
 
-impl ExceptionSink for RowSeen {
-    ghost noted = { λ _ _. true };
+impl<T> RowSink<T> for RowSeen {
+    ghost taken = { λ _ _. true };
 
-    fn exception(&mut self, _line: &Line) -> Result<(), AllocError> {
-        self.has_come = true;
-        Ok(())
-    }
-}
-
-impl FirmLineSink for RowSeen {
-    ghost lined = { λ _ _. true };
-
-    fn firm_line(&mut self, _line: &FirmLine) -> Result<(), AllocError> {
-        self.has_come = true;
-        Ok(())
-    }
-}
-
-impl BalanceSink for RowSeen {
-    ghost balanced = { λ _ _. true };
-
-    fn balance(&mut self, _row: &BalanceRow) -> Result<(), AllocError> {
+    fn take(&mut self, _row: &T) -> Result<(), AllocError> {
         self.has_come = true;
         Ok(())
     }

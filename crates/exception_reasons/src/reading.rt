@@ -8,7 +8,7 @@ ghost use Rattle.exception_reasons.specs.Reasons.{after_reason, before_reason, e
 use crate::reasons::{
     write_balance_reason, write_matter_reason, write_named, write_own_reason, write_sum,
 };
-use firm_rows::{BalanceKind, ExceptionSink, FirmLedger};
+use firm_rows::{BalanceKind, FirmLedger, RowSink};
 use json::Writer;
 use statement_csv::{Item, item_of_line};
 use std::alloc::{AllocError, Global};
@@ -51,10 +51,10 @@ impl ExceptionList {
     }
 }
 
-impl ExceptionSink for ExceptionList {
-    ghost noted = { λ lines line. lines ++ line ∷ [] };
+impl RowSink<Line> for ExceptionList {
+    ghost taken = { λ lines line. lines ++ line ∷ [] };
 
-    fn exception(&mut self, line: &Line) -> Result<(), AllocError> {
+    fn take(&mut self, line: &Line) -> Result<(), AllocError> {
         self.lines.push(line.copied()?)?;
         Ok(())
     }

@@ -17,10 +17,7 @@ use firm_figures::{
     JournalLine, JournalSink, Reconciliation, ReconciliationSink, RetentionLine, RetentionSink,
     TrialBalance, TrialSink,
 };
-use firm_rows::{
-    BalanceRow, FirmLine, MatterRow, Movement, hand_balances, hand_firm_lines, hand_lines,
-    hand_movements, hand_rows,
-};
+use firm_rows::{BalanceRow, FirmLine, MatterRow, Movement, hand, hand_rows};
 use std::alloc::{AllocError, Global};
 use trust_base::{Day, Line, MatterNo};
 
@@ -47,10 +44,10 @@ pub fn reconcile_at(
     figures_agree();
     let mut sink = ReconciliationSink::new(alloc, day);
     hand_rows(rows, &mut sink)?;
-    hand_movements(movements, &mut sink)?;
-    hand_firm_lines(firm_lines, &mut sink)?;
-    hand_lines(exceptions, &mut sink)?;
-    hand_balances(balances, &mut sink)?;
+    hand(movements, &mut sink)?;
+    hand(firm_lines, &mut sink)?;
+    hand(exceptions, &mut sink)?;
+    hand(balances, &mut sink)?;
     sink.finish(alloc)
 }
 
@@ -70,7 +67,7 @@ pub fn trial_balance(
 {
     let mut sink = TrialSink::new(alloc);
     hand_rows(rows, &mut sink)?;
-    hand_firm_lines(firm_lines, &mut sink)?;
+    hand(firm_lines, &mut sink)?;
     Ok(sink.finish())
 }
 
@@ -87,7 +84,7 @@ pub fn journal_list(alloc: Global, movements: &[Movement]) -> Result<Vec<Journal
 {
     lists_agree();
     let mut sink = JournalSink::new(alloc);
-    hand_movements(movements, &mut sink)?;
+    hand(movements, &mut sink)?;
     Ok(sink.finish())
 }
 

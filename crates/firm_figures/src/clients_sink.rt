@@ -8,7 +8,7 @@ ghost use Rattle.firm_figures.specs.declared.clients_sink.ClientLine.{ClientLine
 use crate::day_lists::EntryDays;
 use crate::figures::{added, together};
 use crate::heads::{is_head_purged_at, is_open_by};
-use firm_rows::{FirmLine, FirmLineSink, MatterRow, MatterRowSink};
+use firm_rows::{FirmLine, MatterRow, MatterRowSink, RowSink};
 use std::alloc::{AllocError, Global};
 use std::marker::Model;
 use trust_base::{Day, Label, MatterNo};
@@ -151,10 +151,10 @@ impl MatterRowSink for ClientsSink {
     }
 }
 
-impl FirmLineSink for ClientsSink {
-    ghost lined = { with_client_own };
+impl RowSink<FirmLine> for ClientsSink {
+    ghost taken = { with_client_own };
 
-    fn firm_line(&mut self, line: &FirmLine) -> Result<(), AllocError> {
+    fn take(&mut self, line: &FirmLine) -> Result<(), AllocError> {
         let mut amount = 0;
         if line.date.get() <= self.day.get() {
             amount = line.amount.get();

@@ -5,7 +5,7 @@ ghost use Rattle.firm_figures.specs.Lists.{JournalKept, no_journal, with_moved};
 ghost use Rattle.firm_figures.specs.declared.journal_sink.JournalLine.{JournalLine};
 
 use crate::figures::added;
-use firm_rows::{Movement, MovementSink};
+use firm_rows::{Movement, RowSink};
 use std::alloc::{AllocError, Global};
 use std::marker::Model;
 
@@ -50,10 +50,10 @@ impl JournalSink {
     }
 }
 
-impl MovementSink for JournalSink {
-    ghost moved = { with_moved };
+impl RowSink<Movement> for JournalSink {
+    ghost taken = { with_moved };
 
-    fn movement(&mut self, movement: &Movement) -> Result<(), AllocError> {
+    fn take(&mut self, movement: &Movement) -> Result<(), AllocError> {
         let sum = added(self.sum, movement.amount);
         self.lines.push(JournalLine {
             movement: *movement,

@@ -15,10 +15,7 @@ use crate::day_lists::{
 };
 use crate::figures::{ReconciliationFigures, Sums, added, less, together};
 use crate::heads::is_head_purged_after;
-use firm_rows::{
-    BalanceKind, BalanceRow, BalanceSink, ExceptionSink, FirmLine, FirmLineSink, MatterRow,
-    MatterRowSink, Movement, MovementSink,
-};
+use firm_rows::{BalanceKind, BalanceRow, FirmLine, MatterRow, MatterRowSink, Movement, RowSink};
 use std::alloc::{AllocError, Global};
 use std::marker::Model;
 use trust_base::{BankText, Day, EntryNo, Line, MatterNo};
@@ -262,10 +259,10 @@ impl MatterRowSink for ReconciliationSink {
     }
 }
 
-impl ExceptionSink for ReconciliationSink {
-    ghost noted = { with_exception_kept };
+impl RowSink<Line> for ReconciliationSink {
+    ghost taken = { with_exception_kept };
 
-    fn exception(&mut self, line: &Line) -> Result<(), AllocError> {
+    fn take(&mut self, line: &Line) -> Result<(), AllocError> {
         let mut amount = 0;
         if line.date.get() <= self.day.get() {
             self.lists.exceptions.push(line.copied()?)?;
@@ -278,10 +275,10 @@ impl ExceptionSink for ReconciliationSink {
     }
 }
 
-impl MovementSink for ReconciliationSink {
-    ghost moved = { with_movement_kept };
+impl RowSink<Movement> for ReconciliationSink {
+    ghost taken = { with_movement_kept };
 
-    fn movement(&mut self, movement: &Movement) -> Result<(), AllocError> {
+    fn take(&mut self, movement: &Movement) -> Result<(), AllocError> {
         let is_counted = movement.day.get() <= self.day.get();
         let amount = if is_counted { movement.amount } else { 0 };
         self.sums.journal = added(self.sums.journal, amount);
@@ -289,10 +286,10 @@ impl MovementSink for ReconciliationSink {
     }
 }
 
-impl FirmLineSink for ReconciliationSink {
-    ghost lined = { with_own_kept };
+impl RowSink<FirmLine> for ReconciliationSink {
+    ghost taken = { with_own_kept };
 
-    fn firm_line(&mut self, line: &FirmLine) -> Result<(), AllocError> {
+    fn take(&mut self, line: &FirmLine) -> Result<(), AllocError> {
         let mut amount = 0;
         if line.date.get() <= self.day.get() {
             amount = line.amount.get();
@@ -302,10 +299,10 @@ impl FirmLineSink for ReconciliationSink {
     }
 }
 
-impl BalanceSink for ReconciliationSink {
-    ghost balanced = { with_balance_noted };
+impl RowSink<BalanceRow> for ReconciliationSink {
+    ghost taken = { with_balance_noted };
 
-    fn balance(&mut self, row: &BalanceRow) -> Result<(), AllocError> {
+    fn take(&mut self, row: &BalanceRow) -> Result<(), AllocError> {
         if row.day.get() <= self.day.get() {
             match row.kind {
                 BalanceKind::Opening => self.openings.push(*row)?,

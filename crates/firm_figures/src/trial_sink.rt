@@ -7,7 +7,7 @@ ghost use Rattle.firm_figures.specs.Lists.{TrialKept, no_trial, add_last, with_t
 ghost use Rattle.firm_figures.specs.declared.trial_sink.TrialLine.{TrialLine};
 
 use crate::figures::{added, together};
-use firm_rows::{FirmLine, FirmLineSink, MatterRow, MatterRowSink};
+use firm_rows::{FirmLine, MatterRow, MatterRowSink, RowSink};
 use std::alloc::{AllocError, Global};
 use std::marker::Model;
 use trust_base::MatterNo;
@@ -134,10 +134,10 @@ impl MatterRowSink for TrialSink {
     }
 }
 
-impl FirmLineSink for TrialSink {
-    ghost lined = { with_trial_own };
+impl RowSink<FirmLine> for TrialSink {
+    ghost taken = { with_trial_own };
 
-    fn firm_line(&mut self, line: &FirmLine) -> Result<(), AllocError> {
+    fn take(&mut self, line: &FirmLine) -> Result<(), AllocError> {
         self.own = added(self.own, line.amount.get());
         Ok(())
     }

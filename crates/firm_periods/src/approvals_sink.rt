@@ -8,7 +8,7 @@ ghost use Rattle.firm_rows.specs.Firm.{EntryRow};
 ghost use Rattle.firm_periods.specs.Approvals.{ApprovalsKept, approvals_of, approved_by, approver_in, approves_in, is_issued_earlier, no_approvals, with_approval, with_issued_row};
 
 use crate::purged::is_head_purged_within;
-use firm_rows::{ActSink, MatterAct, MatterRow, MatterRowSink};
+use firm_rows::{MatterAct, MatterRow, MatterRowSink, RowSink};
 use std::alloc::{AllocError, Global};
 use std::cmp::Ordering;
 use std::collections::HashMap;
@@ -186,10 +186,10 @@ impl ApprovalsSink {
     }
 }
 
-impl ActSink for ApprovalsSink {
-    ghost remembered = { with_approval };
+impl RowSink<MatterAct> for ApprovalsSink {
+    ghost taken = { with_approval };
 
-    fn act(&mut self, act: &MatterAct) -> Result<(), AllocError> {
+    fn take(&mut self, act: &MatterAct) -> Result<(), AllocError> {
         if let Deed::Approved = &act.act.deed {
             self.acts.push(act.copied()?)?;
         }

@@ -12,7 +12,7 @@ use crate::moved::{
 };
 use crate::purged::is_head_purged_within;
 use firm_figures::{added, is_head_purged_at, is_in_transit, is_outstanding};
-use firm_rows::{FirmLine, FirmLineSink, MatterRow, MatterRowSink, Owner};
+use firm_rows::{FirmLine, MatterRow, MatterRowSink, Owner, RowSink};
 use std::alloc::{AllocError, Global};
 use std::marker::Model;
 use trust_base::{Day, EntryNo, Label, MatterNo, Period};
@@ -205,10 +205,10 @@ impl MatterRowSink for NamedSink {
     }
 }
 
-impl FirmLineSink for NamedSink {
-    ghost lined = { with_named_own };
+impl RowSink<FirmLine> for NamedSink {
+    ghost taken = { with_named_own };
 
-    fn firm_line(&mut self, line: &FirmLine) -> Result<(), AllocError> {
+    fn take(&mut self, line: &FirmLine) -> Result<(), AllocError> {
         let moved = Moved {
             day: line.date,
             amount: line.amount.get(),

@@ -1,22 +1,15 @@
 // Passing rows in memory to a sink, one by one.
 
-ghost use Rattle.std.specs.Prelude.{◌≡◌, FitsSigned, OnOk, OnErr, map};
-ghost use Rattle.std.specs.Int.{w64};
+ghost use Rattle.std.specs.Prelude.{◌≡◌, OnOk, OnErr, map};
 ghost use Rattle.trust_base.specs.Limits.{IsAmount};
 ghost use Rattle.trust_matter.specs.Rows.{entry_amount};
-ghost use Rattle.firm_rows.specs.Countable.{IsRowInRange, IsMovementInRange, IsFirmLineInRange, IsLineInRange, IsBalanceInRange, IsActInRange, IsDismissalInRange};
+ghost use Rattle.firm_rows.specs.Countable.{IsRowInRange};
 ghost use Rattle.firm_rows.specs.Handing.{AreHanded, row_pair};
 
-use crate::dismissal::Dismissal;
-use crate::ledger::{BalanceRow, FirmLine};
-use crate::matter_act::MatterAct;
-use crate::movement::Movement;
-use crate::sink::{
-    ActSink, BalanceSink, DismissalSink, ExceptionSink, FirmLineSink, MatterRow, MatterRowSink,
-    MovementSink,
-};
+use crate::countable::Countable;
+use crate::sink::{MatterRow, MatterRowSink, RowSink};
 use std::alloc::AllocError;
-use trust_base::{Line, MatterNo};
+use trust_base::MatterNo;
 use trust_matter::Entry;
 
 // An entry's amount is always in range.
@@ -50,13 +43,6 @@ fn hand_row<S: MatterRowSink>(
     }
 }
 
-// A movement's amount always fits 64 bits.
-fn fits_a_word(movement: &Movement)
-    ensures { FitsSigned w64 movement.now.amount }
-{
-    let _amount = movement.amount;
-}
-
 /// Passes each row of matters to the sink, in order. Stops if the sink runs out of memory.
 pub fn hand_rows<S: MatterRowSink>(
     rows: &[(MatterNo, MatterRow<'_>)],
@@ -70,73 +56,13 @@ pub fn hand_rows<S: MatterRowSink>(
     Ok(())
 }
 
-/// Passes each movement to the sink, in order. Stops if the sink runs out of memory.
-pub fn hand_movements<S: MovementSink>(
-    movements: &[Movement],
-    sink: &mut S,
-) -> Result<(), AllocError>
-    ensures { AreHanded S.moved IsMovementInRange movements.now result sink.old sink.new }
-{
-    for movement in movements {
-        fits_a_word(movement);
-        sink.movement(movement)?;
-    }
-    Ok(())
-}
-
-/// Passes each line of the firm's own to the sink, in order. Stops if the sink runs out of memory.
-pub fn hand_firm_lines<S: FirmLineSink>(lines: &[FirmLine], sink: &mut S) -> Result<(), AllocError>
-    ensures { AreHanded S.lined IsFirmLineInRange lines.now result sink.old sink.new }
-{
-    for line in lines {
-        let _in_range = line.amount.get();
-        sink.firm_line(line)?;
-    }
-    Ok(())
-}
-
-/// Passes each exception to the sink, in order. Stops if the sink runs out of memory.
-pub fn hand_lines<S: ExceptionSink>(lines: &[Line], sink: &mut S) -> Result<(), AllocError>
-    ensures { AreHanded S.noted IsLineInRange lines.now result sink.old sink.new }
-{
-    for line in lines {
-        let _in_range = line.amount.get();
-        sink.exception(line)?;
-    }
-    Ok(())
-}
-
-/// Passes each balance to the sink, in order. Stops if the sink runs out of memory.
-pub fn hand_balances<S: BalanceSink>(rows: &[BalanceRow], sink: &mut S) -> Result<(), AllocError>
-    ensures { AreHanded S.balanced IsBalanceInRange rows.now result sink.old sink.new }
+/// Passes each row to the sink, in order. Stops if the sink runs out of memory.
+pub fn hand<T: Countable, S: RowSink<T>>(rows: &[T], sink: &mut S) -> Result<(), AllocError>
+    ensures { AreHanded S.taken T.IsInRange rows.now result sink.old sink.new }
 {
     for row in rows {
-        let _in_range = row.amount.get();
-        sink.balance(row)?;
-    }
-    Ok(())
-}
-
-/// Passes each act to the sink, in order. Stops if the sink runs out of memory.
-pub fn hand_acts<S: ActSink>(acts: &[MatterAct], sink: &mut S) -> Result<(), AllocError>
-    ensures { AreHanded S.remembered IsActInRange acts.now result sink.old sink.new }
-{
-    for act in acts {
-        sink.act(act)?;
-    }
-    Ok(())
-}
-
-/// Passes each dismissal to the sink, in order. Stops if the sink runs out of memory.
-pub fn hand_dismissals<S: DismissalSink>(
-    dismissals: &[Dismissal],
-    sink: &mut S,
-) -> Result<(), AllocError>
-    ensures { AreHanded S.taken_out IsDismissalInRange dismissals.now result sink.old sink.new }
-{
-    for dismissal in dismissals {
-        let _in_range = dismissal.line.amount.get();
-        sink.dismissal(dismissal)?;
+        row.show_range();
+        sink.take(row)?;
     }
     Ok(())
 }

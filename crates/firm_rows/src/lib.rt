@@ -31,10 +31,11 @@
 //! - `laws` `dismissals_of_one_change`: dismissing a line adds it, with its day, to the dismissals, and no other change
 //!   touches them: purging a matter leaves them.
 //! - `laws` `dismissals_decide_nothing`: the same of dismissals as of acts.
-//! - `hand_rows`, `hand_movements`, `hand_firm_lines`, `hand_lines`, `hand_balances`, `hand_acts`, `hand_dismissals`: a
-//!   sink gets all rows of a slice in order, or, if it runs out of memory, some first ones.
+//! - `hand`, and `hand_rows` of the rows of matters: a sink gets all rows of a slice in order, or, if it runs out of
+//!   memory, some first ones.
 #![tactic(auto)]
 
+mod countable;
 mod dismissal;
 mod handing;
 pub mod laws;
@@ -44,11 +45,9 @@ mod matter_act;
 mod movement;
 mod sink;
 
+pub use countable::Countable;
 pub use dismissal::Dismissal;
-pub use handing::{
-    hand_acts, hand_balances, hand_dismissals, hand_firm_lines, hand_lines, hand_movements,
-    hand_rows,
-};
+pub use handing::{hand, hand_rows};
 pub use ledger::{
     BalanceKind, BalanceRow, FirmLedger, FirmLine, Verdict, decide_balance, decide_firm_line,
     is_own_balance,
@@ -56,7 +55,4 @@ pub use ledger::{
 pub use limits::MAX_OWN;
 pub use matter_act::MatterAct;
 pub use movement::{Movement, Owner};
-pub use sink::{
-    ActSink, BalanceSink, DismissalSink, ExceptionSink, FirmLineSink, MatterRow, MatterRowSink,
-    MovementSink, RowSink,
-};
+pub use sink::{MatterRow, MatterRowSink, RowSink};

@@ -36,6 +36,12 @@ none_read columns r result back given is x written shows =
     (sym written.0 ∙ ap (λ s. table.act_in (Int (pos 0) ∷ Null ∷ s)) (sym shows) ∙ sym given) in
     let never : Store ≡ Memory = subst (GivesBack (act_from x)) is gives in absurd (let e = never in cc)
 
-pub dismissal_read : (d : Dismissal) (columns : table.Act) (r : Row) → IsDismissal d → dismissal_columns d ≡ columns
+dismissal_read : (d : Dismissal) (columns : table.Act) (r : Row) → IsDismissal d → dismissal_columns d ≡ columns
     → columns ≡ table.act_in (Int (pos 0) ∷ Null ∷ r) → d ≡ dismissal_at r
 dismissal_read d columns r is has given = dismissals.dismissal_read d columns is has ∙ ap dismissal_from given
+
+pub any_dismissal_read : (columns : table.Act) (r : Row) (result : Result Dismissal StoreFault)
+    → IfOk result (λ d. dismissal_columns d ≡ columns) → IfOk result IsDismissal
+    → columns ≡ table.act_in (Int (pos 0) ∷ Null ∷ r) → IfOk result (λ d. d ≡ dismissal_at r)
+any_dismissal_read columns r (Ok d) has is given = dismissal_read d columns r is has given
+any_dismissal_read columns r (Err e) has is given = tt

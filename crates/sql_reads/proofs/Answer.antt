@@ -5,7 +5,7 @@ module _ {schema : Schema} {sql : List ℕ} {q : Query} {names : List (List ℕ)
     (params : Row) (old new : State) (has : old.now.schema ≡ schema) (rows : List Row)
     (known : (found : List Row) → IsAnswer q (overlay old.now.trees []) params found → found ≡ rows) where
   -- rows with which an answer begins are a front of it
-  begins_known : (found : List Row) → Begins sql params old found → (rest : List Row) × (found ++ rest ≡ rows)
+  pub begins_known : (found : List Row) → Begins sql params old found → (rest : List Row) × (found ++ rest ≡ rows)
   begins_known found h =
       let first = begins_as sql params old new schema has _ it.is it.plain it.unlisted found h in
       (first.1.0, known (found ++ first.1.0) (first.1.1 Null))

@@ -2,7 +2,7 @@
 use Rattle.sql_reads.proofs.Names.{◌≡◌, ℕ, List, [], ◌∷◌, map, fold, Result, Err, IsErr, refl, length-map, map-append, on_ok_weaker, AreCounted, arith, ints, nat_tests}
 
 module _ {S A B : Type 0} (step : S → A → S) (f : B → A) where
-  fold_mapped : (s : S) (xs : List B) → fold (λ t x. step t (f x)) s xs ≡ fold step s (map f xs)
+  pub fold_mapped : (s : S) (xs : List B) → fold (λ t x. step t (f x)) s xs ≡ fold step s (map f xs)
   fold_mapped s [] = refl
   fold_mapped s (x ∷ xs) = fold_mapped (step s (f x)) xs
 

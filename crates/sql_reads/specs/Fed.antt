@@ -1,11 +1,9 @@
 -- Sinks to which rows were passed.
-use Rattle.std.specs.Prelude.{◌≡◌, ◌⊎◌, ℕ, List, [], length, fold, Result, Ok, OnOk, OnErr, IfOk}
-use Rattle.std.specs.Result.{result_and}
+use Rattle.std.specs.Prelude.{◌≡◌, ◌⊎◌, ℕ, List, [], ◌++◌, length, fold, map, Result, OnOk, OnErr, IfOk}
 use Rattle.sqlite_value.specs.Order.{Row}
 use Rattle.sqlite_trees.specs.declared.store.Store.{Ghosts}
 use Rattle.sqlite.specs.Held.{Held, state}
 use Rattle.sqlite.specs.State.{State, Shown, Begins}
-use Rattle.trust_base.specs.declared.refusal.StoreFault.{StoreFault}
 use Rattle.firm_rows.specs.Countable.{AreCountable}
 use Rattle.firm_rows.specs.Firm.{Firm}
 use Rattle.firm_rows.specs.Handing.{FoldsFront}
@@ -22,13 +20,17 @@ pub record IsFed {K E : Type 0} (step : K → Row → K) (Fits : Row → Type 0)
   pub some : OnErr result
       ((new ≡ old) ⊎ ((rows : List Row) × Begins sql params shows rows × (new ≡ fold step old rows)))
 
--- where the tables stand for a firm, a sink to which the rows of this SELECT were passed was handed a list of that firm
-abbrev pub IsListOf : {S K : Type 0} → Ghosts S → (K → Row → K) → (Row → Type 0) → List ℕ
-    → (Firm → Result (Unit {0}) StoreFault → K → K → Type 0) → Type 0
-IsListOf {S} {K} g step Fits sql Hands =
-    (l : Layout) (shows leaves : Held S) (counted : Result ℕ StoreFault) (old new : K) → Stands l (state g shows).now
-    → IsFed step Fits sql [] (state g shows) (state g leaves) counted old new
-    → Hands (firm_in l (state g shows).now.trees) (result_and counted (Ok tt)) old new
+-- each answer to this SELECT shows these values, and what an answer begins with shows some first ones of them
+pub record AreAnswered {T : Type 0} (shown : Row → T) (sql : List ℕ) (params : Row) (shows leaves : State)
+    (values : List T) : Type 0 where
+  pub all : (rows : List Row) → Shown sql params shows leaves rows → map shown rows ≡ values
+  pub some : (rows : List Row) → Begins sql params shows rows → (rest : List T) × (map shown rows ++ rest ≡ values)
+
+-- where the tables stand for a firm, the answers to this SELECT show a list of that firm
+abbrev pub IsListOf : {S T : Type 0} → Ghosts S → (Row → T) → List ℕ → (Firm → List T) → Type 0
+IsListOf {S} g shown sql list =
+    (l : Layout) (shows leaves : Held S) → Stands l (state g shows).now
+    → AreAnswered shown sql [] (state g shows) (state g leaves) (list (firm_in l (state g shows).now.trees))
 
 -- on Ok the sink was passed all rows, and their count was returned; on an error it was passed a prefix of them
 pub record AreCounted {S A E : Type 0} (step : S → A → S) (rows : List A) (result : Result ℕ E) (old new : S)

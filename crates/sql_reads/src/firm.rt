@@ -13,15 +13,9 @@ ghost use Rattle.sql_rows.specs.Meaning.{matters_from};
 ghost use Rattle.sql_rows.specs.Standing.{firm_in};
 ghost use Rattle.sql_reads.specs.Parts.{without_matters};
 
-use crate::lists::{
-    StoredActs, StoredBalances, StoredDismissals, StoredExceptions, StoredFirmLines,
-    StoredMovements, each_listed,
-};
+use crate::lists::each_listed;
 use crate::matter::{opened_matters, whole_matter};
-use firm_rows::{
-    ActSink, BalanceRow, BalanceSink, Dismissal, DismissalSink, ExceptionSink, FirmLine,
-    FirmLineSink, MatterAct, Movement, MovementSink, Owner,
-};
+use firm_rows::{BalanceRow, Dismissal, FirmLine, MatterAct, Movement, Owner, RowSink};
 use sqlite::{Alter, Connection};
 use std::alloc::{AllocError, Global};
 use std::marker::Model;
@@ -95,56 +89,56 @@ impl RowLists {
     }
 }
 
-impl MovementSink for RowLists {
-    ghost moved = { λ lists movement. record lists { movements = lists.movements ++ movement ∷ [] } };
+impl RowSink<Movement> for RowLists {
+    ghost taken = { λ lists movement. record lists { movements = lists.movements ++ movement ∷ [] } };
 
-    fn movement(&mut self, movement: &Movement) -> Result<(), AllocError> {
+    fn take(&mut self, movement: &Movement) -> Result<(), AllocError> {
         let owner: Owner = movement.owner;
         self.movements.push(Movement { owner, ..*movement })?;
         Ok(())
     }
 }
 
-impl ExceptionSink for RowLists {
-    ghost noted = { λ lists line. record lists { exceptions = lists.exceptions ++ line ∷ [] } };
+impl RowSink<Line> for RowLists {
+    ghost taken = { λ lists line. record lists { exceptions = lists.exceptions ++ line ∷ [] } };
 
-    fn exception(&mut self, line: &Line) -> Result<(), AllocError> {
+    fn take(&mut self, line: &Line) -> Result<(), AllocError> {
         self.exceptions.push(line.copied()?)?;
         Ok(())
     }
 }
 
-impl BalanceSink for RowLists {
-    ghost balanced = { λ lists row. record lists { balances = lists.balances ++ row ∷ [] } };
+impl RowSink<BalanceRow> for RowLists {
+    ghost taken = { λ lists row. record lists { balances = lists.balances ++ row ∷ [] } };
 
-    fn balance(&mut self, row: &BalanceRow) -> Result<(), AllocError> {
+    fn take(&mut self, row: &BalanceRow) -> Result<(), AllocError> {
         self.balances.push(*row)?;
         Ok(())
     }
 }
 
-impl FirmLineSink for RowLists {
-    ghost lined = { λ lists line. record lists { firm_lines = lists.firm_lines ++ line ∷ [] } };
+impl RowSink<FirmLine> for RowLists {
+    ghost taken = { λ lists line. record lists { firm_lines = lists.firm_lines ++ line ∷ [] } };
 
-    fn firm_line(&mut self, line: &FirmLine) -> Result<(), AllocError> {
+    fn take(&mut self, line: &FirmLine) -> Result<(), AllocError> {
         self.firm_lines.push(line.copied()?)?;
         Ok(())
     }
 }
 
-impl ActSink for RowLists {
-    ghost remembered = { λ lists act. record lists { acts = lists.acts ++ act ∷ [] } };
+impl RowSink<MatterAct> for RowLists {
+    ghost taken = { λ lists act. record lists { acts = lists.acts ++ act ∷ [] } };
 
-    fn act(&mut self, act: &MatterAct) -> Result<(), AllocError> {
+    fn take(&mut self, act: &MatterAct) -> Result<(), AllocError> {
         self.acts.push(act.copied()?)?;
         Ok(())
     }
 }
 
-impl DismissalSink for RowLists {
-    ghost taken_out = { λ lists dismissal. record lists { dismissals = lists.dismissals ++ dismissal ∷ [] } };
+impl RowSink<Dismissal> for RowLists {
+    ghost taken = { λ lists dismissal. record lists { dismissals = lists.dismissals ++ dismissal ∷ [] } };
 
-    fn dismissal(&mut self, dismissal: &Dismissal) -> Result<(), AllocError> {
+    fn take(&mut self, dismissal: &Dismissal) -> Result<(), AllocError> {
         self.dismissals.push(dismissal.copied()?)?;
         Ok(())
     }
@@ -159,12 +153,12 @@ fn all_others<S: Alter>(conn: &mut Connection<S>, alloc: Global) -> Result<RowLi
     ensures left { LeavesAll result (state S.Store conn.old) (state S.Store conn.new) }
 {
     let mut lists = RowLists::new(alloc);
-    each_listed(conn, &StoredMovements, &mut lists)?;
-    each_listed(conn, &StoredFirmLines { alloc }, &mut lists)?;
-    each_listed(conn, &StoredExceptions { alloc }, &mut lists)?;
-    each_listed(conn, &StoredBalances, &mut lists)?;
-    each_listed(conn, &StoredActs { alloc }, &mut lists)?;
-    each_listed(conn, &StoredDismissals { alloc }, &mut lists)?;
+    each_listed::<S, Movement, RowLists>(conn, alloc, &mut lists)?;
+    each_listed::<S, FirmLine, RowLists>(conn, alloc, &mut lists)?;
+    each_listed::<S, Line, RowLists>(conn, alloc, &mut lists)?;
+    each_listed::<S, BalanceRow, RowLists>(conn, alloc, &mut lists)?;
+    each_listed::<S, MatterAct, RowLists>(conn, alloc, &mut lists)?;
+    each_listed::<S, Dismissal, RowLists>(conn, alloc, &mut lists)?;
     Ok(lists)
 }
 

@@ -27,8 +27,8 @@ ghost use Rattle.sql_reads.specs.Unread.{AreRead, NamesMatter, StandsForNone};
 use crate::columns::{act_in, balance_in, exception_in, firm_line_in, movement_in, number_at};
 use crate::query::{RowTaking, hand_rows, rows_of};
 use firm_rows::{
-    ActSink, BalanceKind, BalanceSink, DismissalSink, ExceptionSink, FirmLedger, FirmLine,
-    FirmLineSink, MAX_OWN, MatterAct, MovementSink,
+    BalanceKind, BalanceRow, Countable, Dismissal, FirmLedger, FirmLine, MAX_OWN, MatterAct,
+    Movement, RowSink,
 };
 use sql_rows::{
     act_of, balance_of, dismissal_of, exception_of, firm_line_of, kind_column, movement_of,
@@ -36,7 +36,8 @@ use sql_rows::{
 use sqlite::{Alter, Connection, Row};
 use sqlite_value::value::ValueRef;
 use std::alloc::Global;
-use trust_base::{BankAmount, Day, MatterNo, StoreFault};
+use std::marker::PhantomData;
+use trust_base::{BankAmount, Day, Line, MatterNo, StoreFault};
 use trust_store::UnreadAct;
 
 // The lines of the firm's own, in order of acceptance.
@@ -50,143 +51,90 @@ const ACTS: &str =
 const ACTS_OF: &str =
     "SELECT matter, entry, day, deed, caller, text, number FROM trail WHERE matter = ?1 ORDER BY seq";
 
-/// A list of the firm's rows, which a sink can be handed one row at a time.
-pub trait Listing<K>: RowTaking<K> {
-    ghost use Rattle.std.specs.Prelude.{Result};
-    ghost use Rattle.trust_base.specs.declared.refusal.StoreFault.{StoreFault};
+/// A kind of row that the firm has a list of.
+pub trait Listed: Countable + Drop {
+    ghost use Rattle.std.specs.Prelude.{List};
+    ghost use Rattle.sqlite_value.specs.Order.{Row};
     ghost use Rattle.firm_rows.specs.Firm.{Firm};
 
-    /// What it means that a sink was handed the list of a firm.
-    ghost hands: { Firm → Result (Unit {0}) StoreFault → K → K → Type 0 };
+    /// What a row of the tables shows.
+    ghost shown: { Row → Self };
 
-    /// The SELECT that returns its rows. It is the same over any store `S`, which only its promise names.
-    fn select<S: Alter>(&self) -> &'static str
+    /// The firm's list.
+    ghost list: { Firm → List Self };
+
+    /// The SELECT that returns the rows of the list. It is the same over any store `S`, which only its promise names.
+    fn select<S: Alter>() -> &'static str
         ensures select { IsSelect result.now }
-        ensures list { IsListOf S.Store (Self.taken self.now) (Self.fits self.now) result.now hands };
+        ensures list { IsListOf S.Store shown result.now list };
+
+    /// Reads a row of that SELECT. Returns `Store` if it stands for none, and `Memory` if memory runs out.
+    fn read(alloc: Global, row: &Row) -> Result<Self, StoreFault>
+        ensures { IfOk result (λ r. r ≡ shown row.now) };
 }
 
-/// The movements of the journal, in order of acceptance.
-#[derive(Drop)]
-pub struct StoredMovements;
-
-impl<K: MovementSink> RowTaking<K> for StoredMovements {
-    ghost use Rattle.firm_rows.specs.Countable.{IsMovementInRange};
+impl Listed for Movement {
     ghost use Rattle.sql_reads.specs.Shown.{movement_at};
 
-    ghost taken = { λ _ sink row. K.moved sink (movement_at row) };
+    ghost shown = { movement_at };
 
-    ghost fits = { λ _ row. IsMovementInRange (movement_at row) };
+    ghost list = { λ firm. firm.movements };
 
-    fn take(&self, row: &Row, sink: &mut K) -> Result<(), StoreFault> {
-        let movement = movement_of(movement_in(row)?)?;
-        sink.movement(&movement)?;
-        Ok(())
-    }
-}
-
-impl<K: MovementSink> Listing<K> for StoredMovements {
-    ghost use Rattle.firm_rows.specs.Countable.{IsMovementInRange};
-    ghost use Rattle.firm_rows.specs.Handing.{AreHanded};
-
-    ghost hands = { λ firm result old new. AreHanded K.moved IsMovementInRange firm.movements result old new };
-
-    fn select<S: Alter>(&self) -> &'static str {
+    fn select<S: Alter>() -> &'static str {
         "SELECT matter, entry, day, amount FROM journal ORDER BY seq"
     }
+
+    fn read(_alloc: Global, row: &Row) -> Result<Movement, StoreFault> {
+        movement_of(movement_in(row)?)
+    }
 }
 
-/// The lines of the firm's own, in order of acceptance.
-#[derive(Drop)]
-pub struct StoredFirmLines {
-    pub alloc: Global,
-}
-
-impl<K: FirmLineSink> RowTaking<K> for StoredFirmLines {
-    ghost use Rattle.firm_rows.specs.Countable.{IsFirmLineInRange};
+impl Listed for FirmLine {
     ghost use Rattle.sql_reads.specs.Shown.{firm_line_at};
 
-    ghost taken = { λ _ sink row. K.lined sink (firm_line_at row) };
+    ghost shown = { firm_line_at };
 
-    ghost fits = { λ _ row. IsFirmLineInRange (firm_line_at row) };
+    ghost list = { λ firm. firm.firm_lines };
 
-    fn take(&self, row: &Row, sink: &mut K) -> Result<(), StoreFault> {
-        let line = firm_line_of(self.alloc, firm_line_in(row)?)?;
-        sink.firm_line(&line)?;
-        Ok(())
-    }
-}
-
-impl<K: FirmLineSink> Listing<K> for StoredFirmLines {
-    ghost use Rattle.firm_rows.specs.Countable.{IsFirmLineInRange};
-    ghost use Rattle.firm_rows.specs.Handing.{AreHanded};
-
-    ghost hands = { λ firm result old new. AreHanded K.lined IsFirmLineInRange firm.firm_lines result old new };
-
-    fn select<S: Alter>(&self) -> &'static str {
+    fn select<S: Alter>() -> &'static str {
         FIRM_LINES
     }
-}
 
-/// The exceptions, ordered by day, reference, the bank's reference, amount (as a number) and text.
-#[derive(Drop)]
-pub struct StoredExceptions {
-    pub alloc: Global,
-}
-
-impl<K: ExceptionSink> RowTaking<K> for StoredExceptions {
-    ghost use Rattle.firm_rows.specs.Countable.{IsLineInRange};
-    ghost use Rattle.sql_reads.specs.Shown.{exception_at};
-
-    ghost taken = { λ _ sink row. K.noted sink (exception_at row) };
-
-    ghost fits = { λ _ row. IsLineInRange (exception_at row) };
-
-    fn take(&self, row: &Row, sink: &mut K) -> Result<(), StoreFault> {
-        let line = exception_of(self.alloc, exception_in(row)?)?;
-        sink.exception(&line)?;
-        Ok(())
+    fn read(alloc: Global, row: &Row) -> Result<FirmLine, StoreFault> {
+        firm_line_of(alloc, firm_line_in(row)?)
     }
 }
 
-impl<K: ExceptionSink> Listing<K> for StoredExceptions {
-    ghost use Rattle.firm_rows.specs.Countable.{IsLineInRange};
-    ghost use Rattle.firm_rows.specs.Handing.{AreHanded};
+impl Listed for Line {
+    ghost use Rattle.sql_reads.specs.Shown.{exception_at};
 
-    ghost hands = { λ firm result old new. AreHanded K.noted IsLineInRange firm.exceptions result old new };
+    ghost shown = { exception_at };
 
-    fn select<S: Alter>(&self) -> &'static str {
+    ghost list = { λ firm. firm.exceptions };
+
+    fn select<S: Alter>() -> &'static str {
         "SELECT day, reference, bank_ref, amount, text FROM exception ORDER BY day, reference, \
          bank_ref, amount, text, rowid"
     }
-}
 
-/// The balances that the bank reported: openings before closings, each by day.
-#[derive(Drop)]
-pub struct StoredBalances;
-
-impl<K: BalanceSink> RowTaking<K> for StoredBalances {
-    ghost use Rattle.firm_rows.specs.Countable.{IsBalanceInRange};
-    ghost use Rattle.sql_reads.specs.Shown.{balance_at};
-
-    ghost taken = { λ _ sink row. K.balanced sink (balance_at row) };
-
-    ghost fits = { λ _ row. IsBalanceInRange (balance_at row) };
-
-    fn take(&self, row: &Row, sink: &mut K) -> Result<(), StoreFault> {
-        let balance = balance_of(balance_in(row)?)?;
-        sink.balance(&balance)?;
-        Ok(())
+    fn read(alloc: Global, row: &Row) -> Result<Line, StoreFault> {
+        exception_of(alloc, exception_in(row)?)
     }
 }
 
-impl<K: BalanceSink> Listing<K> for StoredBalances {
-    ghost use Rattle.firm_rows.specs.Countable.{IsBalanceInRange};
-    ghost use Rattle.firm_rows.specs.Handing.{AreHanded};
+impl Listed for BalanceRow {
+    ghost use Rattle.sql_reads.specs.Shown.{balance_at};
 
-    ghost hands = { λ firm result old new. AreHanded K.balanced IsBalanceInRange firm.balances result old new };
+    ghost shown = { balance_at };
 
-    fn select<S: Alter>(&self) -> &'static str {
+    ghost list = { λ firm. firm.balances };
+
+    fn select<S: Alter>() -> &'static str {
         "SELECT kind, day, amount FROM balance ORDER BY kind, day, rowid"
+    }
+
+    fn read(_alloc: Global, row: &Row) -> Result<BalanceRow, StoreFault> {
+        balance_of(balance_in(row)?)
     }
 }
 
@@ -198,91 +146,90 @@ fn act_shown(alloc: Global, row: &Row) -> Result<MatterAct, StoreFault>
     act_of(alloc, act_in(row)?)
 }
 
-/// The acts, in order of acceptance.
-#[derive(Drop)]
-pub struct StoredActs {
-    pub alloc: Global,
-}
+impl Listed for MatterAct {
+    ghost shown = { act_at };
 
-impl<K: ActSink> RowTaking<K> for StoredActs {
-    ghost use Rattle.firm_rows.specs.Countable.{IsActInRange};
-    ghost use Rattle.sql_reads.specs.Shown.{act_at};
+    ghost list = { λ firm. firm.acts };
 
-    ghost taken = { λ _ sink row. K.remembered sink (act_at row) };
-
-    ghost fits = { λ _ row. IsActInRange (act_at row) };
-
-    fn take(&self, row: &Row, sink: &mut K) -> Result<(), StoreFault> {
-        let act = act_shown(self.alloc, row)?;
-        sink.act(&act)?;
-        Ok(())
-    }
-}
-
-impl<K: ActSink> Listing<K> for StoredActs {
-    ghost use Rattle.firm_rows.specs.Countable.{IsActInRange};
-    ghost use Rattle.firm_rows.specs.Handing.{AreHanded};
-
-    ghost hands = { λ firm result old new. AreHanded K.remembered IsActInRange firm.acts result old new };
-
-    fn select<S: Alter>(&self) -> &'static str {
+    fn select<S: Alter>() -> &'static str {
         ACTS
     }
+
+    fn read(alloc: Global, row: &Row) -> Result<MatterAct, StoreFault> {
+        act_shown(alloc, row)
+    }
 }
 
-/// The dismissals, in order of acceptance: the rows of the trail that are of no matter.
-#[derive(Drop)]
-pub struct StoredDismissals {
-    pub alloc: Global,
-}
-
-impl<K: DismissalSink> RowTaking<K> for StoredDismissals {
-    ghost use Rattle.firm_rows.specs.Countable.{IsDismissalInRange};
+// The rows of the trail that are of no matter.
+impl Listed for Dismissal {
     ghost use Rattle.sql_reads.specs.Shown.{dismissal_at};
 
-    ghost taken = { λ _ sink row. K.taken_out sink (dismissal_at row) };
+    ghost shown = { dismissal_at };
 
-    ghost fits = { λ _ row. IsDismissalInRange (dismissal_at row) };
+    ghost list = { λ firm. firm.dismissals };
+
+    fn select<S: Alter>() -> &'static str {
+        "SELECT matter, entry, day, deed, caller, text, number FROM trail WHERE matter = 0 ORDER BY seq"
+    }
+
+    fn read(alloc: Global, row: &Row) -> Result<Dismissal, StoreFault> {
+        dismissal_of(alloc, act_in(row)?)
+    }
+}
+
+// Takes the rows of a list, each read as what it shows.
+#[derive(Drop)]
+struct Stored<T> {
+    alloc: Global,
+    of: PhantomData<T>,
+}
+
+impl<T> Stored<T> {
+    fn new(alloc: Global) -> Stored<T> {
+        Stored {
+            alloc,
+            of: PhantomData,
+        }
+    }
+}
+
+impl<T: Listed, K: RowSink<T>> RowTaking<K> for Stored<T> {
+    ghost taken = { λ _ sink row. K.taken sink (T.shown row) };
+
+    ghost fits = { λ _ row. T.IsInRange (T.shown row) };
 
     fn take(&self, row: &Row, sink: &mut K) -> Result<(), StoreFault> {
-        let dismissal = dismissal_of(self.alloc, act_in(row)?)?;
-        sink.dismissal(&dismissal)?;
+        let shown = T::read(self.alloc, row)?;
+        shown.show_range();
+        sink.take(&shown)?;
         Ok(())
     }
 }
 
-impl<K: DismissalSink> Listing<K> for StoredDismissals {
-    ghost use Rattle.firm_rows.specs.Countable.{IsDismissalInRange};
-    ghost use Rattle.firm_rows.specs.Handing.{AreHanded};
-
-    ghost hands = { λ firm result old new.
-        AreHanded K.taken_out IsDismissalInRange firm.dismissals result old new };
-
-    fn select<S: Alter>(&self) -> &'static str {
-        "SELECT matter, entry, day, deed, caller, text, number FROM trail WHERE matter = 0 ORDER BY seq"
-    }
-}
-
-/// Passes each row of a list to the sink, in the list's order. Stops with `Memory` if memory runs out, and with
-/// `Store` at a row that is invalid or past the 2^64 - 1st; the sink keeps those before it. Holds one row at a time.
-pub fn each_listed<S: Alter, K, L: Listing<K>>(
+/// Passes each row of one kind to the sink: movements, lines of the firm's own, acts and dismissals in order of
+/// acceptance; exceptions by day, reference, the bank's reference, amount (as a number) and text; balances with openings
+/// before closings, each by day. Stops with `Memory` if memory runs out, and with `Store` at a row that is invalid or
+/// past the 2^64 - 1st; the sink keeps those before it. Holds one row at a time.
+pub fn each_listed<S: Alter, T: Listed, K: RowSink<T>>(
     conn: &mut Connection<S>,
-    listing: &L,
+    alloc: Global,
     sink: &mut K,
 ) -> Result<(), StoreFault>
     requires { conn.old.in_transaction ≡ false }
     ensures mode { conn.new.in_transaction ≡ false }
     ensures handed { (l : Layout) → HasCleanDisk (state S.Store conn.new) → Stands l (state S.Store conn.old).now
-        → L.hands (firm_in l (state S.Store conn.old).now.trees) result sink.old sink.new }
+        → AreHanded K.taken T.IsInRange (T.list (firm_in l (state S.Store conn.old).now.trees))
+        result sink.old sink.new }
     ensures left { LeavesAll result (state S.Store conn.old) (state S.Store conn.new) }
 {
-    hand_rows(conn, listing.select::<S>(), &[], listing, sink).and(Ok(()))
+    let stored: Stored<T> = Stored::new(alloc);
+    hand_rows(conn, T::select::<S>(), &[], &stored, sink).and(Ok(()))
 }
 
 /// Passes each act of a matter to the sink, in order of acceptance. No other row of the trail is looked at. Stops with
 /// `Memory` if memory runs out, and with `Store` at a row of the matter's that is invalid or past the 2^64 - 1st; the
 /// sink keeps those before it. Holds one row at a time.
-pub fn each_act_of<S: Alter, K: ActSink>(
+pub fn each_act_of<S: Alter, K: RowSink<MatterAct>>(
     conn: &mut Connection<S>,
     alloc: Global,
     matter: MatterNo,
@@ -291,12 +238,13 @@ pub fn each_act_of<S: Alter, K: ActSink>(
     requires { conn.old.in_transaction ≡ false }
     ensures mode { conn.new.in_transaction ≡ false }
     ensures handed { (l : Layout) → HasCleanDisk (state S.Store conn.new) → StandsSound l (state S.Store conn.old).now
-        → AreHanded K.remembered IsActInRange (acts_in matter (firm_in l (state S.Store conn.old).now.trees).acts)
+        → AreHanded K.taken IsActInRange (acts_in matter (firm_in l (state S.Store conn.old).now.trees).acts)
         result sink.old sink.new }
     ensures left { LeavesAll result (state S.Store conn.old) (state S.Store conn.new) }
 {
     let key = [ValueRef::Int(matter.get() as i64)];
-    hand_rows(conn, ACTS_OF, &key, &StoredActs { alloc }, sink).and(Ok(()))
+    let stored: Stored<MatterAct> = Stored::new(alloc);
+    hand_rows(conn, ACTS_OF, &key, &stored, sink).and(Ok(()))
 }
 
 // The matter that a row of the trail names. None if it names none that there may be.
@@ -311,14 +259,14 @@ fn matter_named(row: &Row) -> Option<MatterNo>
 }
 
 // Passes the act of each row to the sink, and returns the rows that stand for none.
-fn hand_readable<K: ActSink>(
+fn hand_readable<K: RowSink<MatterAct>>(
     alloc: Global,
     rows: &[Row],
     sink: &mut K,
 ) -> Result<Vec<UnreadAct>, StoreFault>
-    ensures read { IfOk result (λ unread. AreRead K.remembered 1 rows.now unread.items sink.old sink.new) }
+    ensures read { IfOk result (λ unread. AreRead K.taken 1 rows.now unread.items sink.old sink.new) }
     ensures handed { (xs : List ActRow) → rows.now ≡ map act_values xs → AllByRecursion IsWrittenAct xs
-        → AreHanded K.remembered IsActInRange (map act_from xs) result sink.old sink.new }
+        → AreHanded K.taken IsActInRange (map act_from xs) result sink.old sink.new }
 {
     let mut unread = Vec::new(alloc);
     let mut number: u64 = 0;
@@ -333,14 +281,14 @@ fn hand_readable<K: ActSink>(
             }
             Err(StoreFault::Memory) => return Err(StoreFault::Memory),
         };
-        sink.act(&found)?;
+        sink.take(&found)?;
     }
     Ok(unread)
 }
 
 /// Passes each act that can be read to the sink, in order of acceptance, and returns the rows that stand for none, in
 /// that order. Returns `Memory` if memory runs out; the sink keeps the acts before. Holds all rows of acts at once.
-pub fn each_readable_act<S: Alter, K: ActSink>(
+pub fn each_readable_act<S: Alter, K: RowSink<MatterAct>>(
     conn: &mut Connection<S>,
     alloc: Global,
     sink: &mut K,
@@ -348,13 +296,13 @@ pub fn each_readable_act<S: Alter, K: ActSink>(
     requires { conn.old.in_transaction ≡ false }
     ensures mode { conn.new.in_transaction ≡ false }
     ensures handed { (l : Layout) → HasCleanDisk (state S.Store conn.new) → StandsSound l (state S.Store conn.old).now
-        → AreHanded K.remembered IsActInRange (firm_in l (state S.Store conn.old).now.trees).acts
+        → AreHanded K.taken IsActInRange (firm_in l (state S.Store conn.old).now.trees).acts
         result sink.old sink.new }
     ensures whole { (l : Layout) → HasCleanDisk (state S.Store conn.new) → StandsSound l (state S.Store conn.old).now
         → IfOk result (λ unread. unread.items ≡ []) }
     ensures read { HasCleanDisk (state S.Store conn.new) → IfOk result (λ unread. (rows : List Shows)
         × Shown act_scan_text [] (state S.Store conn.old) (state S.Store conn.new) rows
-        × AreRead K.remembered 1 rows unread.items sink.old sink.new) }
+        × AreRead K.taken 1 rows unread.items sink.old sink.new) }
     ensures left { LeavesAll result (state S.Store conn.old) (state S.Store conn.new) }
 {
     let rows = rows_of(conn, ACTS, &[])?;

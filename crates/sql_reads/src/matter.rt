@@ -28,7 +28,7 @@ ghost use Rattle.sql_reads.specs.Shown.{AreNumbersOf, kept_at, numbered_from, ro
 
 use crate::columns::{entry_in, head_in, number_at, seat_in, select_entry, select_head};
 use crate::query::{RowTaking, hand_rows, rows_of};
-use firm_rows::RowSink;
+use firm_rows::{MatterRow, MatterRowSink};
 use matter_parts::{Figures, Kept, Matter, is_sound_whole};
 use matter_rows::{Head, Seat};
 use sql_rows::{entry_of, head_of, seat_of, totals_of};
@@ -357,17 +357,17 @@ struct SeatTaking {
     matter: MatterNo,
 }
 
-impl<K: RowSink> RowTaking<K> for SeatTaking {
+impl<K: MatterRowSink> RowTaking<K> for SeatTaking {
     ghost use Rattle.firm_rows.specs.Firm.{SeatRow};
     ghost use Rattle.sql_reads.specs.Shown.{seat_at};
 
-    ghost taken = { λ t sink row. K.stepped sink (t.matter, SeatRow (seat_at t.matter row)) };
+    ghost taken = { λ t sink row. K.taken sink (t.matter, SeatRow (seat_at t.matter row)) };
 
     ghost fits = { λ _ _. Unit {0} };
 
     fn take(&self, row: &Row, sink: &mut K) -> Result<(), StoreFault> {
         let seat = read_seat(self.alloc, self.matter, row)?;
-        sink.seat(self.matter, &seat)?;
+        sink.matter_row(self.matter, MatterRow::Seat(&seat))?;
         Ok(())
     }
 }
@@ -379,12 +379,12 @@ struct EntryTaking {
     matter: MatterNo,
 }
 
-impl<K: RowSink> RowTaking<K> for EntryTaking {
+impl<K: MatterRowSink> RowTaking<K> for EntryTaking {
     ghost use Rattle.firm_rows.specs.Firm.{EntryRow};
     ghost use Rattle.sql_reads.specs.Shown.{kept_at};
 
     ghost taken = { λ t sink row.
-        K.stepped sink (t.matter, EntryRow (kept_at t.matter row).number (kept_at t.matter row).entry) };
+        K.taken sink (t.matter, EntryRow (kept_at t.matter row).number (kept_at t.matter row).entry) };
 
     ghost fits = { λ _ _. Unit {0} };
 
@@ -392,7 +392,7 @@ impl<K: RowSink> RowTaking<K> for EntryTaking {
         // The entry ends before the answer is looked at, so that there is one exit that drops it.
         let told = {
             let kept = read_entry(self.alloc, self.matter, row)?;
-            sink.entry(self.matter, kept.number, &kept.entry)
+            sink.matter_row(self.matter, MatterRow::Entry(kept.number, &kept.entry))
         };
         told?;
         Ok(())
@@ -430,7 +430,7 @@ fn next_head<S: Alter>(
 }
 
 // Passes the rows of a matter to the sink: its head, its seats and its entries. Returns how many they are.
-fn hand_matter<S: Alter, K: RowSink>(
+fn hand_matter<S: Alter, K: MatterRowSink>(
     conn: &mut Connection<S>,
     alloc: Global,
     matter: MatterNo,
@@ -440,11 +440,11 @@ fn hand_matter<S: Alter, K: RowSink>(
     requires { conn.old.in_transaction ≡ false }
     ensures mode { conn.new.in_transaction ≡ false }
     ensures handed { (l : Layout) → HasCleanDisk (state S.Store conn.new) → Stands l (state S.Store conn.old).now
-        → AreCounted K.stepped (rows_at (lists_in l (state S.Store conn.old).now.trees) (matter, head.now))
+        → AreCounted K.taken (rows_at (lists_in l (state S.Store conn.old).now.trees) (matter, head.now))
         result sink.old sink.new }
     ensures left { LeavesAll result (state S.Store conn.old) (state S.Store conn.new) }
 {
-    sink.head(matter, head)?;
+    sink.matter_row(matter, MatterRow::Head(head))?;
     let key = [ValueRef::Int(matter.get() as i64)];
     let seats = hand_rows(conn, SEATS, &key, &SeatTaking { alloc, matter }, sink)?;
     let entries = hand_rows(conn, ENTRIES, &key, &EntryTaking { alloc, matter }, sink)?;
@@ -467,7 +467,7 @@ fn refuse_least<S: Alter>(conn: &mut Connection<S>) -> Result<(), StoreFault>
 /// Passes each row of each matter to the sink: matters by number, and in each the head, the seats by person and the
 /// entries by number. Stops with `Memory` if memory runs out, and with `Store` at a row that is invalid or past the
 /// 2^64 - 1st; the sink keeps the rows before it. Holds one row at a time, so memory does not grow with their number.
-pub fn each_row<S: Alter, K: RowSink>(
+pub fn each_row<S: Alter, K: MatterRowSink>(
     conn: &mut Connection<S>,
     alloc: Global,
     sink: &mut K,
@@ -475,7 +475,7 @@ pub fn each_row<S: Alter, K: RowSink>(
     requires { conn.old.in_transaction ≡ false }
     ensures mode { conn.new.in_transaction ≡ false }
     ensures handed { (l : Layout) → HasCleanDisk (state S.Store conn.new) → StandsSound l (state S.Store conn.old).now
-        → AreHanded K.stepped IsRowInRange (firm_in l (state S.Store conn.old).now.trees).rows
+        → AreHanded K.taken IsRowInRange (firm_in l (state S.Store conn.old).now.trees).rows
         result sink.old sink.new }
     ensures left { LeavesAll result (state S.Store conn.old) (state S.Store conn.new) }
 {

@@ -11,7 +11,7 @@ ghost use Rattle.statement_match.specs.Entries.{book_entry, deposit_in, know_exc
 ghost use Rattle.statement_match.specs.Entries.{known_of, none_known, payment_in, since_of as since_day};
 ghost use Rattle.statement_match.specs.Entries.{told_entries as entries_told};
 
-use firm_rows::{ExceptionSink, FirmLine, FirmLineSink, MatterRow, MatterRowSink};
+use firm_rows::{FirmLine, MatterRow, MatterRowSink, RowSink};
 use matter_rows::{Clearing, Deposit, DepositState, Entry, Payment, PaymentState};
 use statement_lines::{BookEntry, BookedLines, Booking, EntryState, Held, Known, WaitingEntry};
 use std::alloc::{AllocError, Global};
@@ -341,19 +341,19 @@ impl MatterRowSink for KnownCollector {
     }
 }
 
-impl ExceptionSink for KnownCollector {
-    ghost noted = { know_exception };
+impl RowSink<Line> for KnownCollector {
+    ghost taken = { know_exception };
 
-    fn exception(&mut self, line: &Line) -> Result<(), AllocError> {
+    fn take(&mut self, line: &Line) -> Result<(), AllocError> {
         self.exceptions.push(line.copied()?)?;
         Ok(())
     }
 }
 
-impl FirmLineSink for KnownCollector {
-    ghost lined = { know_own_line };
+impl RowSink<FirmLine> for KnownCollector {
+    ghost taken = { know_own_line };
 
-    fn firm_line(&mut self, line: &FirmLine) -> Result<(), AllocError> {
+    fn take(&mut self, line: &FirmLine) -> Result<(), AllocError> {
         let bank_ref = line.bank_ref.copied()?;
         self.bookings.push(Booking {
             date: line.date,

@@ -8,7 +8,7 @@ ghost use Rattle.trust_desk.specs.Answered.{IsAnswered};
 ghost use Rattle.trust_desk.specs.Heard.{Heard, OfActs, kind_of};
 
 use crate::requests::{Body, Reply};
-use firm_rows::{ActSink, MatterAct};
+use firm_rows::{MatterAct, RowSink};
 use matter_bodies::acts_body;
 use std::alloc::{AllocError, Global};
 use std::marker::Model;
@@ -51,10 +51,10 @@ impl ActsOfMatter {
     }
 }
 
-impl ActSink for ActsOfMatter {
-    ghost remembered = { λ acts act. acts ++ act.act ∷ [] };
+impl RowSink<MatterAct> for ActsOfMatter {
+    ghost taken = { λ acts act. acts ++ act.act ∷ [] };
 
-    fn act(&mut self, act: &MatterAct) -> Result<(), AllocError> {
+    fn take(&mut self, act: &MatterAct) -> Result<(), AllocError> {
         let act = act.act.copied()?;
         self.acts.push(act)?;
         Ok(())

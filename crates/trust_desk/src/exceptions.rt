@@ -10,7 +10,7 @@ ghost use Rattle.trust_desk.specs.Replies.{is_fault_reply};
 ghost use Rattle.trust_desk.specs.Crashes.{MayLeaveChange, is_fault_end};
 
 use crate::requests::{Body, Reply, is_not_of_firm};
-use firm_rows::ExceptionSink;
+use firm_rows::RowSink;
 use std::alloc::{AllocError, Global};
 use trust_base::{Day, Line, OwnedBytes, Refusal, Rule, StoreFault};
 use trust_matter::Caller;
@@ -23,10 +23,10 @@ struct LineSearch<'a> {
     is_found: bool,
 }
 
-impl ExceptionSink for LineSearch<'_> {
-    ghost noted = { λ s line. record s { is_found = s.is_found || is_same_line line s.line.now } };
+impl RowSink<Line> for LineSearch<'_> {
+    ghost taken = { λ s line. record s { is_found = s.is_found || is_same_line line s.line.now } };
 
-    fn exception(&mut self, line: &Line) -> Result<(), AllocError> {
+    fn take(&mut self, line: &Line) -> Result<(), AllocError> {
         self.is_found = self.is_found || line.compare(self.line).is_eq();
         Ok(())
     }

@@ -17,8 +17,8 @@ ghost use Rattle.trust_store.specs.Named.{IsPartFor};
 use crate::all_rows::AllRows;
 use crate::unread_act::UnreadAct;
 use firm_rows::{
-    ActSink, BalanceKind, BalanceSink, DismissalSink, ExceptionSink, FirmLedger, FirmLineSink,
-    MovementSink, RowSink, Verdict,
+    BalanceKind, BalanceRow, Dismissal, FirmLedger, FirmLine, MatterAct, MatterRowSink, Movement,
+    RowSink, Verdict,
 };
 use std::alloc::Global;
 use trust_base::{Day, EntryNo, Line, MatterNo, StoreFault};
@@ -89,68 +89,72 @@ pub trait Book {
 
     /// Passes each row to the sink, sorted by matter, and within a matter the head, then the seats by person, then the
     /// entries by number. Stops if the sink runs out of memory.
-    fn each_row<S: RowSink>(&mut self, sink: &mut S) -> Result<(), StoreFault>
+    fn each_row<S: MatterRowSink>(&mut self, sink: &mut S) -> Result<(), StoreFault>
         ensures handed { (seen self.new).clean → (seen self.old).stands
-            → AreHanded S.stepped IsRowInRange (seen self.old).firm.rows result sink.old sink.new }
+            → AreHanded S.taken IsRowInRange (seen self.old).firm.rows result sink.old sink.new }
         ensures read { IsRead result (seen self.old) (seen self.new) };
 
     /// Passes each movement to the sink, in the order of acceptance. Stops if the sink runs out of memory.
-    fn each_movement<S: MovementSink>(&mut self, sink: &mut S) -> Result<(), StoreFault>
+    fn each_movement<S: RowSink<Movement>>(&mut self, sink: &mut S) -> Result<(), StoreFault>
         ensures handed { (seen self.new).clean → (seen self.old).stands
-            → AreHanded S.moved IsMovementInRange (seen self.old).firm.movements result sink.old sink.new }
+            → AreHanded S.taken IsMovementInRange (seen self.old).firm.movements result sink.old sink.new }
         ensures read { IsRead result (seen self.old) (seen self.new) };
 
     /// Passes each line of the firm's own to the sink, in the order of acceptance. Stops if the sink runs out of
     /// memory.
-    fn each_firm_line<S: FirmLineSink>(&mut self, sink: &mut S) -> Result<(), StoreFault>
+    fn each_firm_line<S: RowSink<FirmLine>>(&mut self, sink: &mut S) -> Result<(), StoreFault>
         ensures handed { (seen self.new).clean → (seen self.old).stands
-            → AreHanded S.lined IsFirmLineInRange (seen self.old).firm.firm_lines result sink.old sink.new }
+            → AreHanded S.taken IsFirmLineInRange (seen self.old).firm.firm_lines result sink.old sink.new }
         ensures read { IsRead result (seen self.old) (seen self.new) };
 
     /// Passes each exception to the sink, sorted by day, reference, bank's reference, amount as a number, then text.
     /// Stops if the sink runs out of memory.
-    fn each_exception<S: ExceptionSink>(&mut self, sink: &mut S) -> Result<(), StoreFault>
+    fn each_exception<S: RowSink<Line>>(&mut self, sink: &mut S) -> Result<(), StoreFault>
         ensures handed { (seen self.new).clean → (seen self.old).stands
-            → AreHanded S.noted IsLineInRange (seen self.old).firm.exceptions result sink.old sink.new }
+            → AreHanded S.taken IsLineInRange (seen self.old).firm.exceptions result sink.old sink.new }
         ensures read { IsRead result (seen self.old) (seen self.new) };
 
     /// Passes each balance to the sink, openings before closings, each by day. Stops if the sink runs out of memory.
-    fn each_balance<S: BalanceSink>(&mut self, sink: &mut S) -> Result<(), StoreFault>
+    fn each_balance<S: RowSink<BalanceRow>>(&mut self, sink: &mut S) -> Result<(), StoreFault>
         ensures handed { (seen self.new).clean → (seen self.old).stands
-            → AreHanded S.balanced IsBalanceInRange (seen self.old).firm.balances result sink.old sink.new }
+            → AreHanded S.taken IsBalanceInRange (seen self.old).firm.balances result sink.old sink.new }
         ensures read { IsRead result (seen self.old) (seen self.new) };
 
     /// Passes each act to the sink, in the order of acceptance. Stops if the sink runs out of memory.
-    fn each_act<S: ActSink>(&mut self, sink: &mut S) -> Result<(), StoreFault>
+    fn each_act<S: RowSink<MatterAct>>(&mut self, sink: &mut S) -> Result<(), StoreFault>
         ensures handed { (seen self.new).clean → (seen self.old).stands
-            → AreHanded S.remembered IsActInRange (seen self.old).firm.acts result sink.old sink.new }
+            → AreHanded S.taken IsActInRange (seen self.old).firm.acts result sink.old sink.new }
         ensures read { IsRead result (seen self.old) (seen self.new) };
 
     /// Passes each act of one matter to the sink, in the order of acceptance. Reads no other matter's acts. Stops if
     /// the sink runs out of memory.
-    fn each_act_of<S: ActSink>(&mut self, matter: MatterNo, sink: &mut S) -> Result<(), StoreFault>
+    fn each_act_of<S: RowSink<MatterAct>>(
+        &mut self,
+        matter: MatterNo,
+        sink: &mut S,
+    ) -> Result<(), StoreFault>
         ensures handed { (seen self.new).clean → (seen self.old).stands
-            → AreHanded S.remembered IsActInRange (acts_in matter (seen self.old).firm.acts)
+            → AreHanded S.taken IsActInRange (acts_in matter (seen self.old).firm.acts)
             result sink.old sink.new }
         ensures read { IsRead result (seen self.old) (seen self.new) };
 
     /// Passes each act that can be read to the sink, in the order of acceptance, and returns the rows that stand for
     /// none, in that order: none of a book that stands for a sound firm. Stops if the sink runs out of memory.
-    fn each_readable_act<S: ActSink>(
+    fn each_readable_act<S: RowSink<MatterAct>>(
         &mut self,
         alloc: Global,
         sink: &mut S,
     ) -> Result<Vec<UnreadAct>, StoreFault>
         ensures handed { (seen self.new).clean → (seen self.old).stands
-            → AreHanded S.remembered IsActInRange (seen self.old).firm.acts result sink.old sink.new }
+            → AreHanded S.taken IsActInRange (seen self.old).firm.acts result sink.old sink.new }
         ensures whole { (seen self.new).clean → (seen self.old).stands
             → IfOk result (λ unread. unread.items ≡ []) }
         ensures read { IsRead result (seen self.old) (seen self.new) };
 
     /// Passes each dismissal to the sink, in the order of acceptance. Stops if the sink runs out of memory.
-    fn each_dismissal<S: DismissalSink>(&mut self, sink: &mut S) -> Result<(), StoreFault>
+    fn each_dismissal<S: RowSink<Dismissal>>(&mut self, sink: &mut S) -> Result<(), StoreFault>
         ensures handed { (seen self.new).clean → (seen self.old).stands
-            → AreHanded S.taken_out IsDismissalInRange (seen self.old).firm.dismissals result sink.old sink.new }
+            → AreHanded S.taken IsDismissalInRange (seen self.old).firm.dismissals result sink.old sink.new }
         ensures read { IsRead result (seen self.old) (seen self.new) };
 
     /// Makes one change of a matter, with the act that it is remembered by, or none if it is refused. It must be a

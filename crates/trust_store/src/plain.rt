@@ -20,10 +20,8 @@ use crate::exceptions::{add_line, remove_line};
 use crate::unread_act::UnreadAct;
 use firm_rows::laws::{firm_stays_sound, verdicts_fit};
 use firm_rows::{
-    ActSink, BalanceKind, BalanceRow, BalanceSink, Dismissal, DismissalSink, ExceptionSink,
-    FirmLedger, FirmLine, FirmLineSink, MAX_OWN, MatterAct, Movement, MovementSink, Owner, RowSink,
-    Verdict, hand_acts, hand_balances, hand_dismissals, hand_firm_lines, hand_lines,
-    hand_movements,
+    BalanceKind, BalanceRow, Dismissal, FirmLedger, FirmLine, MAX_OWN, MatterAct, MatterRow,
+    MatterRowSink, Movement, Owner, RowSink, Verdict, hand,
 };
 use std::alloc::{AllocError, Global};
 use std::marker::Model;
@@ -216,31 +214,31 @@ impl Book for PlainBook {
         })
     }
 
-    fn each_row<S: RowSink>(&mut self, sink: &mut S) -> Result<(), StoreFault> {
+    fn each_row<S: MatterRowSink>(&mut self, sink: &mut S) -> Result<(), StoreFault> {
         Ok(hand_counted(&self.matters, sink)?)
     }
 
-    fn each_movement<S: MovementSink>(&mut self, sink: &mut S) -> Result<(), StoreFault> {
-        Ok(hand_movements(&self.movements, sink)?)
+    fn each_movement<S: RowSink<Movement>>(&mut self, sink: &mut S) -> Result<(), StoreFault> {
+        Ok(hand(&self.movements, sink)?)
     }
 
-    fn each_firm_line<S: FirmLineSink>(&mut self, sink: &mut S) -> Result<(), StoreFault> {
-        Ok(hand_firm_lines(self.own.lines(), sink)?)
+    fn each_firm_line<S: RowSink<FirmLine>>(&mut self, sink: &mut S) -> Result<(), StoreFault> {
+        Ok(hand(self.own.lines(), sink)?)
     }
 
-    fn each_exception<S: ExceptionSink>(&mut self, sink: &mut S) -> Result<(), StoreFault> {
-        Ok(hand_lines(&self.exceptions, sink)?)
+    fn each_exception<S: RowSink<Line>>(&mut self, sink: &mut S) -> Result<(), StoreFault> {
+        Ok(hand(&self.exceptions, sink)?)
     }
 
-    fn each_balance<S: BalanceSink>(&mut self, sink: &mut S) -> Result<(), StoreFault> {
-        Ok(hand_balances(&self.balances, sink)?)
+    fn each_balance<S: RowSink<BalanceRow>>(&mut self, sink: &mut S) -> Result<(), StoreFault> {
+        Ok(hand(&self.balances, sink)?)
     }
 
-    fn each_act<S: ActSink>(&mut self, sink: &mut S) -> Result<(), StoreFault> {
-        Ok(hand_acts(&self.acts, sink)?)
+    fn each_act<S: RowSink<MatterAct>>(&mut self, sink: &mut S) -> Result<(), StoreFault> {
+        Ok(hand(&self.acts, sink)?)
     }
 
-    fn each_act_of<S: ActSink>(
+    fn each_act_of<S: RowSink<MatterAct>>(
         &mut self,
         matter: MatterNo,
         sink: &mut S,
@@ -248,17 +246,17 @@ impl Book for PlainBook {
         Ok(hand_acts_of(&self.acts, matter, sink)?)
     }
 
-    fn each_readable_act<S: ActSink>(
+    fn each_readable_act<S: RowSink<MatterAct>>(
         &mut self,
         alloc: Global,
         sink: &mut S,
     ) -> Result<Vec<UnreadAct>, StoreFault> {
-        hand_acts(&self.acts, sink)?;
+        hand(&self.acts, sink)?;
         Ok(Vec::new(alloc))
     }
 
-    fn each_dismissal<S: DismissalSink>(&mut self, sink: &mut S) -> Result<(), StoreFault> {
-        Ok(hand_dismissals(&self.dismissals, sink)?)
+    fn each_dismissal<S: RowSink<Dismissal>>(&mut self, sink: &mut S) -> Result<(), StoreFault> {
+        Ok(hand(&self.dismissals, sink)?)
     }
 
     fn write_change(
@@ -622,9 +620,9 @@ fn change_kept(
 }
 
 // Passes all rows to the sink. If there are 2^64 or more, passes none and reports out of memory.
-fn hand_counted<S: RowSink>(kept: &[KeptMatter], sink: &mut S) -> Result<(), AllocError>
+fn hand_counted<S: MatterRowSink>(kept: &[KeptMatter], sink: &mut S) -> Result<(), AllocError>
     requires { AreKeptWhole kept.now }
-    ensures { AreHanded S.stepped IsRowInRange (joined kept.now) result sink.old sink.new }
+    ensures { AreHanded S.taken IsRowInRange (joined kept.now) result sink.old sink.new }
 {
     match row_count(kept) {
         Some(_) => hand_all(kept, sink),
@@ -665,10 +663,10 @@ fn head_count(matter: &Matter) -> u64
     }
 }
 
-fn hand_all<S: RowSink>(kept: &[KeptMatter], sink: &mut S) -> Result<(), AllocError>
+fn hand_all<S: MatterRowSink>(kept: &[KeptMatter], sink: &mut S) -> Result<(), AllocError>
     requires { AreKeptWhole kept.now }
-    ensures all { OnOk result (sink.new ≡ fold S.stepped sink.old (joined kept.now)) }
-    ensures some { FoldsFront S.stepped sink.old (joined kept.now) sink.new }
+    ensures all { OnOk result (sink.new ≡ fold S.taken sink.old (joined kept.now)) }
+    ensures some { FoldsFront S.taken sink.old (joined kept.now) sink.new }
 {
     for k in kept {
         hand_matter(k.number, &k.matter, sink)?;
@@ -676,61 +674,73 @@ fn hand_all<S: RowSink>(kept: &[KeptMatter], sink: &mut S) -> Result<(), AllocEr
     Ok(())
 }
 
-fn hand_matter<S: RowSink>(
+fn hand_matter<S: MatterRowSink>(
     number: MatterNo,
     matter: &Matter,
     sink: &mut S,
 ) -> Result<(), AllocError>
     requires { AreNumbered 1 matter.now.kept }
-    ensures all { OnOk result (sink.new ≡ fold S.stepped sink.old (pairs number (rows_kept matter.now))) }
-    ensures some { FoldsFront S.stepped sink.old (pairs number (rows_kept matter.now)) sink.new }
+    ensures all { OnOk result (sink.new ≡ fold S.taken sink.old (pairs number (rows_kept matter.now))) }
+    ensures some { FoldsFront S.taken sink.old (pairs number (rows_kept matter.now)) sink.new }
 {
     hand_head(number, matter, sink)?;
     hand_seats(number, matter.seats(), sink)?;
     hand_entries(number, matter.kept(), sink)
 }
 
-fn hand_head<S: RowSink>(number: MatterNo, matter: &Matter, sink: &mut S) -> Result<(), AllocError>
-    ensures ok { OnOk result (sink.new ≡ fold S.stepped sink.old (head_pairs number matter.now.head)) }
+fn hand_head<S: MatterRowSink>(
+    number: MatterNo,
+    matter: &Matter,
+    sink: &mut S,
+) -> Result<(), AllocError>
+    ensures ok { OnOk result (sink.new ≡ fold S.taken sink.old (head_pairs number matter.now.head)) }
     ensures err { OnErr result (sink.new ≡ sink.old) }
 {
     match matter.head() {
-        Some(head) => sink.head(number, head),
+        Some(head) => sink.matter_row(number, MatterRow::Head(head)),
         None => Ok(()),
     }
 }
 
-fn hand_seats<S: RowSink>(number: MatterNo, seats: &[Seat], sink: &mut S) -> Result<(), AllocError>
-    ensures all { OnOk result (sink.new ≡ fold S.stepped sink.old (seat_pairs number seats.now)) }
-    ensures some { FoldsFront S.stepped sink.old (seat_pairs number seats.now) sink.new }
+fn hand_seats<S: MatterRowSink>(
+    number: MatterNo,
+    seats: &[Seat],
+    sink: &mut S,
+) -> Result<(), AllocError>
+    ensures all { OnOk result (sink.new ≡ fold S.taken sink.old (seat_pairs number seats.now)) }
+    ensures some { FoldsFront S.taken sink.old (seat_pairs number seats.now) sink.new }
 {
     for seat in seats {
-        sink.seat(number, seat)?;
+        sink.matter_row(number, MatterRow::Seat(seat))?;
     }
     Ok(())
 }
 
-fn hand_entries<S: RowSink>(number: MatterNo, kept: &[Kept], sink: &mut S) -> Result<(), AllocError>
-    ensures all { OnOk result (sink.new ≡ fold S.stepped sink.old (kept_pairs number kept.now)) }
-    ensures some { FoldsFront S.stepped sink.old (kept_pairs number kept.now) sink.new }
+fn hand_entries<S: MatterRowSink>(
+    number: MatterNo,
+    kept: &[Kept],
+    sink: &mut S,
+) -> Result<(), AllocError>
+    ensures all { OnOk result (sink.new ≡ fold S.taken sink.old (kept_pairs number kept.now)) }
+    ensures some { FoldsFront S.taken sink.old (kept_pairs number kept.now) sink.new }
 {
     for k in kept {
-        sink.entry(number, k.number, &k.entry)?;
+        sink.matter_row(number, MatterRow::Entry(k.number, &k.entry))?;
     }
     Ok(())
 }
 
 // Passes each act of a matter to the sink, in order.
-fn hand_acts_of<S: ActSink>(
+fn hand_acts_of<S: RowSink<MatterAct>>(
     acts: &[MatterAct],
     matter: MatterNo,
     sink: &mut S,
 ) -> Result<(), AllocError>
-    ensures { AreHanded S.remembered IsActInRange (acts_in matter acts.now) result sink.old sink.new }
+    ensures { AreHanded S.taken IsActInRange (acts_in matter acts.now) result sink.old sink.new }
 {
     for act in acts {
         if act.matter.get() == matter.get() {
-            sink.act(act)?;
+            sink.take(act)?;
         }
     }
     Ok(())

@@ -4,8 +4,8 @@ ghost use Rattle.std.specs.Prelude.{◌≡◌, ◌==◌, ◌-◌};
 ghost use Rattle.trust_store.specs.Books.{counted_fault};
 
 use firm_rows::{
-    ActSink, BalanceKind, BalanceSink, DismissalSink, ExceptionSink, FirmLedger, FirmLineSink,
-    MovementSink, RowSink, Verdict,
+    BalanceKind, BalanceRow, Dismissal, FirmLedger, FirmLine, MatterAct, MatterRowSink, Movement,
+    RowSink, Verdict,
 };
 use std::alloc::Global;
 use trust_base::{Day, EntryNo, Line, MatterNo, StoreFault};
@@ -96,49 +96,49 @@ impl<B: Book> Book for RefusingBook<B> {
         }
     }
 
-    fn each_row<S: RowSink>(&mut self, sink: &mut S) -> Result<(), StoreFault> {
+    fn each_row<S: MatterRowSink>(&mut self, sink: &mut S) -> Result<(), StoreFault> {
         match self.inner.each_row(sink) {
             Ok(()) => Ok(()),
             Err(fault) => Err(told(&mut self.refusals, fault)),
         }
     }
 
-    fn each_movement<S: MovementSink>(&mut self, sink: &mut S) -> Result<(), StoreFault> {
+    fn each_movement<S: RowSink<Movement>>(&mut self, sink: &mut S) -> Result<(), StoreFault> {
         match self.inner.each_movement(sink) {
             Ok(()) => Ok(()),
             Err(fault) => Err(told(&mut self.refusals, fault)),
         }
     }
 
-    fn each_firm_line<S: FirmLineSink>(&mut self, sink: &mut S) -> Result<(), StoreFault> {
+    fn each_firm_line<S: RowSink<FirmLine>>(&mut self, sink: &mut S) -> Result<(), StoreFault> {
         match self.inner.each_firm_line(sink) {
             Ok(()) => Ok(()),
             Err(fault) => Err(told(&mut self.refusals, fault)),
         }
     }
 
-    fn each_exception<S: ExceptionSink>(&mut self, sink: &mut S) -> Result<(), StoreFault> {
+    fn each_exception<S: RowSink<Line>>(&mut self, sink: &mut S) -> Result<(), StoreFault> {
         match self.inner.each_exception(sink) {
             Ok(()) => Ok(()),
             Err(fault) => Err(told(&mut self.refusals, fault)),
         }
     }
 
-    fn each_balance<S: BalanceSink>(&mut self, sink: &mut S) -> Result<(), StoreFault> {
+    fn each_balance<S: RowSink<BalanceRow>>(&mut self, sink: &mut S) -> Result<(), StoreFault> {
         match self.inner.each_balance(sink) {
             Ok(()) => Ok(()),
             Err(fault) => Err(told(&mut self.refusals, fault)),
         }
     }
 
-    fn each_act<S: ActSink>(&mut self, sink: &mut S) -> Result<(), StoreFault> {
+    fn each_act<S: RowSink<MatterAct>>(&mut self, sink: &mut S) -> Result<(), StoreFault> {
         match self.inner.each_act(sink) {
             Ok(()) => Ok(()),
             Err(fault) => Err(told(&mut self.refusals, fault)),
         }
     }
 
-    fn each_act_of<S: ActSink>(
+    fn each_act_of<S: RowSink<MatterAct>>(
         &mut self,
         matter: MatterNo,
         sink: &mut S,
@@ -149,7 +149,7 @@ impl<B: Book> Book for RefusingBook<B> {
         }
     }
 
-    fn each_readable_act<S: ActSink>(
+    fn each_readable_act<S: RowSink<MatterAct>>(
         &mut self,
         alloc: Global,
         sink: &mut S,
@@ -160,7 +160,7 @@ impl<B: Book> Book for RefusingBook<B> {
         }
     }
 
-    fn each_dismissal<S: DismissalSink>(&mut self, sink: &mut S) -> Result<(), StoreFault> {
+    fn each_dismissal<S: RowSink<Dismissal>>(&mut self, sink: &mut S) -> Result<(), StoreFault> {
         match self.inner.each_dismissal(sink) {
             Ok(()) => Ok(()),
             Err(fault) => Err(told(&mut self.refusals, fault)),

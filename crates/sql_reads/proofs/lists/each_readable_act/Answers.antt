@@ -9,7 +9,7 @@ rows_of-requires-clause-select g c = act_scan_selects
 
 pub returns-in_err-rows-clause-handed : goal.returns-in_err-rows-clause-handed
 returns-in_err-rows-clause-handed g c l clean stands =
-    none_handed g.K.ActSink.remembered _ c.args.sink.now c.from_residual.result c.from_residual.ensures.0
+    none_handed g.K.RowSink.taken _ c.args.sink.now c.from_residual.result c.from_residual.ensures.0
 
 pub returns-clause-handed : goal.returns-clause-handed
 returns-clause-handed g c l clean stands =
@@ -26,7 +26,7 @@ returns-clause-whole g c l clean stands =
     ∙ act_scan_answer l _ stands.tables _
     (answers (act_scan_asks l) _ _ _ stands.tables.schema _ (c.in_ok-rows.ensures.shown clean)) in
     IfOk-weaker c.hand_readable.result _ _
-    (λ unread read. none_told g.K.ActSink.remembered c.deref.result.now rows shows stands.rows.meant.written.acts
+    (λ unread read. none_told g.K.RowSink.taken c.deref.result.now rows shows stands.rows.meant.written.acts
     unread.items c.args.sink.now c.hand_readable.new.sink read) c.hand_readable.ensures.read
 
 pub returns-clause-read : goal.returns-clause-read
@@ -36,6 +36,6 @@ returns-clause-read g c clean =
       c.in_ok-rows.rows.items,
       c.in_ok-rows.ensures.shown clean,
       subst
-          (λ rows. AreRead g.K.ActSink.remembered 1 rows unread.items c.args.sink.now c.hand_readable.new.sink)
+          (λ rows. AreRead g.K.RowSink.taken 1 rows unread.items c.args.sink.now c.hand_readable.new.sink)
           c.deref.ensures.value read,
     )) c.hand_readable.ensures.read

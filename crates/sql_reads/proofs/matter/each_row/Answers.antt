@@ -44,13 +44,13 @@ next_in g c l clean stands =
 
 rows_in : (g : Over) (c : After-hand_matter g) (l : Layout) → HasCleanDisk (state g.S.Store c.hand_matter.new.conn)
     → StandsSound l (state g.S.Store c.args.conn.now).now
-    → AreCounted g.K.RowSink.stepped
+    → AreCounted g.K.MatterRowSink.taken
     (rows_at (lists_in l (state g.S.Store c.args.conn.now).now.trees) c.in-Some.next)
     c.hand_matter.result c.matters.sink c.hand_matter.new.sink
 rows_in g c l clean stands =
     let on = goes_then _ _ _ _ _ c.in_ok-next.was c.matters.invariant.on c.next_head.ensures.left in
     let same = on.now (c.hand_matter.ensures.left.was_clean clean) in
-    subst (λ (db : Database). AreCounted g.K.RowSink.stepped (rows_at (lists_in l db.trees) c.in-Some.next)
+    subst (λ (db : Database). AreCounted g.K.MatterRowSink.taken (rows_at (lists_in l db.trees) c.in-Some.next)
     c.hand_matter.result c.matters.sink c.hand_matter.new.sink) same
     (c.hand_matter.ensures.handed l clean (subst (Stands l) (sym same) stands.tables))
 
@@ -58,7 +58,7 @@ rows_in g c l clean stands =
 stopped_in : (g : Over) (c : After-hand_matter g) {r : Result (Unit {0}) StoreFault} → IsErr r
     → ((l : Layout) → HasCleanDisk (state g.S.Store c.hand_matter.new.conn)
     → StandsSound l (state g.S.Store c.args.conn.now).now
-    → AreHanded g.K.RowSink.stepped IsRowInRange (firm_in l (state g.S.Store c.args.conn.now).now.trees).rows r
+    → AreHanded g.K.MatterRowSink.taken IsRowInRange (firm_in l (state g.S.Store c.args.conn.now).now.trees).rows r
     c.args.sink.now c.hand_matter.new.sink)
     × LeavesAll r (state g.S.Store c.args.conn.now) (state g.S.Store c.hand_matter.new.conn)
 stopped_in g c is = (

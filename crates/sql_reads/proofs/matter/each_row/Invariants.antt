@@ -10,6 +10,6 @@ invariant-matters g l = record {
   on : GoesOn (state g.S.Store l.fn.conn) (state g.S.Store l.conn);
   few : l.count ≤ MOST_ROWS;
   reached : (y : Layout) → HasCleanDisk (state g.S.Store l.conn) → StandsSound y (state g.S.Store l.fn.conn).now
-      → IsReached g.K.RowSink.stepped (lists_in y (state g.S.Store l.fn.conn).now.trees) l.after l.count l.fn.sink
+      → IsReached g.K.MatterRowSink.taken (lists_in y (state g.S.Store l.fn.conn).now.trees) l.after l.count l.fn.sink
       l.sink;
 }

@@ -11,13 +11,13 @@ hand_rows-requires-clause-select g c = seats_read_selects
 pub hand_rows-requires-2-clause-select : goal.hand_rows-requires-2-clause-select
 hand_rows-requires-2-clause-select g c = entries_read_selects
 
-pub returns-in_err-head-clause-handed : goal.returns-in_err-head-clause-handed
-returns-in_err-head-clause-handed g c l clean stands =
+pub returns-in_err-matter_row-clause-handed : goal.returns-in_err-matter_row-clause-handed
+returns-in_err-matter_row-clause-handed g c l clean stands =
     let a = lists_in l (state g.S.Store c.args.conn.now).now.trees in
-    rw c.in_err-head.ensures.err (counted_err _ _ (seat_rows a c.args.matter) (entry_rows a c.args.matter) _ _ c.from_residual.ensures.0 (_, begun _ _ _))
+    rw c.in_err-matter_row.ensures.err (counted_err _ _ (seat_rows a c.args.matter) (entry_rows a c.args.matter) _ _ c.from_residual.ensures.0 (_, begun _ _ _))
 
-pub returns-in_err-head-clause-left : goal.returns-in_err-head-clause-left
-returns-in_err-head-clause-left g c = left_at_err _ _ _ _ c.from_residual.ensures.0 (goes_from _).left
+pub returns-in_err-matter_row-clause-left : goal.returns-in_err-matter_row-clause-left
+returns-in_err-matter_row-clause-left g c = left_at_err _ _ _ _ c.from_residual.ensures.0 (goes_from _).left
 
 pub returns-in_err-seats-clause-handed : goal.returns-in_err-seats-clause-handed
 returns-in_err-seats-clause-handed g c l clean stands =
@@ -25,7 +25,7 @@ returns-in_err-seats-clause-handed g c l clean stands =
     let own : to_z w64 c.get.result ≡ pos c.args.matter = search rules in
     let seats = seats_fed _ l _ stands _ _ refl _ _ own _ _ _ (c.hand_rows.ensures.handed clean) in
     counted_err _ _ (seat_rows a c.args.matter) (entry_rows a c.args.matter) _ _ c.from_residual-in_err-seats.ensures.0
-    (seats_stopped _ _ (seat_rows a c.args.matter) (entry_rows a c.args.matter) _ _ c.in_ok-head.ensures.ok _ seats.some)
+    (seats_stopped _ _ (seat_rows a c.args.matter) (entry_rows a c.args.matter) _ _ c.in_ok-matter_row.ensures.ok _ seats.some)
 
 pub returns-in_err-entries-clause-handed : goal.returns-in_err-entries-clause-handed
 returns-in_err-entries-clause-handed g c l clean stands =
@@ -33,17 +33,17 @@ returns-in_err-entries-clause-handed g c l clean stands =
     let own : to_z w64 c.get.result ≡ pos c.args.matter = search rules in
     let clean1 = c.hand_rows-2.ensures.left.was_clean clean in
     let now = (kept_by _ _ _ _ c.in_ok-seats.was c.hand_rows.ensures.left clean1).now in
-    let seats : AreCounted g.K.RowSink.stepped
+    let seats : AreCounted g.K.MatterRowSink.taken
     (seat_rows a c.args.matter) c.hand_rows.result
-    c.head.new.self c.hand_rows.new.sink =
+    c.matter_row.new.self c.hand_rows.new.sink =
     seats_fed _ l _ stands _ _ refl _ _ own _ _ _ (c.hand_rows.ensures.handed clean1) in
     let seats = rw c.in_ok-seats.was at seats in
-    let entries : AreCounted g.K.RowSink.stepped
+    let entries : AreCounted g.K.MatterRowSink.taken
     (entry_rows a c.args.matter) c.hand_rows-2.result
     c.hand_rows.new.sink c.hand_rows-2.new.sink =
     entries_fed _ l _ stands _ _ now _ _ own _ _ _ (c.hand_rows-2.ensures.handed clean) in
     counted_err _ _ (seat_rows a c.args.matter) (entry_rows a c.args.matter) _ _ c.from_residual-in_err-entries.ensures.0
-    (entries_stopped _ _ (seat_rows a c.args.matter) (entry_rows a c.args.matter) _ _ c.in_ok-head.ensures.ok _ seats.all _ entries.some)
+    (entries_stopped _ _ (seat_rows a c.args.matter) (entry_rows a c.args.matter) _ _ c.in_ok-matter_row.ensures.ok _ seats.all _ entries.some)
 
 pub returns-clause-handed : goal.returns-clause-handed
 returns-clause-handed g c l clean stands =
@@ -51,17 +51,17 @@ returns-clause-handed g c l clean stands =
     let own : to_z w64 c.get.result ≡ pos c.args.matter = search rules in
     let clean1 = c.hand_rows-2.ensures.left.was_clean clean in
     let now = (kept_by _ _ _ _ c.in_ok-seats.was c.hand_rows.ensures.left clean1).now in
-    let seats : AreCounted g.K.RowSink.stepped
+    let seats : AreCounted g.K.MatterRowSink.taken
     (seat_rows a c.args.matter) c.hand_rows.result
-    c.head.new.self c.hand_rows.new.sink =
+    c.matter_row.new.self c.hand_rows.new.sink =
     seats_fed _ l _ stands _ _ refl _ _ own _ _ _ (c.hand_rows.ensures.handed clean1) in
     let seats = rw c.in_ok-seats.was at seats in
-    let entries : AreCounted g.K.RowSink.stepped
+    let entries : AreCounted g.K.MatterRowSink.taken
     (entry_rows a c.args.matter) c.hand_rows-2.result
     c.hand_rows.new.sink c.hand_rows-2.new.sink =
     entries_fed _ l _ stands _ _ now _ _ own _ _ _ (c.hand_rows-2.ensures.handed clean) in
     let entries = rw c.in_ok-entries.was at entries in
-    counted _ _ (seat_rows a c.args.matter) (entry_rows a c.args.matter) _ _ c.in_ok-head.ensures.ok _ seats.all _ entries.all _ _ seats.count entries.count _
+    counted _ _ (seat_rows a c.args.matter) (entry_rows a c.args.matter) _ _ c.in_ok-matter_row.ensures.ok _ seats.all _ entries.all _ _ seats.count entries.count _
     c.row_count.ensures
 
 pub returns-clause-left : goal.returns-clause-left

@@ -7,7 +7,7 @@ use Rattle.trust_store.proofs.plain.hand_acts_of.Goals as goal
 
 pub loop-act-preserved : goal.loop-act-preserved
 loop-act-preserved g c =
-    let step = g.S.ActSink.remembered in
+    let step = g.S.RowSink.taken in
     let acts = c.args.acts.now in
     let m = c.args.matter in
     let a = c.act-item.result in
@@ -28,7 +28,7 @@ loop-act-preserved g c =
 
 pub returns : goal.returns
 returns g c =
-    let step = g.S.ActSink.remembered in
+    let step = g.S.RowSink.taken in
     let acts = c.args.acts.now in
     let m = c.args.matter in
     let done : HandedOver step c.args.sink.now (acts_in m acts) [] c.loop-act.sink =

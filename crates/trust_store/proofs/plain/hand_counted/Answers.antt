@@ -9,4 +9,4 @@ returns-in-Some g c = grind (arith, joined, joined-ranged, on_ok_weaker)
 pub returns-in-None : goal.returns-in-None
 returns-in-None g c =
     let rows = joined c.args.kept.now in
-    record { all = tt; some = (rows, begun g.S.RowSink.stepped c.args.sink.now rows); countable = tt }
+    record { all = tt; some = (rows, begun g.S.MatterRowSink.taken c.args.sink.now rows); countable = tt }
