@@ -49,11 +49,18 @@ def joined(words, own):
     return "".join("Ref" if it == "&" else it[0].upper() + it[1:] for it in words if it not in own)
 
 
+def parameters_in(text):
+    """The names of an impl's own parameters, which stand before their bounds."""
+    while (without := re.sub(r"<[^<>]*>", "", text)) != text:
+        text = without
+    return {it.split(":")[0].strip() for it in text.split(",")}
+
+
 def impl_of(line):
     """What a check calls an `impl`: RemarkDisplay where it is of a trait (Drop is not named), else Text+LabelForm."""
     head = line.removeprefix("impl").rstrip("{} ")
     at = past_brackets(head)
-    own = {it.split(":")[0].strip() for it in re.split(r"[<>,+]", head[:at])}
+    own = parameters_in(head[1:at - 1])
     trait, _, of = head[at:].strip().rpartition(" for ")
     name, *arguments = words_of(of)
     if trait and trait != "Drop":

@@ -26,8 +26,8 @@ pub enum MatterRow<'a> {
     Entry(EntryNo, &'a Entry),
 }
 
-/// Receives the rows of a firm's matters in order. If memory runs out, the sink is unchanged. No `RowSink`: its rows are
-/// borrowed, and a row of a firm, which contracts speak of, is no reference.
+/// Receives the rows of a firm's matters in order. If memory runs out, the sink is unchanged. It is no `RowSink`, since
+/// its rows are borrowed, and a row of a firm, of which contracts speak, has no references.
 pub trait MatterRowSink {
     ghost use Rattle.std.specs.Prelude.{ℕ};
     ghost use Rattle.firm_rows.specs.Firm.{Row};

@@ -34,9 +34,9 @@
 //!   column by column (`cases/spoiled-books.txt`), and also what is not noticed: a call that reads less than a whole
 //!   matter looks at no other rows. So totals that are off by a cent are returned as they are if they are asked for
 //!   without the ledger card, and an entry missing in the middle is left out of the trial balance.
-//! - `each_row`, and `each_listed` of each kind that is `Listed`: a sink takes each row of the firm's list in its order,
-//!   fewer than 2^64, one at a time while the connection lends them, so that memory does not grow with them; at an error
-//!   it has taken a prefix of them (`handed`); nothing changes (`left`).
+//! - `each_row`, and `each_listed` of each kind that is `Listed`: a sink takes each row of the firm's list in order,
+//!   fewer than 2^64, one at a time while the connection lends them, so that memory does not grow with them; at an
+//!   error it has taken a prefix of them (`handed`); nothing changes (`left`).
 //! - `each_act_of`: the same of the acts of one matter, as the firm has them (`handed`, `left`). That it looks at no
 //!   other row of the trail is its query's, and cases try it.
 //! - `each_readable_act`: a sink takes each act, as the firm has them, in its order (`handed`), and no row is told as
