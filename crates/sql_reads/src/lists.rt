@@ -208,8 +208,8 @@ impl<T: Listed, K: RowSink<T>> RowTaking<K> for Stored<T> {
 
 /// Passes each row of one kind to the sink: movements, lines of the firm's own, acts and dismissals in order of
 /// acceptance; exceptions by day, reference, the bank's reference, amount (as a number) and text; balances with
-/// openings before closings, each by day. Stops with `Memory` if memory runs out, and with `Store` at a row that is invalid or
-/// past the 2^64 - 1st; the sink keeps those before it. Holds one row at a time.
+/// openings before closings, each by day. Stops with `Memory` if memory runs out, and with `Store` at a row that is
+/// invalid or past the 2^64 - 1st; the sink keeps those before it. Holds one row at a time.
 pub fn each_listed<S: Alter, T: Listed, K: RowSink<T>>(
     conn: &mut Connection<S>,
     alloc: Global,
