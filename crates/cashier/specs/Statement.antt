@@ -7,9 +7,9 @@ use Rattle.statement_csv.specs.Reading.{LacksHeader}
 use Rattle.trust_base.specs.declared.refusal.Field.TheVariants as field
 use Rattle.trust_base.specs.declared.refusal.Refusal.TheVariants.{BadField, Memory, TooLarge}
 use Rattle.firm_rows.specs.Firm.{Firm}
-use Rattle.matter_bodies.specs.Bodies.{import_body}
+use Rattle.json_bodies.specs.Bodies.{import_body}
 use Rattle.trust_desk.specs.Imports.{Imports, IsStop}
-use Rattle.matter_bodies.specs.declared.bodies.ImportReply.{ImportReply}
+use Rattle.json_bodies.specs.declared.bodies.ImportReply.{ImportReply}
 use Rattle.portal_http.specs.Output.{Output}
 use Rattle.trust_desk.specs.declared.importing.ImportEnd.{ImportEnd}
 use Rattle.trust_desk.specs.declared.importing.ImportStop.{ImportStop}

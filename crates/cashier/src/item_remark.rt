@@ -99,7 +99,7 @@ fn remark_on_own<'a>(line: &Line, ledger: &FirmLedger, today: Day) -> LineRemark
 }
 
 // The remark about a balance that does not fit. `kept` is the amount on file for its day, if any. Whether it is dated
-// after the business day is asked first, as in `exception_reasons`.
+// after the business day is asked first, as in `json_bodies`.
 fn remark_on_balance<'a>(
     kind: BalanceKind,
     line: &Line,

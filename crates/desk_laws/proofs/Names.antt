@@ -8,7 +8,7 @@ pub use Rattle.firm_rows.specs.FirmLines.{balance_verdict, is_bookable, is_kept_
 pub use Rattle.firm_rows.specs.FirmSound.{FirmSound, IsInOrder}
 pub use Rattle.firm_rows.specs.declared.ledger.BalanceKind.{BalanceKind}
 pub use Rattle.firm_rows.specs.declared.ledger.Verdict.{Verdict}
-pub use Rattle.matter_bodies.specs.declared.bodies.ImportReply.{ImportReply}
+pub use Rattle.json_bodies.specs.declared.bodies.ImportReply.{ImportReply}
 pub use Rattle.matter_parts.specs.Changes.{IsChange, MatterChange, changed_by, last_after}
 pub use Rattle.matter_parts.specs.Parts.{no_figures}
 pub use Rattle.matter_parts.specs.declared.edit.Edit.{Edit}

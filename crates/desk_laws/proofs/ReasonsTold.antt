@@ -14,7 +14,7 @@ use Rattle.firm_rows.specs.declared.ledger.FirmLine.{FirmLine}
 use Rattle.firm_rows.specs.Firm.{of}
 use Rattle.firm_rows.specs.FirmLines.{balance_verdict, firm_verdict, kept_balance}
 use Rattle.statement_csv.specs.declared.item.Item.TheVariants as item
-use Rattle.exception_reasons.specs.Reasons.{balance_reason, effect_reason, own_reason, verdict_for}
+use Rattle.json_bodies.specs.Reasons.{balance_reason, effect_reason, own_reason, verdict_for}
 use Rattle.trust_desk.specs.ItemStep.{counted_as, counted_by}
 use Rattle.desk_laws.specs.ReasonsTold.{ReasonsAreVerdicts}
 

@@ -3,14 +3,14 @@ use Rattle.desk_laws.proofs.Names.{Bool, List, Some, ap, arith, false, refl, sub
 use Rattle.std.specs.Prelude.{is_some, ◌||◌, Ok, Err}
 use Rattle.trust_matter.specs.declared.ask.Ask.TheVariants.{Show}
 use Rattle.firm_rows.specs.Firm.{acts_of}
-use Rattle.matter_bodies.specs.Acts.{acts_body}
+use Rattle.json_bodies.specs.Acts.{acts_body}
 use Rattle.trust_desk.specs.Acts.{acts_for, dossier_of}
 use Rattle.trust_desk.specs.ReportStep.{text_unless}
 use Rattle.trust_base.specs.declared.refusal.Refusal.TheVariants.{NoMatter}
 use Rattle.matter_rows.specs.declared.act.Caller.{Caller}
 use Rattle.matter_rows.specs.declared.act.Caller.TheVariants.{Person}
-use Rattle.firm_lists.specs.Laws.{AgreeFor, has_seat}
-use Rattle.firm_lists.proofs.Own.{persons-own}
+use Rattle.json_bodies.specs.ListLaws.{AgreeFor, has_seat}
+use Rattle.json_bodies.proofs.Own.{persons-own}
 use Rattle.trust_desk.specs.declared.requests.Request.{Request}
 use Rattle.trust_desk.specs.declared.requests.MatchText.{MatchText}
 use Rattle.trust_desk.specs.declared.requests.MatchText.TheVariants as part

@@ -1,6 +1,6 @@
 -- How many items an import counts.
 use Rattle.std.specs.Prelude.{◌≡◌, ◌+◌, ℕ, List, length}
-use Rattle.matter_bodies.specs.declared.bodies.ImportReply.{ImportReply}
+use Rattle.json_bodies.specs.declared.bodies.ImportReply.{ImportReply}
 use Rattle.firm_rows.specs.Firm.{Firm}
 use Rattle.statement_csv.specs.declared.item.Item.{Item}
 use Rattle.trust_desk.specs.ItemStep.{counts_after, none_counted}

@@ -3,7 +3,7 @@ use Rattle.std.specs.Prelude.{◌≡◌, ℕ, Bool, true, false}
 use Rattle.firm_rows.specs.Firm.{Firm}
 use Rattle.statement_csv.specs.declared.item.Item.{Item}
 use Rattle.statement_csv.specs.declared.item.Item.TheVariants as item
-use Rattle.exception_reasons.specs.Reasons.{item_reason, verdict_for}
+use Rattle.json_bodies.specs.Reasons.{item_reason, verdict_for}
 use Rattle.trust_desk.specs.ItemStep.{counted_by, counted_of}
 
 -- the item is a line

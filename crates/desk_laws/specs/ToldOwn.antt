@@ -3,7 +3,7 @@ use Rattle.std.specs.Prelude.{◌≡◌, ◌||◌, ℕ, true, List}
 use Rattle.matter_rows.specs.declared.act.Caller.TheVariants.{Person}
 use Rattle.firm_rows.specs.Firm.{Firm, acts_of, of}
 use Rattle.firm_rows.specs.FirmSound.{IsInOrder}
-use Rattle.firm_lists.specs.Laws.{AgreeFor, has_seat}
+use Rattle.json_bodies.specs.ListLaws.{AgreeFor, has_seat}
 use Rattle.trust_desk.specs.declared.requests.Request.{Request}
 use Rattle.trust_desk.specs.declared.requests.Request.TheVariants.{Matter, Import, Match, Dismiss, Report, Reconcile, AsOf, Within, Trail, Acts, Listed, Reasons}
 use Rattle.trust_desk.specs.Heard.{Asks}

@@ -5,7 +5,7 @@ use Rattle.trust_base.specs.declared.refusal.Refusal.{Refusal}
 use Rattle.matter_rows.specs.declared.act.Act.{Act}
 use Rattle.matter_parts.specs.Changes.{last_after}
 use Rattle.matter_parts.specs.declared.edit.Edit.{Edit}
-use Rattle.matter_bodies.specs.declared.bodies.ImportReply.{ImportReply}
+use Rattle.json_bodies.specs.declared.bodies.ImportReply.{ImportReply}
 use Rattle.trust_matter.specs.declared.bank_line.BankLine.{BankLine}
 use Rattle.trust_matter.specs.declared.line_verdict.LineEffect.{LineEffect}
 use Rattle.trust_matter.specs.declared.line_verdict.LineEffect.TheVariants as told

@@ -7,8 +7,8 @@ use Rattle.trust_matter.specs.Step.{first}
 use Rattle.firm_rows.specs.Firm.{Firm}
 use Rattle.firm_figures.specs.Purged.{is_period_purged, is_purged_at}
 use Rattle.firm_periods.specs.Named.{is_purged_within}
-use Rattle.firm_lists.specs.Listed.{matters_body, waiting_body}
-use Rattle.exception_reasons.specs.Reasons.{reasons_body}
+use Rattle.json_bodies.specs.Lists.{matters_body, waiting_body}
+use Rattle.json_bodies.specs.Reasons.{reasons_body}
 use Rattle.statement_match.specs.Books.{held_of}
 use Rattle.statement_match.specs.Entries.{known_of}
 use Rattle.statement_match.specs.Matched.{matched}

@@ -11,8 +11,8 @@ pub use Rattle.firm_rows.specs.FirmSound.{FirmSound, IsFirmVerdict}
 pub use Rattle.firm_rows.specs.declared.ledger.BalanceKind.{BalanceKind}
 pub use Rattle.firm_rows.specs.declared.ledger.FirmLine.{FirmLine}
 pub use Rattle.firm_rows.specs.declared.ledger.Verdict.{Verdict}
-pub use Rattle.matter_bodies.specs.Bodies.{entry_body, matter_body, receipt_body}
-pub use Rattle.matter_bodies.specs.declared.bodies.ImportReply.{ImportReply}
+pub use Rattle.json_bodies.specs.Bodies.{entry_body, matter_body, receipt_body}
+pub use Rattle.json_bodies.specs.declared.bodies.ImportReply.{ImportReply}
 pub use Rattle.matter_parts.specs.Changes.{IsChange, MatterChange, changed, changed_by, last_after}
 pub use Rattle.matter_parts.specs.Parts.{HoldsOn, IsPart, IsWhole, Part, entry_in, is_held_or_none, kept_at}
 pub use Rattle.matter_parts.specs.declared.edit.Edit.{Edit}

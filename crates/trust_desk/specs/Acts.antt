@@ -7,7 +7,7 @@ use Rattle.trust_matter.specs.Facts.{Asked}
 use Rattle.trust_matter.specs.Step.{refusal}
 use Rattle.trail_laws.specs.Dossier.{Dossier}
 pub use Rattle.firm_audit.specs.Trails.{dossier_of}
-use Rattle.matter_bodies.specs.Acts.{acts_body}
+use Rattle.json_bodies.specs.Acts.{acts_body}
 use Rattle.trust_desk.specs.ReportStep.{text_unless}
 
 -- a caller asks to read a matter

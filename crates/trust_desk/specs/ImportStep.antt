@@ -11,10 +11,10 @@ use Rattle.statement_csv.specs.declared.item.Item.{Item}
 use Rattle.statement_csv.specs.Items.{items}
 use Rattle.trust_base.specs.declared.limits.TheConstants.{MAX_FILE_BYTES}
 use Rattle.matter_rows.specs.declared.act.Caller.{Caller}
-use Rattle.matter_bodies.specs.declared.bodies.ImportReply.{ImportReply}
+use Rattle.json_bodies.specs.declared.bodies.ImportReply.{ImportReply}
 use Rattle.trust_desk.specs.declared.requests.Reply.{Reply}
 use Rattle.trust_desk.specs.declared.requests.Body.TheVariants.{Json}
-use Rattle.matter_bodies.specs.Bodies.{import_body}
+use Rattle.json_bodies.specs.Bodies.{import_body}
 use Rattle.trust_desk.specs.ItemStep.{after_items}
 use Rattle.trust_desk.specs.Replies.{refused}
 

@@ -18,7 +18,7 @@ use Rattle.firm_rows.specs.FirmChange.{Unmatched, after, by_balance, by_firm_lin
 use Rattle.firm_rows.specs.FirmLines.{balance_verdict, firm_verdict, kept_balance}
 use Rattle.statement_csv.specs.declared.item.Item.{Item}
 use Rattle.statement_csv.specs.declared.item.Item.TheVariants as item
-use Rattle.matter_bodies.specs.declared.bodies.ImportReply.{ImportReply}
+use Rattle.json_bodies.specs.declared.bodies.ImportReply.{ImportReply}
 use Rattle.trust_desk.specs.declared.importing.Counted.{Counted}
 use Rattle.trust_desk.specs.declared.importing.Counted.TheVariants as counted
 

@@ -4,8 +4,8 @@ use Rattle.trust_base.specs.declared.refusal.Refusal.{Refusal}
 use Rattle.matter_rows.specs.declared.act.Caller.{Caller}
 use Rattle.firm_rows.specs.Firm.{Firm}
 use Rattle.trust_matter.specs.Step.{first}
-use Rattle.firm_lists.specs.Listed.{matters_body, waiting_body}
-use Rattle.exception_reasons.specs.Reasons.{reasons_body}
+use Rattle.json_bodies.specs.Lists.{matters_body, waiting_body}
+use Rattle.json_bodies.specs.Reasons.{reasons_body}
 use Rattle.trust_desk.specs.ReportStep.{report_conditions, text_unless}
 use Rattle.trust_desk.specs.declared.requests.CallerList.{CallerList}
 use Rattle.trust_desk.specs.declared.requests.CallerList.TheVariants.{Matters, Waiting}

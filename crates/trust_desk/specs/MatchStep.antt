@@ -5,7 +5,7 @@ use Rattle.trust_base.specs.Refusals.{is_fault}
 use Rattle.matter_rows.specs.declared.act.Caller.{Caller}
 use Rattle.firm_rows.specs.Firm.{Firm}
 use Rattle.statement_match.specs.Matched.{Matched, matched}
-use Rattle.match_bodies.specs.UnmatchedBody.{unmatched_body}
+use Rattle.json_bodies.specs.UnmatchedBody.{unmatched_body}
 use Rattle.trust_desk.specs.ImportStep.{import_refusal}
 use Rattle.trust_desk.specs.ReportStep.{text_unless}
 

@@ -13,8 +13,8 @@ use Rattle.trust_matter.specs.Step.{refusal, rows_after}
 use Rattle.trust_desk.specs.declared.requests.Reply.{Reply}
 use Rattle.trust_desk.specs.declared.requests.Body.{Body}
 use Rattle.trust_desk.specs.declared.requests.Body.TheVariants.{Json, Refused, Text}
-use Rattle.matter_bodies.specs.Bodies.{matter_body, purge_body, receipt_body, entry_body}
-use Rattle.matter_bodies.specs.Listed.{entries_body}
+use Rattle.json_bodies.specs.Bodies.{matter_body, purge_body, receipt_body, entry_body}
+use Rattle.json_bodies.specs.Listed.{entries_body}
 use Rattle.trust_reports.specs.TextsOfAccounts.{account_text_of}
 use Rattle.trust_reports.specs.TextsOfLedgers.{ledger_card_of}
 

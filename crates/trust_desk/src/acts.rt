@@ -9,7 +9,7 @@ ghost use Rattle.trust_desk.specs.Heard.{Heard, OfActs, kind_of};
 
 use crate::requests::{Body, Reply};
 use firm_rows::{MatterAct, RowSink};
-use matter_bodies::acts_body;
+use json_bodies::acts_body;
 use std::alloc::{AllocError, Global};
 use std::marker::Model;
 use trust_base::{Day, MatterNo, OwnedBytes, Refusal, StoreFault};

@@ -29,9 +29,10 @@ use book_reports::{
     ClearedLines, DayReport, PeriodReport, Report, append_day_report, append_period_report,
     append_reconciliation, find_report, find_trail,
 };
-use exception_reasons::reasons_body;
-use firm_lists::{matters_body, waiting_body};
-use matter_bodies::{entries_body, entry_body, import_body, matter_body, purge_body, receipt_body};
+use json_bodies::{
+    entries_body, entry_body, import_body, matter_body, matters_body, purge_body, reasons_body,
+    receipt_body, waiting_body,
+};
 use std::alloc::{AllocError, Global};
 use std::marker::Model;
 use trust_base::{Day, Line, MatterNo, OwnedBytes, Period, Refusal, Rule, StoreFault};

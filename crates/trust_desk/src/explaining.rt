@@ -5,7 +5,7 @@ ghost use Rattle.trust_store.specs.Calls.{IsRead};
 use crate::desk::Desk;
 use crate::importing::{Counted, counted_by, counted_line, tell_of_balance, tell_of_firm_line};
 use crate::watching::{At, ItemWatch, NotApplied};
-use exception_reasons::exceptions;
+use json_bodies::exceptions;
 use firm_rows::{BalanceKind, FirmLedger, decide_balance, decide_firm_line};
 use statement_csv::{Item, item_of_line};
 use std::alloc::Global;

@@ -22,7 +22,7 @@ use crate::watching::{At, ItemWatch, NoWatch, NotApplied};
 use firm_rows::{
     BalanceKind, FirmLedger, FirmLine, Owner, Verdict, decide_balance, decide_firm_line,
 };
-use matter_bodies::ImportReply;
+use json_bodies::ImportReply;
 use statement_csv::{Item, Lines, ReadFault, Whole};
 use std::alloc::Global;
 use std::io::Read;

@@ -84,7 +84,7 @@ pub use book_reports::{
 };
 pub use desk::Desk;
 pub use importing::{Counted, ImportEnd, ImportStop};
-pub use matter_bodies::{ImportReply, entry_body, import_body, matter_body, receipt_body};
+pub use json_bodies::{ImportReply, entry_body, import_body, matter_body, receipt_body};
 pub use requests::{Body, CallerList, End, MatchText, Reply, Request, RunEnd};
 pub use statement_match::Matched;
 pub use trust_base::OwnedBytes;

@@ -10,7 +10,7 @@ ghost use Rattle.trust_desk.specs.MatchStep.{IsMatched, statement_for, unmatched
 
 use crate::desk::Desk;
 use crate::requests::{Body, MatchText, Reply, check_import};
-use match_bodies::unmatched_body;
+use json_bodies::unmatched_body;
 use statement_match::{Matched, match_statement};
 use std::alloc::Global;
 use trust_base::{Day, OwnedBytes, Refusal};

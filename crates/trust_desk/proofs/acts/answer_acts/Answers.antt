@@ -1,7 +1,7 @@
 use Rattle.trust_desk.proofs.Names.{◌≡◌, ◌∙◌, None, ap, inl, refl, rules, sym, err_from_is_err_and, refusal, of, Json, Memory, json_reply}
 use Rattle.trust_matter.specs.declared.ask.Ask.TheVariants as ask
 use Rattle.firm_rows.specs.Firm.{acts_of}
-use Rattle.matter_bodies.specs.Acts.{acts_body}
+use Rattle.json_bodies.specs.Acts.{acts_body}
 use Rattle.trust_desk.specs.Acts.{reads_on}
 use Rattle.trust_desk.specs.ReportStep.{text_unless}
 use Rattle.trust_desk.proofs.Answered.{acts-refused, acts-told, unread-answered}

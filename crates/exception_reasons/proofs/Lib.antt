@@ -1,2 +1,0 @@
-pub mod TextFacts
-pub mod Decided

@@ -1,4 +1,0 @@
-pub mod Own
-pub mod OneRead
-pub mod Tokens
-pub mod Trial

@@ -1,0 +1,21 @@
+use Rattle.std.proofs.Common.{◌≡◌, ◌∙◌, ap}
+use Rattle.statement_match.specs.Candidates.{Candidates}
+use Rattle.std.proofs.lemmas.Result.{on_ok_weaker}
+use Rattle.std.specs.Prelude.{codes, map, [], ◌∷◌, ◌++◌}
+use Rattle.json_bodies.specs.Json.{array_of, count_value}
+use Rattle.json_bodies.proofs.ObjectFacts.{object_written}
+use Rattle.json_bodies.specs.UnmatchedBody.{candidate_object}
+use Rattle.json_bodies.proofs.Members.{member_then}
+use Rattle.json_bodies.proofs.unmatched.write_candidates.Goals as goal
+
+pub returns-clause-tokens : goal.returns-clause-tokens
+returns-clause-tokens c =
+    let begun = c.begin_object.new.self.tokens in
+    let counted : c.candidates.inside.count ≡ c.args.candidates.now.count = ap (λ (v : Candidates). v.count) c.candidates.view_is in
+    let told : c.deref.result.now ≡ c.args.candidates.now.listed = c.deref.ensures.value ∙ ap (λ (v : Candidates). v.listed) c.candidates.view_is in
+    let count = (codes "count", count_value c.args.candidates.now.count) ∷ [] in
+    on_ok_weaker c.end_object.result
+    (object_written c.args.out.now.tokens _ _ _ (count ++ (codes "listed", array_of (map candidate_object c.args.candidates.now.listed)) ∷ []) c.in_ok-begin_object.ensures.ok
+    (member_then begun _ _ _ count (codes "listed") (array_of (map candidate_object c.args.candidates.now.listed))
+    (rw (counted) at c.in_ok-write_members.ensures.tokens) c.in_ok-key.ensures.ok (rw (told) at c.in_ok-write_listed.ensures.tokens)))
+    c.end_object.ensures.ok

@@ -1,0 +1,10 @@
+pub mod Json
+pub mod Values
+pub mod Bodies
+pub mod Listed
+pub mod Acts
+pub mod BodyLaws
+pub mod Lists
+pub mod ListLaws
+pub mod Reasons
+pub mod UnmatchedBody

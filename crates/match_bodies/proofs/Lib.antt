@@ -1,2 +1,0 @@
-pub mod BodyFacts
-pub mod Members

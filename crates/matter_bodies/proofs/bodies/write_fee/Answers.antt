@@ -1,4 +1,0 @@
-use Rattle.matter_bodies.proofs.bodies.write_fee.Goals as goal
-
-pub returns-clause-tokens : goal.returns-clause-tokens
-returns-clause-tokens c = rw (c.get.ensures.value, c.label.ensures) at c.write_object.ensures.tokens

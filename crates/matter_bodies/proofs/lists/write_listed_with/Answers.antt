@@ -1,4 +1,0 @@
-use Rattle.matter_bodies.proofs.lists.write_listed_with.Goals as goal
-
-pub returns-clause-tokens : goal.returns-clause-tokens
-returns-clause-tokens c = rw (c.client_of.ensures, c.closing_day.ensures, c.ledger.ensures, c.opening_day.ensures, c.role.ensures) at c.write_object.ensures.tokens
