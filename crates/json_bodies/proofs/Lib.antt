@@ -4,8 +4,6 @@ pub mod ReadBack
 pub mod BodiesRead
 pub mod EntryFacts
 pub mod Waiting
-pub mod Members
-pub mod BodyFacts
 pub mod Own
 pub mod OneRead
 pub mod Tokens

@@ -7,7 +7,7 @@
 //!
 //! # What is promised
 //!
-//! By public call, with the clauses of its contract in brackets. Each body is `serde_json`'s compact text of its object.
+//! By public call, with the clauses of its contract in brackets. A body is `serde_json`'s compact text of its object.
 //!
 //! - `matter_body`, `receipt_body`, `entry_body`, `purge_body`, `import_body`; `laws` `bodies_read_back`: the bytes of
 //!   each accepted answer are the text of its object, by definition, and read back as that object (counts below 2^64).
@@ -40,12 +40,11 @@ mod listed;
 mod lists;
 mod reasons;
 mod shown;
+mod to_json;
 mod unmatched;
 
 pub use acts::acts_body;
-pub use bodies::{
-    ImportReply, entry_body, import_body, matter_body, purge_body, receipt_body,
-};
+pub use bodies::{ImportReply, entry_body, import_body, matter_body, purge_body, receipt_body};
 pub use exception_list::{exceptions, reasons_body};
 pub use listed::entries_body;
 pub use lists::{matters_body, waiting_body};
