@@ -2,10 +2,11 @@
 
 ghost use Rattle.std.specs.Prelude.{◌≡◌, IfOk};
 ghost use Rattle.book_reports.specs.ReportTexts.{report_text};
+ghost use Rattle.book_reports.specs.declared.report.Report.{Report};
 ghost use Rattle.trust_store.specs.Calls.{IsRead};
 
 use crate::cleared_lines::{Beside, ClearedLines};
-use crate::report::Report;
+use crate::report::TodayReport;
 use crate::text_sink::TextSink;
 use crate::trail_sink::TrailSink;
 use std::alloc::Global;
@@ -19,26 +20,26 @@ use trust_store::Book;
 /// Returns the text of a report on a business day. What the rows of a trial balance show beside it is kept in `lines`.
 ///
 /// Returns `Store` if the book's store failed, and `Memory` if memory ran out.
-pub fn find_report<B: Book>(
+pub(crate) fn find_today_report<B: Book>(
     alloc: Global,
     book: &mut B,
-    report: Report,
+    report: TodayReport,
     today: Day,
     lines: &mut ClearedLines,
 ) -> Result<Vec<u8>, StoreFault>
     ensures told { (B.seen book.new).clean → (B.seen book.old).stands
-        → IfOk result (λ text. text.items ≡ report_text report today (B.seen book.old).firm) }
+        → IfOk result (λ text. text.items ≡ report_text (Report.Today report) today (B.seen book.old).firm) }
     ensures read { IsRead result (B.seen book.old) (B.seen book.new) }
 {
     let mut text = Vec::new(alloc);
     match report {
-        Report::Exceptions => {
+        TodayReport::Exceptions => {
             exceptions_text(today, &[], &mut text)?;
             let mut exceptions = TextSink::below(text);
             book.each_exception(&mut exceptions)?;
             Ok(exceptions.finish())
         }
-        Report::Trial => {
+        TodayReport::Trial => {
             let mut trial = Beside::of(alloc, TrialSink::new(alloc), lines);
             book.each_row(&mut trial)?;
             book.each_firm_line(&mut trial)?;
@@ -46,24 +47,24 @@ pub fn find_report<B: Book>(
             trial_text(today, &balance.lines, balance.own, balance.total, &mut text)?;
             Ok(text)
         }
-        Report::Journal => {
+        TodayReport::Journal => {
             let mut journal = JournalSink::new(alloc);
             book.each_movement(&mut journal)?;
             journal_text(today, &journal.finish(), &mut text)?;
             Ok(text)
         }
-        Report::Retention => {
+        TodayReport::Retention => {
             let mut retention = RetentionSink::new(alloc, today);
             book.each_row(&mut retention)?;
             retention_text(today, &retention.finish(), &mut text)?;
             Ok(text)
         }
-        Report::OwnLedger => {
+        TodayReport::OwnLedger => {
             let ledger = book.firm(alloc)?;
             own_card_text(today, &ledger, &mut text)?;
             Ok(text)
         }
-        Report::Trail => {
+        TodayReport::Trail => {
             let mut trail = TrailSink::new(alloc);
             book.each_act(&mut trail)?;
             book.each_row(&mut trail)?;

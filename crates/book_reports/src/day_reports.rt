@@ -1,9 +1,10 @@
 //! The reports of a firm as of a day and of a period, each made of one state of a book.
 
-ghost use Rattle.std.specs.Prelude.{◌≡◌, IfOk, false};
+ghost use Rattle.std.specs.Prelude.{◌≡◌, ℕ, IfOk, false};
 ghost use Rattle.book_reports.specs.DayReports.{AreApprovalsRead, IsAppended, IsListed};
 ghost use Rattle.book_reports.specs.Kept.{IsKeptOf};
-ghost use Rattle.book_reports.specs.ReportTexts.{day_report_text, is_day_report_purged, lacks_statement, period_report_text};
+ghost use Rattle.book_reports.specs.ReportTexts.{limits_of, report_text};
+ghost use Rattle.book_reports.specs.declared.report.Report.{Report};
 ghost use Rattle.book_reports.specs.Reports.{approvals_report, clients_report, disbursements_report, has_no_statement, is_period_purged, is_purged_at, is_purged_within, month_report, outstanding_report, receipts_report, reconciliation_report};
 ghost use Rattle.trust_store.specs.Calls.{IsRead};
 
@@ -51,11 +52,9 @@ fn read_reconciliation<B: Book>(
     Ok(sink.into_sink(lines))
 }
 
-/// Appends the reconciliation of a day; nothing if no closing balance of the day is kept. What the rows of matters and
-/// the firm's own lines show beside it is kept in `lines`.
-///
-/// Returns `Store` if the book's store failed, and `Memory` if memory ran out.
-pub fn append_reconciliation<B: Book>(
+// Appends the reconciliation of a day; nothing if no closing balance of the day is kept. What the rows of matters and
+// the firm's own lines show beside it is kept in `lines`.
+fn append_reconciliation<B: Book>(
     alloc: Global,
     book: &mut B,
     as_of: Day,
@@ -237,16 +236,16 @@ fn append_approvals<B: Book>(
 /// Appends a report of a period.
 ///
 /// Returns `Store` if the book's store failed, and `Memory` if memory ran out.
-pub fn append_period_report<B: Book>(
+pub(crate) fn append_period_report<B: Book>(
     alloc: Global,
     book: &mut B,
     report: PeriodReport,
     period: Period,
     text: &mut Vec<u8>,
 ) -> Result<Limits, StoreFault>
-    ensures told { (B.seen book.new).clean → (B.seen book.old).stands → IfOk result (λ limits. IsAppended limits
-        false (is_purged_within period (B.seen book.old).firm)
-        text.old.items (period_report_text report period (B.seen book.old).firm) text.new.items) }
+    ensures told { (B.seen book.new).clean → (B.seen book.old).stands → IfOk result (λ limits. (today : ℕ)
+        → IsAppended limits false (is_purged_within period (B.seen book.old).firm) text.old.items
+        (report_text (Report.Within report period) today (B.seen book.old).firm) text.new.items) }
     ensures read { IsRead result (B.seen book.old) (B.seen book.new) }
 {
     match report {
@@ -265,7 +264,8 @@ fn append_month<B: Book>(
     text: &mut Vec<u8>,
 ) -> Result<Limits, StoreFault>
     ensures told { (B.seen book.new).clean → (B.seen book.old).stands → IfOk result (λ limits. IsAppended limits
-        (has_no_statement day (B.seen book.old).firm) (is_day_report_purged DayReport.Month day (B.seen book.old).firm)
+        (has_no_statement day (B.seen book.old).firm)
+        (limits_of (Report.AsOf DayReport.Month day) (B.seen book.old).firm).is_purged
         text.old.items (month_report day (B.seen book.old).firm) text.new.items) }
     ensures read { IsRead result (B.seen book.old) (B.seen book.new) }
 {
@@ -288,22 +288,25 @@ fn append_month<B: Book>(
     })
 }
 
-/// Appends a report as of a day.
+/// Appends a report as of a day. What the rows of a reconciliation show beside it is kept in `lines`.
 ///
 /// Returns `Store` if the book's store failed, and `Memory` if memory ran out.
-pub fn append_day_report<B: Book>(
+pub(crate) fn append_day_report<B: Book>(
     alloc: Global,
     book: &mut B,
     report: DayReport,
     as_of: Day,
+    lines: &mut ClearedLines,
     text: &mut Vec<u8>,
 ) -> Result<Limits, StoreFault>
-    ensures told { (B.seen book.new).clean → (B.seen book.old).stands → IfOk result (λ limits. IsAppended limits
-        (lacks_statement report as_of (B.seen book.old).firm) (is_day_report_purged report as_of (B.seen book.old).firm)
-        text.old.items (day_report_text report as_of (B.seen book.old).firm) text.new.items) }
+    ensures told { (B.seen book.new).clean → (B.seen book.old).stands → IfOk result (λ limits. (today : ℕ)
+        → IsAppended limits (limits_of (Report.AsOf report as_of) (B.seen book.old).firm).lacks_statement
+        (limits_of (Report.AsOf report as_of) (B.seen book.old).firm).is_purged text.old.items
+        (report_text (Report.AsOf report as_of) today (B.seen book.old).firm) text.new.items) }
     ensures read { IsRead result (B.seen book.old) (B.seen book.new) }
 {
     match report {
+        DayReport::Reconciliation => append_reconciliation(alloc, book, as_of, lines, text),
         DayReport::Clients => append_clients(alloc, book, as_of, text),
         DayReport::Outstanding => append_outstanding(alloc, book, as_of, text),
         DayReport::Month => append_month(alloc, book, as_of, text),

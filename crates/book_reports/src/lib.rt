@@ -6,14 +6,9 @@
 //!
 //! By public call, with the clauses of its contract in brackets.
 //!
-//! - `find_report`: over every book: the bytes of each report on a business day are those of the definition, of the
-//!   book's rows (`told`); nothing changes, after a crash neither (`read`).
-//! - `append_reconciliation`: over every book: the reconciliation of a day is appended, or nothing where no closing
-//!   balance of the day is kept; whether it may be told is found of the same rows (`told`); nothing changes, after a
-//!   crash neither (`read`).
-//! - `append_day_report`, `append_period_report`: over every book: the bytes of each report as of a day and of a
-//!   period, the packet of month's end among them, are those of the definition, of one state of the book's rows, and
-//!   whether they may be told is found of the same rows (`told`); nothing changes, after a crash neither (`read`).
+//! - `find_report`: over every book: the bytes of each report on a business day, as of a day and of a period, the
+//!   packet of month's end among them, are those of the definition, of one state of the book's rows, and whether they
+//!   may be told is found of the same rows (`told`); nothing changes, after a crash neither (`read`).
 //! - `find_trail`: over every book: the bytes of the trail of a matter on a business day are those of the definition,
 //!   of the acts of one state of the book; whether the matter was opened, and purged, is found of the same state
 //!   (`told`); nothing changes, after a crash neither (`read`).
@@ -34,6 +29,7 @@ mod business_day;
 mod checking;
 mod cleared_lines;
 mod day_reports;
+mod finding;
 mod matter_acts;
 mod matter_trail;
 mod outstanding;
@@ -45,15 +41,15 @@ mod unread;
 mod unread_acts;
 mod watching;
 
-pub use business_day::find_report;
 pub use checking::{Checked, RowCounts, check};
 pub use cleared_lines::{ClearedLines, tell_earlier, tell_rows};
-pub use day_reports::{Limits, append_day_report, append_period_report, append_reconciliation};
+pub use day_reports::Limits;
+pub use finding::{FoundReport, find_report};
 pub use firm_audit::{Flaw, TrailCounts, TrailFlaw, TrailFound};
 pub use matter_trail::{MatterTrail, find_trail};
 pub use outstanding::{tell_outstanding, tell_waiting};
 pub use purged::{WantedRecords, tell_purged};
-pub use report::{DayReport, PeriodReport, Report};
+pub use report::{DayReport, PeriodReport, Report, TodayReport};
 pub use unread::{Unread, find_unread};
 pub use unread_acts::tell_unread;
 pub use watching::{

@@ -1,8 +1,21 @@
 //! Which reports a firm has: on a business day, as of a day, and of a period.
 
-/// A report on the whole firm on a business day. The cashier is refused none of these.
+use trust_base::{Day, Period};
+
+/// A report on the whole firm, which only the cashier may ask for.
 #[derive(Clone, Copy)]
 pub enum Report {
+    /// On the business day.
+    Today(TodayReport),
+    /// As of this day.
+    AsOf(DayReport, Day),
+    /// Of this period.
+    Within(PeriodReport, Period),
+}
+
+/// What a report on the business day tells. The cashier is refused none of these.
+#[derive(Clone, Copy)]
+pub enum TodayReport {
     /// The exceptions: the unmatched bank lines.
     Exceptions,
     /// The trial balance: the ledger of each open matter, the firm's own, and their sum.
@@ -18,19 +31,21 @@ pub enum Report {
     Trail,
 }
 
-/// A report on the whole firm as of a day, which only the cashier may ask for.
+/// What a report as of a day tells.
 #[derive(Clone, Copy)]
 pub enum DayReport {
+    /// The three-way reconciliation.
+    Reconciliation,
     /// The list of clients: the ledger of each matter that was open, its client, the firm's own, and their sum.
     Clients,
     /// What waits for the bank: the deposits in transit and the outstanding payments, with their names.
     Outstanding,
-    /// The packet of month's end: the reconciliation, the two above, and the receipts, disbursements and approvals of
+    /// The packet of month's end: the three above, and the receipts, disbursements and approvals of
     /// the month.
     Month,
 }
 
-/// A report on the whole firm of a period, which only the cashier may ask for.
+/// What a report of a period tells.
 #[derive(Clone, Copy)]
 pub enum PeriodReport {
     /// The journal of receipts, with names.

@@ -22,9 +22,6 @@ use Rattle.cashier.specs.declared.outcome.Outcome.TheVariants as outcome
 
 -- the cashier's request for a report: of the firm, or the accounting of a matter, its account of a period, or its trail
 abbrev pub asked_for : ReportCommand → Request
-asked_for (commands.Reconcile day) = requests.Reconcile Cashier day
-asked_for (commands.AsOf report day) = requests.AsOf Cashier report day
-asked_for (commands.Within report period) = requests.Within Cashier report period
 asked_for (commands.Ledger matter) = requests.Matter matter Cashier Accounting
 asked_for (commands.Account matter period) = requests.Matter matter Cashier (Account period)
 asked_for (commands.Trail matter) = requests.Trail Cashier matter

@@ -20,7 +20,8 @@ use std::alloc::Global;
 use std::io::Write;
 use trust_base::{Day, MatterNo, Refusal, StoreFault};
 use trust_desk::{
-    Body, ClearedLines, DayReport, Desk, PeriodReport, Report, Request, RowWatch, WantedRecords,
+    Body, ClearedLines, DayReport, Desk, PeriodReport, Report, Request, RowWatch, TodayReport,
+    WantedRecords,
 };
 use trust_matter::{Ask, Caller};
 use trust_store::Book;
@@ -30,11 +31,6 @@ fn request_for(command: ReportCommand) -> Request
     ensures { result ≡ asked_for command }
 {
     match command {
-        ReportCommand::Reconcile(day) => Request::Reconcile(Caller::Cashier, day),
-        ReportCommand::AsOf(report, day) => Request::AsOf(Caller::Cashier, report, day),
-        ReportCommand::Within(report, period) => {
-            Request::Within(Caller::Cashier, report, period)
-        }
         ReportCommand::Ledger(no) => Request::Matter {
             no,
             caller: Caller::Cashier,
@@ -178,16 +174,16 @@ fn tell_month<M: Remarks, B: Book>(
 // Which matters' records a report wants; None for one that wants those of all that are there.
 fn records_wanted(command: &ReportCommand) -> Option<WantedRecords> {
     match command {
-        ReportCommand::Reconcile(day) => Some(WantedRecords::ClosedAfter(*day)),
-        ReportCommand::AsOf(report, day) => Some(match report {
+        ReportCommand::Firm(Report::AsOf(report, day)) => Some(match report {
+            DayReport::Reconciliation => WantedRecords::ClosedAfter(*day),
             DayReport::Clients | DayReport::Outstanding => WantedRecords::OpenAt(*day),
             DayReport::Month => WantedRecords::OfMonth(*day),
         }),
-        ReportCommand::Within(_, period) => Some(WantedRecords::OpenWithin(*period)),
-        ReportCommand::Ledger(_)
+        ReportCommand::Firm(Report::Within(_, period)) => Some(WantedRecords::OpenWithin(*period)),
+        ReportCommand::Firm(Report::Today(_))
+        | ReportCommand::Ledger(_)
         | ReportCommand::Account(_, _)
-        | ReportCommand::Trail(_)
-        | ReportCommand::Firm(_) => None,
+        | ReportCommand::Trail(_) => None,
     }
 }
 
@@ -208,9 +204,13 @@ fn tell_purged<M: Remarks, B: Book>(
 // Reports that a report goes up to a day that is after the business day.
 fn tell_of_day_to_come<M: Remarks>(remarks: &M, command: ReportCommand, today: Day) {
     let last = match command {
-        ReportCommand::Reconcile(day) | ReportCommand::AsOf(_, day) => day,
-        ReportCommand::Within(_, period) | ReportCommand::Account(_, period) => period.to(),
-        ReportCommand::Ledger(_) | ReportCommand::Trail(_) | ReportCommand::Firm(_) => return,
+        ReportCommand::Firm(Report::AsOf(_, day)) => day,
+        ReportCommand::Firm(Report::Within(_, period)) | ReportCommand::Account(_, period) => {
+            period.to()
+        }
+        ReportCommand::Firm(Report::Today(_))
+        | ReportCommand::Ledger(_)
+        | ReportCommand::Trail(_) => return,
     };
     if today.get() < last.get() {
         remarks.tell(&Remark::Report(ReportRemark::ToCome { today, last }));
@@ -248,14 +248,13 @@ pub fn run_report<M: Remarks, W: Write, B: Book>(
         (LeavesSame (B.seen desk.old) (B.seen desk.new)) }
 {
     let mut lines = match &command {
-        ReportCommand::Reconcile(day) if remarks.are_told() => ClearedLines::up_to(alloc, *day),
-        ReportCommand::Reconcile(_)
-        | ReportCommand::AsOf(_, _)
-        | ReportCommand::Within(_, _)
+        ReportCommand::Firm(Report::AsOf(DayReport::Reconciliation, day)) if remarks.are_told() => {
+            ClearedLines::up_to(alloc, *day)
+        }
+        ReportCommand::Firm(_)
         | ReportCommand::Ledger(_)
         | ReportCommand::Account(_, _)
-        | ReportCommand::Trail(_)
-        | ReportCommand::Firm(_) => ClearedLines::none(alloc),
+        | ReportCommand::Trail(_) => ClearedLines::none(alloc),
     };
     let mut is_purged = false;
     let outcome = print_report(
@@ -286,8 +285,10 @@ pub fn run_report<M: Remarks, W: Write, B: Book>(
     };
     tell_of_day_to_come(remarks, command, today);
     match &command {
-        ReportCommand::Firm(Report::Exceptions) => tell_reasons(alloc, remarks, desk, today),
-        ReportCommand::Reconcile(day) => {
+        ReportCommand::Firm(Report::Today(TodayReport::Exceptions)) => {
+            tell_reasons(alloc, remarks, desk, today)
+        }
+        ReportCommand::Firm(Report::AsOf(DayReport::Reconciliation, day)) => {
             tell_lines(remarks, &TwiceTelling { remarks }, lines);
             let last = *day;
             let telling = PaymentTelling {
@@ -297,7 +298,7 @@ pub fn run_report<M: Remarks, W: Write, B: Book>(
             };
             tell_waiting(alloc, &telling, desk)
         }
-        ReportCommand::AsOf(DayReport::Outstanding, day) => {
+        ReportCommand::Firm(Report::AsOf(DayReport::Outstanding, day)) => {
             let last = *day;
             let telling = PaymentTelling {
                 last,
@@ -306,7 +307,7 @@ pub fn run_report<M: Remarks, W: Write, B: Book>(
             };
             tell_waiting(alloc, &telling, desk)
         }
-        ReportCommand::AsOf(DayReport::Month, day) => {
+        ReportCommand::Firm(Report::AsOf(DayReport::Month, day)) => {
             let last = *day;
             let telling = PaymentTelling {
                 last,
@@ -315,8 +316,10 @@ pub fn run_report<M: Remarks, W: Write, B: Book>(
             };
             tell_month(alloc, &telling, desk)
         }
-        ReportCommand::Within(PeriodReport::Approvals, _) => tell_unread(alloc, remarks, desk),
-        ReportCommand::Firm(Report::Trial) if is_past => {
+        ReportCommand::Firm(Report::Within(PeriodReport::Approvals, _)) => {
+            tell_unread(alloc, remarks, desk)
+        }
+        ReportCommand::Firm(Report::Today(TodayReport::Trial)) if is_past => {
             let report = NowReport::Trial;
             let telling = NowTelling {
                 report,
@@ -325,7 +328,7 @@ pub fn run_report<M: Remarks, W: Write, B: Book>(
             };
             tell_lines(remarks, &telling, lines)
         }
-        ReportCommand::Firm(Report::Journal) if is_past => {
+        ReportCommand::Firm(Report::Today(TodayReport::Journal)) if is_past => {
             let report = NowReport::Journal;
             let telling = NowTelling {
                 report,
@@ -343,9 +346,11 @@ pub fn run_report<M: Remarks, W: Write, B: Book>(
             };
             tell_payments(alloc, *no, &telling, desk)
         }
-        ReportCommand::Firm(_)
-        | ReportCommand::AsOf(DayReport::Clients, _)
-        | ReportCommand::Within(PeriodReport::Receipts | PeriodReport::Disbursements, _)
+        ReportCommand::Firm(
+            Report::Today(_)
+            | Report::AsOf(DayReport::Clients, _)
+            | Report::Within(PeriodReport::Receipts | PeriodReport::Disbursements, _),
+        )
         | ReportCommand::Trail(_)
         | ReportCommand::Ledger(_) => {}
     }

@@ -19,7 +19,7 @@ use Rattle.command_line.specs.declared.faults.Front.{Front}
 use Rattle.command_line.specs.declared.faults.Front.TheVariants as fronts
 use Rattle.command_line.specs.declared.table.CommandName.{CommandName}
 use Rattle.command_line.specs.declared.table.CommandName.TheVariants as commands
-use Rattle.book_reports.specs.declared.report.Report.TheVariants as reports
+use Rattle.book_reports.specs.declared.report.TodayReport.TheVariants as today_reports
 
 -- ---- texts
 
@@ -198,11 +198,10 @@ IsWrongServing values _ = ⊥
 
 -- of the values of this command, this one is wrong
 abbrev pub IsWrongOperand : CommandName → List Row → Wrong → Type 0
-IsWrongOperand commands.Reconcile values w = IsWrongDay values w
 IsWrongOperand (commands.AsOf report) values w = IsWrongDay values w
 IsWrongOperand (commands.Within report) values w = IsWrongSpan values w
-IsWrongOperand (commands.Firm reports.OwnLedger) values w = IsWrongCard values w
-IsWrongOperand (commands.Firm reports.Trail) values w = IsWrongMatter values w
+IsWrongOperand (commands.Today today_reports.OwnLedger) values w = IsWrongCard values w
+IsWrongOperand (commands.Today today_reports.Trail) values w = IsWrongMatter values w
 IsWrongOperand commands.Account values w = IsWrongMatter values w ⊎ IsWrongSpan values w
 IsWrongOperand commands.Serve values w = IsWrongServing values w
 IsWrongOperand _ values w = ⊥

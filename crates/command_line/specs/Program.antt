@@ -18,10 +18,11 @@ use Rattle.command_line.specs.declared.command.CliFault.TheVariants as faults
 use Rattle.command_line.specs.declared.command.Task.{Task}
 use Rattle.command_line.specs.declared.command.Task.TheVariants as tasks
 use Rattle.command_line.specs.declared.command.ReportCommand.{ReportCommand}
-use Rattle.command_line.specs.declared.command.ReportCommand.TheVariants.{Reconcile, AsOf, Within, Ledger, Account, Trail, Firm}
+use Rattle.command_line.specs.declared.command.ReportCommand.TheVariants.{Ledger, Account, Trail, Firm}
 use Rattle.command_line.specs.declared.table.CommandName.{CommandName}
 use Rattle.command_line.specs.declared.table.CommandName.TheVariants as commands
-use Rattle.book_reports.specs.declared.report.Report.TheVariants as reports
+use Rattle.book_reports.specs.declared.report.Report.TheVariants.{AsOf, Today, Within}
+use Rattle.book_reports.specs.declared.report.TodayReport.TheVariants as today_reports
 
 -- `--today DAY`, required
 unfoldable pub today_rule : Rule
@@ -92,13 +93,12 @@ IsRefused words k = (k ≡ kind.OutOfMemory) ⊎ FailsAs words k
 
 -- the command of what is to be printed
 abbrev pub report_command : ReportCommand → CommandName
-report_command (Reconcile day) = commands.Reconcile
-report_command (AsOf report day) = commands.AsOf report
-report_command (Within report period) = commands.Within report
-report_command (Ledger matter) = commands.Firm reports.OwnLedger
+report_command (Ledger matter) = commands.Today today_reports.OwnLedger
 report_command (Account matter period) = commands.Account
-report_command (Trail matter) = commands.Firm reports.Trail
-report_command (Firm report) = commands.Firm report
+report_command (Trail matter) = commands.Today today_reports.Trail
+report_command (Firm (Today report)) = commands.Today report
+report_command (Firm (AsOf report day)) = commands.AsOf report
+report_command (Firm (Within report period)) = commands.Within report
 
 -- the command of a task
 abbrev pub task_command : Task → CommandName
@@ -124,18 +124,17 @@ pub record IsAccountGiven (values : List Row) (matter : ℕ) (period : Span) : T
 -- the values of the command are the operands: the text of a day, those of a period's days, a matter's six digits, these
 -- and a period's days, for the card of the firm's own money alone the word for the firm, or, for the whole trail, none
 abbrev pub HasReportOperands : List Row → ReportCommand → Type 0
-HasReportOperands values (Reconcile day) = option_and_then day_of (first_of (codes "DAY") values) ≡ Some day
-HasReportOperands values (AsOf report day) = option_and_then day_of (first_of (codes "DAY") values) ≡ Some day
-HasReportOperands values (Within report period) = IsPeriodGiven values period
+HasReportOperands values (Firm (AsOf report day)) = option_and_then day_of (first_of (codes "DAY") values) ≡ Some day
+HasReportOperands values (Firm (Within report period)) = IsPeriodGiven values period
 HasReportOperands values (Ledger matter) = option_and_then matter_of (first_of (codes "MATTER") values) ≡ Some matter
 HasReportOperands values (Account matter period) = IsAccountGiven values matter period
 HasReportOperands values (Trail matter) = option_and_then matter_of (first_of (codes "MATTER") values) ≡ Some matter
-HasReportOperands values (Firm reports.OwnLedger) = first_of (codes "MATTER") values ≡ Some (codes "FIRM")
-HasReportOperands values (Firm reports.Trail) = first_of (codes "MATTER") values ≡ None
-HasReportOperands values (Firm reports.Exceptions) = ⊤
-HasReportOperands values (Firm reports.Trial) = ⊤
-HasReportOperands values (Firm reports.Journal) = ⊤
-HasReportOperands values (Firm reports.Retention) = ⊤
+HasReportOperands values (Firm (Today today_reports.OwnLedger)) = first_of (codes "MATTER") values ≡ Some (codes "FIRM")
+HasReportOperands values (Firm (Today today_reports.Trail)) = first_of (codes "MATTER") values ≡ None
+HasReportOperands values (Firm (Today today_reports.Exceptions)) = ⊤
+HasReportOperands values (Firm (Today today_reports.Trial)) = ⊤
+HasReportOperands values (Firm (Today today_reports.Journal)) = ⊤
+HasReportOperands values (Firm (Today today_reports.Retention)) = ⊤
 
 -- the name of a task's command
 abbrev pub task_text : Task → Text

@@ -5,7 +5,7 @@ use Rattle.command_line.specs.declared.table.CommandName.{CommandName}
 use Rattle.command_line.specs.declared.table.CommandName.TheVariants as commands
 use Rattle.book_reports.specs.declared.report.DayReport.TheVariants as day_reports
 use Rattle.book_reports.specs.declared.report.PeriodReport.TheVariants as period_reports
-use Rattle.book_reports.specs.declared.report.Report.TheVariants as reports
+use Rattle.book_reports.specs.declared.report.TodayReport.TheVariants as today_reports
 
 -- how a command is typed
 pub record Form : Type 0 where
@@ -41,7 +41,7 @@ form_of commands.Stream = form (codes "stream") [] (codes "stream") (codes "stre
 form_of commands.Serve = form (codes "serve") (codes "PORT" ∷ codes "COUNT" ∷ [])
     (codes "serve PORT COUNT") (codes "serve 8080 100")
 form_of commands.Check = form (codes "check") [] (codes "check") (codes "check")
-form_of commands.Reconcile = form (codes "reconcile") (codes "DAY" ∷ [])
+form_of (commands.AsOf day_reports.Reconciliation) = form (codes "reconcile") (codes "DAY" ∷ [])
     (codes "reconcile DAY") (codes "reconcile 2026-03-31")
 form_of (commands.AsOf day_reports.Clients) = form (codes "clients") (codes "DAY" ∷ [])
     (codes "clients DAY") (codes "clients 2026-03-31")
@@ -55,27 +55,27 @@ form_of (commands.Within period_reports.Approvals) = form (codes "approvals") (c
     (codes "approvals FROM TO") (codes "approvals 2026-03-01 2026-03-31")
 form_of (commands.AsOf day_reports.Month) = form (codes "month") (codes "DAY" ∷ [])
     (codes "month DAY") (codes "month 2026-03-31")
-form_of (commands.Firm reports.Trial) = form (codes "trial") [] (codes "trial") (codes "trial")
-form_of (commands.Firm reports.Journal) = form (codes "journal") [] (codes "journal") (codes "journal")
-form_of (commands.Firm reports.Retention) = form (codes "retention") [] (codes "retention") (codes "retention")
-form_of (commands.Firm reports.Exceptions) = form (codes "exceptions") [] (codes "exceptions") (codes "exceptions")
-form_of (commands.Firm reports.OwnLedger) = form (codes "ledger") (codes "MATTER" ∷ [])
+form_of (commands.Today today_reports.Trial) = form (codes "trial") [] (codes "trial") (codes "trial")
+form_of (commands.Today today_reports.Journal) = form (codes "journal") [] (codes "journal") (codes "journal")
+form_of (commands.Today today_reports.Retention) = form (codes "retention") [] (codes "retention") (codes "retention")
+form_of (commands.Today today_reports.Exceptions) = form (codes "exceptions") [] (codes "exceptions") (codes "exceptions")
+form_of (commands.Today today_reports.OwnLedger) = form (codes "ledger") (codes "MATTER" ∷ [])
     (codes "ledger MATTER|FIRM") (codes "ledger 000001")
 form_of commands.Account = form (codes "account") (codes "MATTER" ∷ codes "FROM" ∷ codes "TO" ∷ [])
     (codes "account MATTER FROM TO") (codes "account 000001 2026-03-01 2026-03-31")
-form_of (commands.Firm reports.Trail) = record
+form_of (commands.Today today_reports.Trail) = record
     (form (codes "trail") (codes "MATTER" ∷ []) (codes "trail [MATTER]") (codes "trail 000001"))
     { are_required = false }
 
 -- the commands in the order of the command line
 unfoldable pub all_commands : List CommandName
 all_commands = commands.Sheet ∷ commands.Import ∷ commands.Match ∷ commands.Stream ∷ commands.Serve
-    ∷ commands.Check ∷ commands.Reconcile ∷ commands.AsOf day_reports.Clients
+    ∷ commands.Check ∷ commands.AsOf day_reports.Reconciliation ∷ commands.AsOf day_reports.Clients
     ∷ commands.AsOf day_reports.Outstanding ∷ commands.Within period_reports.Receipts
     ∷ commands.Within period_reports.Disbursements ∷ commands.Within period_reports.Approvals
-    ∷ commands.AsOf day_reports.Month ∷ commands.Firm reports.Trial ∷ commands.Firm reports.Journal
-    ∷ commands.Firm reports.Retention ∷ commands.Firm reports.Exceptions ∷ commands.Firm reports.OwnLedger
-    ∷ commands.Account ∷ commands.Firm reports.Trail ∷ []
+    ∷ commands.AsOf day_reports.Month ∷ commands.Today today_reports.Trial ∷ commands.Today today_reports.Journal
+    ∷ commands.Today today_reports.Retention ∷ commands.Today today_reports.Exceptions ∷ commands.Today today_reports.OwnLedger
+    ∷ commands.Account ∷ commands.Today today_reports.Trail ∷ []
 
 -- the name of a command
 abbrev pub command_text : CommandName → Text

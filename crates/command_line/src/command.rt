@@ -20,17 +20,11 @@ use clap::{Arg, ArgAction, ArgMatches, Command};
 use itoa::Buffer;
 use std::alloc::{AllocError, Global};
 use trust_base::{Day, MatterNo, Period};
-use trust_desk::{DayReport, PeriodReport, Report};
+use trust_desk::{DayReport, PeriodReport, Report, TodayReport};
 
 /// What a run is to print.
 #[derive(Clone, Copy)]
 pub enum ReportCommand {
-    /// The three-way reconciliation of this day.
-    Reconcile(Day),
-    /// This report on the firm as of this day.
-    AsOf(DayReport, Day),
-    /// This report on the firm of this period.
-    Within(PeriodReport, Period),
     /// The ledger card of this matter.
     Ledger(MatterNo),
     /// The statement of account of this matter for this period.
@@ -178,7 +172,7 @@ fn day_report<'a>(report: DayReport, values: &ArgMatches<'a>) -> Option<Task<'a>
         ((task : Task) → ¬ IsTaskOf (CommandName.AsOf report) (rows_of (found_of values.now)) task) }
 {
     let day = day_operand(values, "DAY")?;
-    Some(Task::Report(ReportCommand::AsOf(report, day)))
+    Some(Task::Report(ReportCommand::Firm(Report::AsOf(report, day))))
 }
 
 // Returns the task of printing a report of the period of the operands FROM and TO; `None` if they give none.
@@ -188,7 +182,7 @@ fn period_report<'a>(report: PeriodReport, values: &ArgMatches<'a>) -> Option<Ta
         ((task : Task) → ¬ IsTaskOf (CommandName.Within report) (rows_of (found_of values.now)) task) }
 {
     let period = period_operand(values)?;
-    Some(Task::Report(ReportCommand::Within(report, period)))
+    Some(Task::Report(ReportCommand::Firm(Report::Within(report, period))))
 }
 
 // Returns the task of serving connections at the operand PORT, as many as the operand COUNT says.
@@ -206,13 +200,13 @@ fn serving<'a>(values: &ArgMatches<'a>) -> Option<Task<'a>>
 // Returns the task of printing the ledger card of the operand MATTER, which may be the firm's own.
 #[tactic(auto, using(crate::proofs::Values::values_read))]
 fn ledger_card<'a>(values: &ArgMatches<'a>) -> Option<Task<'a>>
-    ensures some { IfSome result (IsTaskOf (CommandName.Firm Report.OwnLedger) (rows_of (found_of values.now))) }
+    ensures some { IfSome result (IsTaskOf (CommandName.Today TodayReport.OwnLedger) (rows_of (found_of values.now))) }
     ensures none { IfNone result
-        ((task : Task) → ¬ IsTaskOf (CommandName.Firm Report.OwnLedger) (rows_of (found_of values.now)) task) }
+        ((task : Task) → ¬ IsTaskOf (CommandName.Today TodayReport.OwnLedger) (rows_of (found_of values.now)) task) }
 {
     let card = values.get_str("MATTER")?;
     if is_firm(card) {
-        return Some(Task::Report(ReportCommand::Firm(Report::OwnLedger)));
+        return Some(Task::Report(ReportCommand::Firm(Report::Today(TodayReport::OwnLedger))));
     }
     Some(Task::Report(ReportCommand::Ledger(MatterNo::read(card.as_bytes())?)))
 }
@@ -231,16 +225,16 @@ fn account<'a>(values: &ArgMatches<'a>) -> Option<Task<'a>>
 // Returns the task of printing the trail, of the operand MATTER if it is given.
 #[tactic(auto, using(crate::proofs::Values::values_read))]
 fn trail<'a>(values: &ArgMatches<'a>) -> Option<Task<'a>>
-    ensures some { IfSome result (IsTaskOf (CommandName.Firm Report.Trail) (rows_of (found_of values.now))) }
+    ensures some { IfSome result (IsTaskOf (CommandName.Today TodayReport.Trail) (rows_of (found_of values.now))) }
     ensures none { IfNone result
-        ((task : Task) → ¬ IsTaskOf (CommandName.Firm Report.Trail) (rows_of (found_of values.now)) task) }
+        ((task : Task) → ¬ IsTaskOf (CommandName.Today TodayReport.Trail) (rows_of (found_of values.now)) task) }
 {
     match values.get_str("MATTER") {
         Some(matter) => {
             let no = MatterNo::read(matter.as_bytes())?;
             Some(Task::Report(ReportCommand::Trail(no)))
         }
-        None => Some(Task::Report(ReportCommand::Firm(Report::Trail))),
+        None => Some(Task::Report(ReportCommand::Firm(Report::Today(TodayReport::Trail)))),
     }
 }
 
@@ -257,15 +251,13 @@ fn task_of<'a>(command: CommandName, values: &ArgMatches<'a>) -> Option<Task<'a>
         CommandName::Stream => Some(Task::Stream),
         CommandName::Serve => serving(values),
         CommandName::Check => Some(Task::Check),
-        CommandName::Reconcile => {
-            let day = day_operand(values, "DAY")?;
-            Some(Task::Report(ReportCommand::Reconcile(day)))
-        }
         CommandName::AsOf(report) => day_report(report, values),
         CommandName::Within(report) => period_report(report, values),
-        CommandName::Firm(Report::OwnLedger) => ledger_card(values),
-        CommandName::Firm(Report::Trail) => trail(values),
-        CommandName::Firm(report) => Some(Task::Report(ReportCommand::Firm(report))),
+        CommandName::Today(TodayReport::OwnLedger) => ledger_card(values),
+        CommandName::Today(TodayReport::Trail) => trail(values),
+        CommandName::Today(report) => Some(Task::Report(ReportCommand::Firm(Report::Today(
+            report,
+        )))),
         CommandName::Account => account(values),
     }
 }

@@ -18,7 +18,7 @@ use clap::ArgMatches;
 use clap::error::ErrorKind;
 use std::alloc::Global;
 use trust_base::{Day, MatterNo, Period};
-use trust_desk::Report;
+use trust_desk::TodayReport;
 
 // Returns the kind of error with which the command line refuses the words, if it does. Out of memory is one of them.
 fn failure_of<'a>(alloc: Global, words: &'a [&'a str]) -> Option<ErrorKind>
@@ -267,10 +267,10 @@ fn wrong_operand<'a>(command: CommandName, values: &ArgMatches<'a>) -> Option<Wr
     ensures { IfSome result (IsWrongOperand command (rows_of (found_of values.now))) }
 {
     match command {
-        CommandName::Reconcile | CommandName::AsOf(_) => no_day(values.get_str("DAY")?),
+        CommandName::AsOf(_) => no_day(values.get_str("DAY")?),
         CommandName::Within(_) => wrong_period(values),
-        CommandName::Firm(Report::OwnLedger) => no_card(values.get_str("MATTER")?),
-        CommandName::Firm(Report::Trail) => no_matter(values.get_str("MATTER")?),
+        CommandName::Today(TodayReport::OwnLedger) => no_card(values.get_str("MATTER")?),
+        CommandName::Today(TodayReport::Trail) => no_matter(values.get_str("MATTER")?),
         CommandName::Account => match no_matter(values.get_str("MATTER")?) {
             Some(wrong) => Some(wrong),
             None => wrong_period(values),
@@ -283,7 +283,7 @@ fn wrong_operand<'a>(command: CommandName, values: &ArgMatches<'a>) -> Option<Wr
         | CommandName::Import
         | CommandName::Match
         | CommandName::Stream
-        | CommandName::Firm(_)
+        | CommandName::Today(_)
         | CommandName::Check => None,
     }
 }

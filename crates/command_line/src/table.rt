@@ -5,7 +5,7 @@ ghost use Rattle.command_line.specs.Program.{words_of};
 ghost use Rattle.command_line.specs.Table.{are_operands_required, command_example, command_operands, command_text, command_usage};
 ghost use Rattle.command_line.specs.declared.table.CommandName.{CommandName};
 
-use trust_desk::{DayReport, PeriodReport, Report};
+use trust_desk::{DayReport, PeriodReport, TodayReport};
 
 /// The commands.
 #[derive(Clone, Copy)]
@@ -22,15 +22,13 @@ pub enum CommandName {
     Serve,
     /// Check the book's rows.
     Check,
-    /// Print the three-way reconciliation.
-    Reconcile,
     /// Print this report as of a day.
     AsOf(DayReport),
     /// Print this report of a period.
     Within(PeriodReport),
-    /// Print this report of the firm. That of its own ledger is `ledger`, which also prints a matter's card, and
+    /// Print this report of the business day. That of its own ledger is `ledger`, which also prints a matter's card, and
     /// `trail` prints that of a matter too.
-    Firm(Report),
+    Today(TodayReport),
     /// Print a client's statement of account for a period.
     Account,
 }
@@ -43,20 +41,20 @@ pub(crate) const COMMANDS: &[CommandName] = &[
     CommandName::Stream,
     CommandName::Serve,
     CommandName::Check,
-    CommandName::Reconcile,
+    CommandName::AsOf(DayReport::Reconciliation),
     CommandName::AsOf(DayReport::Clients),
     CommandName::AsOf(DayReport::Outstanding),
     CommandName::Within(PeriodReport::Receipts),
     CommandName::Within(PeriodReport::Disbursements),
     CommandName::Within(PeriodReport::Approvals),
     CommandName::AsOf(DayReport::Month),
-    CommandName::Firm(Report::Trial),
-    CommandName::Firm(Report::Journal),
-    CommandName::Firm(Report::Retention),
-    CommandName::Firm(Report::Exceptions),
-    CommandName::Firm(Report::OwnLedger),
+    CommandName::Today(TodayReport::Trial),
+    CommandName::Today(TodayReport::Journal),
+    CommandName::Today(TodayReport::Retention),
+    CommandName::Today(TodayReport::Exceptions),
+    CommandName::Today(TodayReport::OwnLedger),
     CommandName::Account,
-    CommandName::Firm(Report::Trail),
+    CommandName::Today(TodayReport::Trail),
 ];
 
 const NO_OPERAND: &[&str] = &[];
@@ -137,7 +135,12 @@ pub(crate) fn form_of<'a>(command: CommandName) -> CommandForm<'a>
             "serve 8080 100",
         ),
         CommandName::Check => form("check", NO_OPERAND, "check", "check"),
-        CommandName::Reconcile => form("reconcile", DAY, "reconcile DAY", "reconcile 2026-03-31"),
+        CommandName::AsOf(DayReport::Reconciliation) => form(
+            "reconcile",
+            DAY,
+            "reconcile DAY",
+            "reconcile 2026-03-31",
+        ),
         CommandName::AsOf(DayReport::Clients) => form(
             "clients",
             DAY,
@@ -169,21 +172,23 @@ pub(crate) fn form_of<'a>(command: CommandName) -> CommandForm<'a>
             "approvals 2026-03-01 2026-03-31",
         ),
         CommandName::AsOf(DayReport::Month) => form("month", DAY, "month DAY", "month 2026-03-31"),
-        CommandName::Firm(Report::Trial) => form("trial", NO_OPERAND, "trial", "trial"),
-        CommandName::Firm(Report::Journal) => form("journal", NO_OPERAND, "journal", "journal"),
-        CommandName::Firm(Report::Retention) => form(
+        CommandName::Today(TodayReport::Trial) => form("trial", NO_OPERAND, "trial", "trial"),
+        CommandName::Today(TodayReport::Journal) => form(
+            "journal", NO_OPERAND, "journal", "journal",
+        ),
+        CommandName::Today(TodayReport::Retention) => form(
             "retention",
             NO_OPERAND,
             "retention",
             "retention",
         ),
-        CommandName::Firm(Report::Exceptions) => form(
+        CommandName::Today(TodayReport::Exceptions) => form(
             "exceptions",
             NO_OPERAND,
             "exceptions",
             "exceptions",
         ),
-        CommandName::Firm(Report::OwnLedger) => form(
+        CommandName::Today(TodayReport::OwnLedger) => form(
             "ledger",
             MATTER,
             "ledger MATTER|FIRM",
@@ -195,7 +200,7 @@ pub(crate) fn form_of<'a>(command: CommandName) -> CommandForm<'a>
             "account MATTER FROM TO",
             "account 000001 2026-03-01 2026-03-31",
         ),
-        CommandName::Firm(Report::Trail) => CommandForm {
+        CommandName::Today(TodayReport::Trail) => CommandForm {
             are_required: false,
             ..form("trail", MATTER, "trail [MATTER]", "trail 000001")
         },

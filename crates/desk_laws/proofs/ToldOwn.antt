@@ -14,7 +14,7 @@ use Rattle.json_bodies.proofs.Own.{persons-own}
 use Rattle.trust_desk.specs.declared.requests.Request.{Request}
 use Rattle.trust_desk.specs.declared.requests.MatchText.{MatchText}
 use Rattle.trust_desk.specs.declared.requests.MatchText.TheVariants as part
-use Rattle.trust_desk.specs.declared.requests.Request.TheVariants.{Matter, Import, Match, Dismiss, Report, Reconcile, AsOf, Within, Trail, Acts, Listed, Reasons}
+use Rattle.trust_desk.specs.declared.requests.Request.TheVariants.{Matter, Import, Match, Dismiss, Report, Trail, Acts, Listed, Reasons}
 use Rattle.trust_desk.specs.declared.requests.CallerList.TheVariants.{Matters, Waiting}
 use Rattle.desk_laws.specs.ToldOwn.{EachIsToldOwn}
 
@@ -77,9 +77,6 @@ told-own day person f g (Import caller bytes) first second by agree acts = alike
 told-own day person f g (Match caller bytes text) first second by agree acts = alike day person f g (λ c. Match c bytes text) caller by (matches day person bytes text f g)
 told-own day person f g (Dismiss caller line) first second by agree acts = alike day person f g (λ c. Dismiss c line) caller by refl
 told-own day person f g (Report caller report) first second by agree acts = alike day person f g (λ c. Report c report) caller by refl
-told-own day person f g (Reconcile caller as_of) first second by agree acts = alike day person f g (λ c. Reconcile c as_of) caller by refl
-told-own day person f g (AsOf caller report as_of) first second by agree acts = alike day person f g (λ c. AsOf c report as_of) caller by refl
-told-own day person f g (Within caller report period) first second by agree acts = alike day person f g (λ c. Within c report period) caller by refl
 told-own day person f g (Trail caller m) first second by agree acts = alike day person f g (λ c. Trail c m) caller by refl
 told-own day person f g (Acts caller m) first second by agree acts = alike day person f g (λ c. Acts c m) caller by (told-acts day person f g agree m acts)
 told-own day person f g (Reasons caller) first second by agree acts = alike day person f g (λ c. Reasons c) caller by refl

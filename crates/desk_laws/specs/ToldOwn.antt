@@ -5,7 +5,7 @@ use Rattle.firm_rows.specs.Firm.{Firm, acts_of, of}
 use Rattle.firm_rows.specs.FirmSound.{IsInOrder}
 use Rattle.json_bodies.specs.ListLaws.{AgreeFor, has_seat}
 use Rattle.trust_desk.specs.declared.requests.Request.{Request}
-use Rattle.trust_desk.specs.declared.requests.Request.TheVariants.{Matter, Import, Match, Dismiss, Report, Reconcile, AsOf, Within, Trail, Acts, Listed, Reasons}
+use Rattle.trust_desk.specs.declared.requests.Request.TheVariants.{Matter, Import, Match, Dismiss, Report, Trail, Acts, Listed, Reasons}
 use Rattle.trust_desk.specs.Heard.{Asks}
 use Rattle.trust_desk.specs.FirmStep.{firm_step}
 
@@ -16,9 +16,6 @@ IsBy person (Import caller statement) = caller ≡ Person person
 IsBy person (Match caller statement text) = caller ≡ Person person
 IsBy person (Dismiss caller line) = caller ≡ Person person
 IsBy person (Report caller report) = caller ≡ Person person
-IsBy person (Reconcile caller day) = caller ≡ Person person
-IsBy person (AsOf caller report day) = caller ≡ Person person
-IsBy person (Within caller report period) = caller ≡ Person person
 IsBy person (Trail caller m) = caller ≡ Person person
 IsBy person (Acts caller m) = caller ≡ Person person
 IsBy person (Listed caller list) = caller ≡ Person person
@@ -31,9 +28,6 @@ AgreeInActs person (Import caller statement) f g = Unit {0}
 AgreeInActs person (Match caller statement text) f g = Unit {0}
 AgreeInActs person (Dismiss caller line) f g = Unit {0}
 AgreeInActs person (Report caller report) f g = Unit {0}
-AgreeInActs person (Reconcile caller day) f g = Unit {0}
-AgreeInActs person (AsOf caller report day) f g = Unit {0}
-AgreeInActs person (Within caller report period) f g = Unit {0}
 AgreeInActs person (Trail caller m) f g = Unit {0}
 AgreeInActs person (Acts caller m) f g =
     (has_seat person (of m f) || has_seat person (of m g)) ≡ true → acts_of m f ≡ acts_of m g

@@ -7,10 +7,11 @@ use Rattle.trust_base.specs.Periods.{month_to}
 use Rattle.trust_matter.specs.Step.{first}
 use Rattle.firm_rows.specs.Firm.{Firm, of}
 use Rattle.book_reports.specs.Reports.{approvals_report}
-use Rattle.book_reports.specs.declared.report.DayReport.TheVariants as day_reports
+use Rattle.book_reports.specs.declared.report.DayReport.TheVariants.{Month}
+use Rattle.book_reports.specs.declared.report.Report.TheVariants.{AsOf}
 use Rattle.trust_desk.specs.declared.requests.MatchText.TheVariants as text
 use Rattle.trust_desk.specs.declared.requests.Reply.{Reply}
-use Rattle.trust_desk.specs.declared.requests.Request.TheVariants.{Matter, Import, Match, Dismiss, Report, Reconcile, AsOf, Within, Trail, Acts, Listed, Reasons}
+use Rattle.trust_desk.specs.declared.requests.Request.TheVariants.{Matter, Import, Match, Dismiss, Report, Trail, Acts, Listed, Reasons}
 use Rattle.trust_desk.specs.Acts.{acts_for, dossier_of}
 use Rattle.trust_desk.specs.Dismissing.{dismiss_refusal, dismiss_reply}
 use Rattle.trust_desk.specs.FirmStep.{IsStopped, KindStopped, Steps, firm_step}
@@ -19,11 +20,11 @@ use Rattle.trust_desk.specs.ImportStep.{import_refusal, import_reply, imported}
 use Rattle.trust_desk.specs.ItemStep.{after_items, none_counted}
 use Rattle.trust_desk.specs.ListStep.{list_for, reasons_for}
 use Rattle.trust_desk.specs.MatchStep.{statement_for, unmatched_for}
-use Rattle.trust_desk.specs.ReportStep.{day_report_conditions, day_report_for, period_report_for, reconciliation_for, report_for, text_unless, trail_for}
+use Rattle.trust_desk.specs.ReportStep.{report_conditions, report_for, text_unless, trail_for}
 use Rattle.trust_desk.specs.Replies.{is_fault_reply, json_reply, reply_of, text_reply}
 use Rattle.desk_trail.specs.TellNothing.{MonthsTellNothing, RunsTellNothing, StepsTellNothing, month_with}
 use Rattle.desk_trail.proofs.Alike.{Part, TheActs, alike, counts-alike, items-alike, made-alike, shows, without}
-use Rattle.desk_trail.proofs.Texts.{acts-ignore, day_report-ignores, list-ignores, month-ignores, month_is, period_report-ignores, reasons-ignore, reconciliation-ignores, report-ignores, statement-ignores, trail-ignores, unmatched-ignores}
+use Rattle.desk_trail.proofs.Texts.{acts-ignore, list-ignores, month-ignores, month_is, reasons-ignore, report-ignores, statement-ignores, trail-ignores, unmatched-ignores}
 
 -- A step.
 
@@ -40,12 +41,6 @@ replies-alike part day (Asks (Match caller statement text.Unmatched)) f g same s
     ap json_reply (alike part (unmatched_for caller statement day) (unmatched-ignores part caller statement day) f g same)
 replies-alike part day (Asks (Report caller report)) f g same silent =
     ap text_reply (alike part (report_for caller report day) (report-ignores part caller report day silent) f g same)
-replies-alike part day (Asks (Reconcile caller as_of)) f g same silent =
-    ap text_reply (alike part (reconciliation_for caller as_of day) (reconciliation-ignores part caller as_of day) f g same)
-replies-alike part day (Asks (AsOf caller report as_of)) f g same silent =
-    ap text_reply (alike part (day_report_for caller report as_of day) (day_report-ignores part caller report as_of day silent) f g same)
-replies-alike part day (Asks (Within caller report period)) f g same silent =
-    ap text_reply (alike part (period_report_for caller report period day) (period_report-ignores part caller report period day silent) f g same)
 replies-alike part day (Asks (Trail caller m)) f g same silent =
     ap text_reply (alike part (trail_for caller m day) (trail-ignores part caller m day silent) f g same)
 replies-alike part day (Asks (Acts caller m)) f g same silent =
@@ -62,7 +57,7 @@ steps-tell_nothing part day f g h same = (replies-alike part day h f g same, mad
 pub months-tell_nothing : MonthsTellNothing
 months-tell_nothing today day caller f g same =
     let approvals = approvals_report (month_to day) f in
-    let told = λ (x : Firm). text_unless (first (day_report_conditions caller day_reports.Month day x)) (month_with approvals day x) in
+    let told = λ (x : Firm). text_unless (first (report_conditions caller (AsOf Month day) x)) (month_with approvals day x) in
     ap text_reply (month_is caller day today f ∙ alike TheActs told (month-ignores TheActs caller approvals day) f g same)
 
 -- A run.

@@ -1,7 +1,7 @@
 -- No text of a firm depends on a part of its trail, unless it shows it.
 use Rattle.std.proofs.Common.{◌≡◌, ℕ, false, List, refl, sym}
 use Rattle.std.proofs.lemmas.Bool.{false≢true}
-use Rattle.trust_base.specs.Periods.{Span, month_to}
+use Rattle.trust_base.specs.Periods.{month_to}
 use Rattle.matter_rows.specs.declared.act.Caller.{Caller}
 use Rattle.trust_matter.specs.Step.{first}
 use Rattle.firm_rows.specs.Firm.{Firm}
@@ -13,17 +13,16 @@ use Rattle.statement_match.specs.Books.{held_of}
 use Rattle.statement_match.specs.Entries.{known_of}
 use Rattle.statement_match.specs.Matched.{matched}
 use Rattle.book_reports.specs.Reports.{approvals_report, clients_report, disbursements_report, exceptions_report, has_no_statement, journal_report, matter_trail_report, month_report, outstanding_report, own_card_report, receipts_report, reconciliation_report, retention_report, trial_report}
-use Rattle.book_reports.specs.declared.report.DayReport.{DayReport}
-use Rattle.book_reports.specs.declared.report.DayReport.TheVariants.{Clients, Month, Outstanding}
-use Rattle.book_reports.specs.declared.report.PeriodReport.{PeriodReport}
+use Rattle.book_reports.specs.declared.report.DayReport.TheVariants.{Clients, Month, Outstanding, Reconciliation}
 use Rattle.book_reports.specs.declared.report.PeriodReport.TheVariants.{Approvals, Disbursements, Receipts}
 use Rattle.book_reports.specs.declared.report.Report.{Report}
-use Rattle.book_reports.specs.declared.report.Report.TheVariants.{Exceptions, Trial, Journal, Retention, OwnLedger, Trail}
+use Rattle.book_reports.specs.declared.report.Report.TheVariants.{AsOf, Today, Within}
+use Rattle.book_reports.specs.declared.report.TodayReport.TheVariants.{Exceptions, Trial, Journal, Retention, OwnLedger, Trail}
 use Rattle.trust_desk.specs.Acts.{acts_for, dossier_of}
 use Rattle.trust_desk.specs.Heard.{Asks}
 use Rattle.trust_desk.specs.ListStep.{list_for, reasons_for}
 use Rattle.trust_desk.specs.MatchStep.{statement_for, unmatched_for}
-use Rattle.trust_desk.specs.ReportStep.{day_report_conditions, day_report_for, period_report_for, reconciliation_for, report_for, text_unless, trail_for}
+use Rattle.trust_desk.specs.ReportStep.{report_conditions, report_for, text_unless, trail_for}
 use Rattle.trust_desk.specs.declared.requests.CallerList.{CallerList}
 use Rattle.trust_desk.specs.declared.requests.CallerList.TheVariants.{Matters, Waiting}
 use Rattle.trust_desk.specs.declared.requests.Request.TheVariants as requests
@@ -33,40 +32,31 @@ use Rattle.desk_trail.specs.TellNothing.{month_with}
 -- Reports.
 
 pub report-ignores : (part : Part) (caller : Caller) (report : Report) (today : ℕ) → shows part (Asks (requests.Report caller report)) ≡ false → Ignores part (report_for caller report today)
-unfolding exceptions_report trial_report journal_report retention_report own_card_report
-report-ignores part caller Exceptions today silent firm = refl
-report-ignores part caller Trial today silent firm = refl
-report-ignores part caller Journal today silent firm = refl
-report-ignores part caller Retention today silent firm = refl
-report-ignores part caller OwnLedger today silent firm = refl
-report-ignores TheActs caller Trail today silent firm = absurd (false≢true (sym silent))
-report-ignores TheDismissals caller Trail today silent firm = absurd (false≢true (sym silent))
-
-pub reconciliation-ignores : (part : Part) (caller : Caller) (day today : ℕ) → Ignores part (reconciliation_for caller day today)
-unfolding has_no_statement is_period_purged reconciliation_report
-reconciliation-ignores part caller day today firm = refl
-
-pub day_report-ignores : (part : Part) (caller : Caller) (report : DayReport) (day today : ℕ) → shows part (Asks (requests.AsOf caller report day)) ≡ false → Ignores part (day_report_for caller report day today)
-unfolding has_no_statement is_period_purged is_purged_at is_purged_within reconciliation_report clients_report outstanding_report receipts_report disbursements_report approvals_report month_report
-day_report-ignores part caller Clients day today silent firm = refl
-day_report-ignores part caller Outstanding day today silent firm = refl
-day_report-ignores TheActs caller Month day today silent firm = absurd (false≢true (sym silent))
-day_report-ignores TheDismissals caller Month day today silent firm = refl
-
-pub period_report-ignores : (part : Part) (caller : Caller) (report : PeriodReport) (period : Span) (today : ℕ) → shows part (Asks (requests.Within caller report period)) ≡ false → Ignores part (period_report_for caller report period today)
-unfolding is_purged_within receipts_report disbursements_report approvals_report
-period_report-ignores part caller Receipts period today silent firm = refl
-period_report-ignores part caller Disbursements period today silent firm = refl
-period_report-ignores TheActs caller Approvals period today silent firm = absurd (false≢true (sym silent))
-period_report-ignores TheDismissals caller Approvals period today silent firm = refl
+unfolding has_no_statement is_period_purged is_purged_at is_purged_within exceptions_report trial_report journal_report retention_report own_card_report reconciliation_report clients_report outstanding_report receipts_report disbursements_report approvals_report month_report
+report-ignores part caller (Today Exceptions) today silent firm = refl
+report-ignores part caller (Today Trial) today silent firm = refl
+report-ignores part caller (Today Journal) today silent firm = refl
+report-ignores part caller (Today Retention) today silent firm = refl
+report-ignores part caller (Today OwnLedger) today silent firm = refl
+report-ignores TheActs caller (Today Trail) today silent firm = absurd (false≢true (sym silent))
+report-ignores TheDismissals caller (Today Trail) today silent firm = absurd (false≢true (sym silent))
+report-ignores part caller (AsOf Reconciliation day) today silent firm = refl
+report-ignores part caller (AsOf Clients day) today silent firm = refl
+report-ignores part caller (AsOf Outstanding day) today silent firm = refl
+report-ignores TheActs caller (AsOf Month day) today silent firm = absurd (false≢true (sym silent))
+report-ignores TheDismissals caller (AsOf Month day) today silent firm = refl
+report-ignores part caller (Within Receipts period) today silent firm = refl
+report-ignores part caller (Within Disbursements period) today silent firm = refl
+report-ignores TheActs caller (Within Approvals period) today silent firm = absurd (false≢true (sym silent))
+report-ignores TheDismissals caller (Within Approvals period) today silent firm = refl
 
 -- The packet of month's end: its last part aside.
 
-pub month_is : (caller : Caller) (day today : ℕ) (firm : Firm) → day_report_for caller Month day today firm ≡ text_unless (first (day_report_conditions caller Month day firm)) (month_with (approvals_report (month_to day) firm) day firm)
+pub month_is : (caller : Caller) (day today : ℕ) (firm : Firm) → report_for caller (AsOf Month day) today firm ≡ text_unless (first (report_conditions caller (AsOf Month day) firm)) (month_with (approvals_report (month_to day) firm) day firm)
 unfolding month_report
 month_is caller day today firm = refl
 
-pub month-ignores : (part : Part) (caller : Caller) (approvals : List ℕ) (day : ℕ) → Ignores part (λ (f : Firm). text_unless (first (day_report_conditions caller Month day f)) (month_with approvals day f))
+pub month-ignores : (part : Part) (caller : Caller) (approvals : List ℕ) (day : ℕ) → Ignores part (λ (f : Firm). text_unless (first (report_conditions caller (AsOf Month day) f)) (month_with approvals day f))
 unfolding has_no_statement is_period_purged is_purged_at is_purged_within reconciliation_report clients_report outstanding_report receipts_report disbursements_report
 month-ignores part caller approvals day firm = refl
 

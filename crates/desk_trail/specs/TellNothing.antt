@@ -7,19 +7,18 @@ use Rattle.matter_rows.specs.declared.act.Caller.{Caller}
 use Rattle.trust_matter.specs.Step.{first}
 use Rattle.firm_rows.specs.Firm.{Firm, with_acts, with_dismissals}
 use Rattle.book_reports.specs.Reports.{approvals_report, clients_report, disbursements_report, outstanding_report, parts, receipts_report, reconciliation_report}
-use Rattle.book_reports.specs.declared.report.DayReport.{DayReport}
-use Rattle.book_reports.specs.declared.report.DayReport.TheVariants as day_reports
-use Rattle.book_reports.specs.declared.report.PeriodReport.{PeriodReport}
-use Rattle.book_reports.specs.declared.report.PeriodReport.TheVariants as period_reports
+use Rattle.book_reports.specs.declared.report.DayReport.TheVariants.{Clients, Month, Outstanding, Reconciliation}
+use Rattle.book_reports.specs.declared.report.PeriodReport.TheVariants.{Approvals, Disbursements, Receipts}
 use Rattle.book_reports.specs.declared.report.Report.{Report}
-use Rattle.book_reports.specs.declared.report.Report.TheVariants as reports
+use Rattle.book_reports.specs.declared.report.Report.TheVariants.{AsOf, Today, Within}
+use Rattle.book_reports.specs.declared.report.TodayReport.TheVariants.{Exceptions, Journal, OwnLedger, Retention, Trail, Trial}
 use Rattle.trust_desk.specs.declared.requests.Reply.{Reply}
 use Rattle.trust_desk.specs.declared.requests.Request.{Request}
 use Rattle.trust_desk.specs.declared.requests.Request.TheVariants as requests
 use Rattle.trust_desk.specs.FirmStep.{Runs, firm_step}
 use Rattle.trust_desk.specs.Heard.{Heard, Asks, Unread}
 use Rattle.trust_desk.specs.Replies.{text_reply}
-use Rattle.trust_desk.specs.ReportStep.{day_report_conditions, text_unless}
+use Rattle.trust_desk.specs.ReportStep.{report_conditions, text_unless}
 
 -- the firm without its acts
 abbrev pub without_acts : Firm → Firm
@@ -29,35 +28,35 @@ without_acts firm = with_acts [] firm
 abbrev pub without_dismissals : Firm → Firm
 without_dismissals firm = with_dismissals [] firm
 
--- the trail of the firm, which has its acts and its dismissals
-abbrev pub is_trail : Report → Bool
-is_trail reports.Trail = true
-is_trail _ = false
-
 -- What shows acts.
 
--- the packet of month's end has the approvals of the month
-abbrev pub has_approvals : DayReport → Bool
-has_approvals day_reports.Month = true
-has_approvals _ = false
-
-abbrev pub is_of_approvals : PeriodReport → Bool
-is_of_approvals period_reports.Approvals = true
-is_of_approvals _ = false
+-- the trail of the firm has its acts, as has the list of approvals, of which the packet of month's end has that of the
+-- month
+abbrev pub has_acts : Report → Bool
+has_acts (Today Exceptions) = false
+has_acts (Today Trial) = false
+has_acts (Today Journal) = false
+has_acts (Today Retention) = false
+has_acts (Today OwnLedger) = false
+has_acts (Today Trail) = true
+has_acts (AsOf Reconciliation day) = false
+has_acts (AsOf Clients day) = false
+has_acts (AsOf Outstanding day) = false
+has_acts (AsOf Month day) = true
+has_acts (Within Receipts period) = false
+has_acts (Within Disbursements period) = false
+has_acts (Within Approvals period) = true
 
 -- the request is for the trail, of the firm or of a matter, for the acts of a matter, or for approvals, of a period or
 -- at a month's end
 abbrev pub asks_for_acts : Request → Bool
-asks_for_acts (requests.Report caller report) = is_trail report
-asks_for_acts (requests.AsOf caller report day) = has_approvals report
-asks_for_acts (requests.Within caller report period) = is_of_approvals report
+asks_for_acts (requests.Report caller report) = has_acts report
 asks_for_acts (requests.Trail caller m) = true
 asks_for_acts (requests.Acts caller m) = true
 asks_for_acts (requests.Matter m caller ask) = false
 asks_for_acts (requests.Import caller statement) = false
 asks_for_acts (requests.Dismiss caller line) = false
 asks_for_acts (requests.Match caller statement text) = false
-asks_for_acts (requests.Reconcile caller day) = false
 asks_for_acts (requests.Listed caller list) = false
 asks_for_acts (requests.Reasons caller) = false
 
@@ -68,7 +67,7 @@ shows_acts (Unread named refusal) = false
 -- What shows dismissals: the trail of the firm. That of a matter has none, nor have the approvals.
 
 abbrev pub shows_dismissals : Heard → Bool
-shows_dismissals (Asks (requests.Report caller report)) = is_trail report
+shows_dismissals (Asks (requests.Report caller (Today Trail))) = true
 shows_dismissals _ = false
 
 -- Nothing is told.
@@ -107,8 +106,8 @@ month_with approvals day firm =
 abbrev pub MonthsTellNothing : Type 0
 MonthsTellNothing =
     (today day : ℕ) (caller : Caller) (f g : Firm) → without_acts f ≡ without_acts g
-    → (firm_step today f (Asks (requests.AsOf caller day_reports.Month day))).reply
+    → (firm_step today f (Asks (requests.Report caller (AsOf Month day)))).reply
     ≡ text_reply
     (text_unless
-    (first (day_report_conditions caller day_reports.Month day g))
+    (first (report_conditions caller (AsOf Month day) g))
     (month_with (approvals_report (month_to day) f) day g))

@@ -1,5 +1,5 @@
 -- The refusal that is told of a message is the least.
-use Rattle.portal_requests.proofs.Names.{◌≡◌, ◌∙◌, ◌<◌, ℕ, true, false, List, Option, Some, None, Result, Ok, Err, refl, sym, ap, subst, arith, bytes_eq, day_of, Line, Field, Refusal, BadField, BadMethod, NoCaller, NoRoute, Ask, Caller, Request, Message, path_of, Place, entry_ask, matter_ask, body_in, caller_of, dismissing, line_in, line_keys, named_in, part, period_in, method_of, Span, DayReport, PeriodReport, as_of, asked_at, reported_as_of, reported_within, called, of_matter, request, routed, place_of, ints, nat_tests}
+use Rattle.portal_requests.proofs.Names.{◌≡◌, ◌∙◌, ◌<◌, ℕ, true, false, List, Option, Some, None, Result, Ok, Err, refl, sym, ap, subst, arith, bytes_eq, day_of, Line, Field, Refusal, BadField, BadMethod, NoCaller, NoRoute, Ask, Caller, Request, Message, path_of, Place, entry_ask, matter_ask, body_in, caller_of, dismissing, line_in, line_keys, named_in, part, period_in, method_of, Span, DayReport, PeriodReport, asked_at, reported_as_of, reported_within, called, of_matter, request, routed, place_of, ints, nat_tests}
 use Rattle.std.proofs.Common.{◌⊎◌, IfSome}
 use Rattle.trust_base.specs.Refusals.{number_of}
 use Rattle.trust_base.specs.Texts.{matter_of}
@@ -21,9 +21,6 @@ err-same why r e = cc
 matter-field : (caller : Caller) (named : Option ℕ) (asked : Result Ask Field) (r : Refusal) → of_matter caller named asked ≡ Err r → IsOfField r
 matter-field caller named asked r e = grind (arith, ints, nat_tests, err-same)
 
-day-field : (caller : Caller) (o : Option ℕ) (r : Refusal) → as_of caller o ≡ Err r → IsOfField r
-day-field caller o r e = grind (arith, ints, nat_tests, err-same)
-
 report-field : (caller : Caller) (report : DayReport) (o : Option ℕ) (r : Refusal) → reported_as_of caller report o ≡ Err r → IsOfField r
 report-field caller report o r e = grind (arith, ints, nat_tests, err-same)
 
@@ -43,8 +40,7 @@ of-field : (p : Place) (caller : Caller) (path body : List ℕ) (r : Refusal) �
 of-field (place.Matter p) caller path body r e = matter-field caller (named_in path) (matter_ask p path body) r e
 of-field (place.Entry p) caller path body r e = matter-field caller (named_in path) (entry_ask p (part 4 path) body) r e
 of-field (place.Listed p) caller path body r e = absurd (cc)
-of-field (place.Report p) caller path body r e = absurd (cc)
-of-field place.Reconciliation caller path body r e = day-field caller (day_of (part 3 path)) r e
+of-field (place.Today p) caller path body r e = absurd (cc)
 of-field (place.AsOf report) caller path body r e = report-field caller report (day_of (part 3 path)) r e
 of-field (place.Within report) caller path body r e = period-field caller report (period_in (part 3 path) (part 4 path)) r e
 of-field place.Trail caller path body r e = trail-field caller (matter_of (part 3 path)) r e

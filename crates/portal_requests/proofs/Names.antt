@@ -36,7 +36,7 @@ pub use Rattle.portal_requests.specs.Dismissals.{dismissing, dismissing_in, line
 pub use Rattle.portal_requests.specs.Paths.{named_in, period_in}
 unfoldable pub use Rattle.portal_requests.specs.Paths.{part}
 pub use Rattle.portal_requests.specs.Places.{method_of}
-pub use Rattle.portal_requests.specs.Requests.{as_of, asked_at, called, heard_as, of_matter, placed, reported_as_of, reported_within, routed}
+pub use Rattle.portal_requests.specs.Requests.{asked_at, called, heard_as, of_matter, placed, reported_as_of, reported_within, routed}
 unfoldable pub use Rattle.portal_requests.specs.Requests.{heard_of, request}
 pub use Rattle.portal_requests.specs.Routing.{place_of}
 pub use Rattle.portal_requests.specs.Table.{IsTaken, row_in, rows_of}

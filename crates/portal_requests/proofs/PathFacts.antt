@@ -1,5 +1,5 @@
 -- The parts of a path, and which matter a message names by its path.
-use Rattle.portal_requests.proofs.Names.{◌≡◌, ◌∙◌, ◌++◌, ℕ, Bool, true, false, cond, List, [], ◌∷◌, Option, Some, None, Result, Ok, Err, refl, sym, ap, subst, arith, codes, length, option_map, unwrap_or, ⊤, bytes_eq, IsText, Scan, parse_route, RouteOf, route_from, RowsOf, first, InsertError, Line, day_of, matter_of, Field, BadMethod, Ask, Caller, is_the, names, Message, path_of, Place, entry_ask, matter_ask, body_in, caller_of, dismissing, dismissing_in, line_in, line_keys, named_in, part, period_in, method_of, Span, CallerList, DayReport, PeriodReport, as_of, asked_at, reported_as_of, reported_within, called, heard_as, heard_of, of_matter, placed, request, routed, place_of, TABLE, route_rows, row_in, the_routes, matchit_on_literals, ints, nat_tests}
+use Rattle.portal_requests.proofs.Names.{◌≡◌, ◌∙◌, ◌++◌, ℕ, Bool, true, false, cond, List, [], ◌∷◌, Option, Some, None, Result, Ok, Err, refl, sym, ap, subst, arith, codes, length, option_map, unwrap_or, ⊤, bytes_eq, IsText, Scan, parse_route, RouteOf, route_from, RowsOf, first, InsertError, Line, day_of, matter_of, Field, BadMethod, Ask, Caller, is_the, names, Message, path_of, Place, entry_ask, matter_ask, body_in, caller_of, dismissing, dismissing_in, line_in, line_keys, named_in, part, period_in, method_of, Span, CallerList, DayReport, PeriodReport, asked_at, reported_as_of, reported_within, called, heard_as, heard_of, of_matter, placed, request, routed, place_of, TABLE, route_rows, row_in, the_routes, matchit_on_literals, ints, nat_tests}
 use Rattle.std.specs.Borrow.{Bor}
 use Rattle.trust_base.proofs.ReadFacts.{digit_facts, number-none}
 use Rattle.portal_requests.specs.declared.routes.Place.TheVariants as place
@@ -133,9 +133,6 @@ of-named : (n : ℕ) (caller : Caller) (named : Option ℕ) (asked : Result Ask 
 of-named n caller named asked = grind (arith, ints, nat_tests)
 
 -- what is asked of the firm names none
-day-named : (n : ℕ) (caller : Caller) (day : Option ℕ) → names n (heard_as None (as_of caller day)) ≡ false
-day-named n caller day = grind (arith, ints, nat_tests)
-
 report-named : (n : ℕ) (caller : Caller) (report : DayReport) (day : Option ℕ) → names n (heard_as None (reported_as_of caller report day)) ≡ false
 report-named n caller report day = grind (arith, ints, nat_tests)
 
@@ -155,8 +152,7 @@ at-named : (n : ℕ) (p : Place) (caller : Caller) (path body : List ℕ) → pl
 at-named n (place.Matter p) caller path body e = of-named n caller (named_in path) (matter_ask p path body)
 at-named n (place.Entry p) caller path body e = of-named n caller (named_in path) (entry_ask p (part 4 path) body)
 at-named n (place.Listed p) caller path body e = sym (ap (is_the n) (list-unnamed path p e))
-at-named n (place.Report p) caller path body e = sym (ap (is_the n) (firm-unnamed path (place.Report p) refl e))
-at-named n place.Reconciliation caller path body e = subst (λ (o : Option ℕ). names n (heard_as o (as_of caller (day_of (part 3 path)))) ≡ is_the n o) (sym (firm-unnamed path place.Reconciliation refl e)) (day-named n caller (day_of (part 3 path)))
+at-named n (place.Today p) caller path body e = sym (ap (is_the n) (firm-unnamed path (place.Today p) refl e))
 at-named n (place.AsOf report) caller path body e = subst (λ (o : Option ℕ). names n (heard_as o (reported_as_of caller report (day_of (part 3 path)))) ≡ is_the n o) (sym (firm-unnamed path (place.AsOf report) refl e)) (report-named n caller report (day_of (part 3 path)))
 at-named n (place.Within report) caller path body e =
     let period = period_in (part 3 path) (part 4 path) in

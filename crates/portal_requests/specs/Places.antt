@@ -38,8 +38,7 @@ abbrev pub method_of : Place → List ℕ
 method_of (place.Matter p) = matter_method p
 method_of (place.Entry p) = entry_method p
 method_of (place.Listed p) = codes "GET"
-method_of (place.Report p) = codes "GET"
-method_of place.Reconciliation = codes "GET"
+method_of (place.Today p) = codes "GET"
 method_of (place.AsOf p) = codes "GET"
 method_of (place.Within p) = codes "GET"
 method_of place.Trail = codes "GET"

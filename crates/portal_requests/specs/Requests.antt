@@ -11,6 +11,7 @@ use Rattle.matter_rows.specs.declared.act.Caller.{Caller}
 use Rattle.trust_matter.specs.declared.ask.Ask.{Ask}
 use Rattle.book_reports.specs.declared.report.DayReport.{DayReport}
 use Rattle.book_reports.specs.declared.report.PeriodReport.{PeriodReport}
+use Rattle.book_reports.specs.declared.report.Report.TheVariants as reports
 use Rattle.trust_desk.specs.declared.requests.Request.{Request}
 use Rattle.trust_desk.specs.declared.requests.Request.TheVariants as requests
 use Rattle.trust_desk.specs.Heard.{Heard, Asks, Unread}
@@ -31,20 +32,15 @@ of_matter caller None asked = Err (BadField field.Matter)
 of_matter caller (Some m) (Err f) = Err (BadField f)
 of_matter caller (Some m) (Ok a) = Ok (requests.Matter m caller a)
 
--- the reconciliation as of the day in a path
-abbrev pub as_of : Caller → Option ℕ → Result Request Refusal
-as_of caller None = Err (BadField field.Day)
-as_of caller (Some day) = Ok (requests.Reconcile caller day)
-
 -- a report as of the day in a path
 abbrev pub reported_as_of : Caller → DayReport → Option ℕ → Result Request Refusal
 reported_as_of caller report None = Err (BadField field.Day)
-reported_as_of caller report (Some day) = Ok (requests.AsOf caller report day)
+reported_as_of caller report (Some day) = Ok (requests.Report caller (reports.AsOf report day))
 
 -- a report of the period in a path
 abbrev pub reported_within : Caller → PeriodReport → Option Span → Result Request Refusal
 reported_within caller report None = Err (BadField field.Day)
-reported_within caller report (Some period) = Ok (requests.Within caller report period)
+reported_within caller report (Some period) = Ok (requests.Report caller (reports.Within report period))
 
 -- the trail of the matter in a path
 abbrev pub trail_of : Caller → Option ℕ → Result Request Refusal
@@ -60,8 +56,7 @@ abbrev pub asked_at : Place → Caller → List ℕ → List ℕ → Result Requ
 asked_at (place.Matter p) caller path body = of_matter caller (named_in path) (matter_ask p path body)
 asked_at (place.Entry p) caller path body = of_matter caller (named_in path) (entry_ask p (part 4 path) body)
 asked_at (place.Listed list) caller path body = Ok (requests.Listed caller list)
-asked_at (place.Report report) caller path body = Ok (requests.Report caller report)
-asked_at place.Reconciliation caller path body = as_of caller (day_of (part 3 path))
+asked_at (place.Today report) caller path body = Ok (requests.Report caller (reports.Today report))
 asked_at (place.AsOf report) caller path body = reported_as_of caller report (day_of (part 3 path))
 asked_at (place.Within report) caller path body =
     reported_within caller report (period_in (part 3 path) (part 4 path))

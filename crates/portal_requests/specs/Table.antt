@@ -11,10 +11,10 @@ use Rattle.portal_requests.specs.declared.routes.EntryPlace.TheVariants as entry
 use Rattle.trust_desk.specs.declared.requests.CallerList.TheVariants as caller_list
 use Rattle.book_reports.specs.declared.report.DayReport.TheVariants as day_report
 use Rattle.book_reports.specs.declared.report.PeriodReport.TheVariants as period_report
-use Rattle.book_reports.specs.declared.report.Report.TheVariants as report
+use Rattle.book_reports.specs.declared.report.TodayReport.TheVariants as today_report
 use Rattle.trust_desk.specs.declared.requests.MatchText.TheVariants as text
 use Rattle.portal_requests.specs.declared.routes.Place.{Place}
-use Rattle.portal_requests.specs.declared.routes.Place.TheVariants.{Acts, AsOf, Dismissal, Entry, Import, Listed, Match, Matter, Reasons, Reconciliation, Report, Trail, Within}
+use Rattle.portal_requests.specs.declared.routes.Place.TheVariants.{Acts, AsOf, Dismissal, Entry, Import, Listed, Match, Matter, Reasons, Today, Trail, Within}
 
 -- the rows with one more route
 abbrev pub row_in : Result Scan InsertError → Place → RowsOf (RouteOf Place) → RowsOf (RouteOf Place)
@@ -70,20 +70,20 @@ TABLE = (codes "/matters", Listed caller_list.Matters)
     ∷ (codes "/firm/statements", Import)
     ∷ (codes "/firm/statements/match", Match text.Statement)
     ∷ (codes "/firm/statements/unmatched", Match text.Unmatched)
-    ∷ (codes "/firm/exceptions", Report report.Exceptions)
+    ∷ (codes "/firm/exceptions", Today today_report.Exceptions)
     ∷ (codes "/firm/exceptions/reasons", Reasons)
     ∷ (codes "/firm/exceptions/dismiss", Dismissal)
-    ∷ (codes "/firm/trial-balance", Report report.Trial)
-    ∷ (codes "/firm/journal", Report report.Journal)
-    ∷ (codes "/firm/reconciliation/{day}", Reconciliation)
+    ∷ (codes "/firm/trial-balance", Today today_report.Trial)
+    ∷ (codes "/firm/journal", Today today_report.Journal)
+    ∷ (codes "/firm/reconciliation/{day}", AsOf day_report.Reconciliation)
     ∷ (codes "/firm/clients/{day}", AsOf day_report.Clients)
     ∷ (codes "/firm/outstanding/{day}", AsOf day_report.Outstanding)
     ∷ (codes "/firm/receipts/{from}/{to}", Within period_report.Receipts)
     ∷ (codes "/firm/disbursements/{from}/{to}", Within period_report.Disbursements)
     ∷ (codes "/firm/approvals/{from}/{to}", Within period_report.Approvals)
     ∷ (codes "/firm/month/{day}", AsOf day_report.Month)
-    ∷ (codes "/firm/retention", Report report.Retention)
-    ∷ (codes "/firm/trail", Report report.Trail)
+    ∷ (codes "/firm/retention", Today today_report.Retention)
+    ∷ (codes "/firm/trail", Today today_report.Trail)
     ∷ (codes "/firm/trail/{m}", Trail) ∷ []
 
 unfoldable pub the_routes : RowsOf (RouteOf Place)

@@ -15,7 +15,7 @@ ghost use Rattle.portal_requests.specs.Bodies.{texts};
 ghost use Rattle.portal_requests.specs.Callers.{caller_of};
 ghost use Rattle.portal_requests.specs.Dismissals.{dismissing_in};
 ghost use Rattle.portal_requests.specs.Paths.{named_in, part, period_in};
-ghost use Rattle.portal_requests.specs.Requests.{acts_of, as_of, of_matter, reported_as_of, reported_within, request, trail_of};
+ghost use Rattle.portal_requests.specs.Requests.{acts_of, of_matter, reported_as_of, reported_within, request, trail_of};
 ghost use Rattle.trust_base.specs.Texts.{day_of, matter_of};
 
 use crate::routes::{EntryPlace, MatterPlace, Place, Routes, method};
@@ -28,7 +28,7 @@ use serde_json::Value;
 use statement_csv::line_of_texts;
 use std::alloc::{AllocError, Global};
 use trust_base::{Day, EntryNo, Field, MatterNo, OwnedBytes, Period, PersonId, Refusal};
-use trust_desk::{DayReport, PeriodReport, Request};
+use trust_desk::{DayReport, PeriodReport, Report, Request};
 use trust_matter::{Ask, Caller, SplitAsk};
 
 /// Returns the matter that a path names, whether or not it has a route: the path is `/matters/` and the six digits of
@@ -366,22 +366,12 @@ fn read_entry_at(
     }
 }
 
-// Returns the request for the reconciliation of a day.
-fn read_reconciliation(caller: Caller, day: &[u8]) -> Result<Request, Refusal>
-    ensures { Answers (as_of caller (day_of day.now)) result }
-{
-    match Day::read(day) {
-        Some(day) => Ok(Request::Reconcile(caller, day)),
-        None => Err(Refusal::BadField(Field::Day)),
-    }
-}
-
 // Returns the request for a report as of a day.
 fn read_day_report(caller: Caller, report: DayReport, day: &[u8]) -> Result<Request, Refusal>
     ensures { Answers (reported_as_of caller report (day_of day.now)) result }
 {
     match Day::read(day) {
-        Some(day) => Ok(Request::AsOf(caller, report, day)),
+        Some(day) => Ok(Request::Report(caller, Report::AsOf(report, day))),
         None => Err(Refusal::BadField(Field::Day)),
     }
 }
@@ -396,7 +386,7 @@ fn read_period_report(
     ensures { Answers (reported_within caller report (period_in from.now to.now)) result }
 {
     match read_period(from, to) {
-        Some(period) => Ok(Request::Within(caller, report, period)),
+        Some(period) => Ok(Request::Report(caller, Report::Within(report, period))),
         None => Err(Refusal::BadField(Field::Day)),
     }
 }
@@ -450,8 +440,7 @@ pub fn request_of(alloc: Global, routes: &Routes, message: &Message) -> Result<R
         Place::Matter(place) => read_matter_at(alloc, place, caller, path, body),
         Place::Entry(place) => read_entry_at(alloc, place, caller, path, body),
         Place::Listed(list) => Ok(Request::Listed(caller, list)),
-        Place::Report(report) => Ok(Request::Report(caller, report)),
-        Place::Reconciliation => read_reconciliation(caller, part(path, 3)),
+        Place::Today(report) => Ok(Request::Report(caller, Report::Today(report))),
         Place::AsOf(report) => read_day_report(caller, report, part(path, 3)),
         Place::Within(report) => read_period_report(caller, report, part(path, 3), part(path, 4)),
         Place::Trail => read_trail(caller, part(path, 3)),

@@ -8,7 +8,7 @@ ghost use Rattle.portal_requests.specs.Table.{the_routes};
 use matchit::{InsertError, Router};
 use std::alloc::Global;
 use std::marker::Model;
-use trust_desk::{CallerList, DayReport, MatchText, PeriodReport, Report};
+use trust_desk::{CallerList, DayReport, MatchText, PeriodReport, TodayReport};
 
 /// What a route asks of a matter as a whole.
 #[derive(Clone, Copy)]
@@ -51,10 +51,8 @@ pub(crate) enum Place {
     Entry(EntryPlace),
     /// To a list of the matters that the caller may see, or of what waits in them.
     Listed(CallerList),
-    /// To a report on the firm.
-    Report(Report),
-    /// To the reconciliation of the day in the path.
-    Reconciliation,
+    /// To a report on the firm on the business day.
+    Today(TodayReport),
     /// To a report on the firm as of the day in the path.
     AsOf(DayReport),
     /// To a report on the firm of the period in the path.
@@ -86,8 +84,7 @@ pub(crate) fn method(place: Place) -> &'static [u8]
         )
         | Place::Entry(EntryPlace::Show)
         | Place::Listed(_)
-        | Place::Report(_)
-        | Place::Reconciliation
+        | Place::Today(_)
         | Place::AsOf(_)
         | Place::Within(_)
         | Place::Trail
@@ -176,12 +173,15 @@ const TABLE: &[(&str, Place)] = &[
         "/firm/statements/unmatched",
         Place::Match(MatchText::Unmatched),
     ),
-    ("/firm/exceptions", Place::Report(Report::Exceptions)),
+    ("/firm/exceptions", Place::Today(TodayReport::Exceptions)),
     ("/firm/exceptions/reasons", Place::Reasons),
     ("/firm/exceptions/dismiss", Place::Dismissal),
-    ("/firm/trial-balance", Place::Report(Report::Trial)),
-    ("/firm/journal", Place::Report(Report::Journal)),
-    ("/firm/reconciliation/{day}", Place::Reconciliation),
+    ("/firm/trial-balance", Place::Today(TodayReport::Trial)),
+    ("/firm/journal", Place::Today(TodayReport::Journal)),
+    (
+        "/firm/reconciliation/{day}",
+        Place::AsOf(DayReport::Reconciliation),
+    ),
     ("/firm/clients/{day}", Place::AsOf(DayReport::Clients)),
     (
         "/firm/outstanding/{day}",
@@ -200,8 +200,8 @@ const TABLE: &[(&str, Place)] = &[
         Place::Within(PeriodReport::Approvals),
     ),
     ("/firm/month/{day}", Place::AsOf(DayReport::Month)),
-    ("/firm/retention", Place::Report(Report::Retention)),
-    ("/firm/trail", Place::Report(Report::Trail)),
+    ("/firm/retention", Place::Today(TodayReport::Retention)),
+    ("/firm/trail", Place::Today(TodayReport::Trail)),
     ("/firm/trail/{m}", Place::Trail),
 ];
 

@@ -11,13 +11,13 @@ use Rattle.firm_rows.specs.Firm.{Firm}
 use Rattle.statement_csv.specs.declared.item.Item.{Item}
 use Rattle.statement_csv.specs.declared.item.Item.TheVariants as item
 use Rattle.trust_desk.specs.declared.requests.Request.{Request}
-use Rattle.trust_desk.specs.declared.requests.Request.TheVariants.{Matter, Import, Match, Dismiss, Report, Reconcile, AsOf, Within, Trail, Acts, Listed, Reasons}
+use Rattle.trust_desk.specs.declared.requests.Request.TheVariants.{Matter, Import, Match, Dismiss, Report, Trail, Acts, Listed, Reasons}
 use Rattle.trust_desk.specs.declared.requests.MatchText.{MatchText}
 use Rattle.trust_desk.specs.declared.requests.MatchText.TheVariants as part
 use Rattle.trust_desk.specs.declared.requests.Reply.{Reply}
 use Rattle.trust_desk.specs.ItemStep.{names_item}
 use Rattle.trust_desk.specs.ImportStep.{import_refusal, imported}
-use Rattle.trust_desk.specs.ReportStep.{day_report_for, period_report_for, reconciliation_for, report_for, trail_for}
+use Rattle.trust_desk.specs.ReportStep.{report_for, trail_for}
 use Rattle.trust_desk.specs.MatchStep.{statement_for, unmatched_for}
 use Rattle.trust_desk.specs.ListStep.{list_for, reasons_for}
 
@@ -64,9 +64,6 @@ kind_of (Asks (Import caller statement)) = OfItems (import_refusal caller statem
 kind_of (Asks (Dismiss caller line)) = Dismisses caller line
 kind_of (Asks (Match caller statement text)) = match_kind text caller statement
 kind_of (Asks (Report caller report)) = OnlyTold (report_for caller report)
-kind_of (Asks (Reconcile caller day)) = OnlyTold (reconciliation_for caller day)
-kind_of (Asks (AsOf caller report day)) = OnlyTold (day_report_for caller report day)
-kind_of (Asks (Within caller report period)) = OnlyTold (period_report_for caller report period)
 kind_of (Asks (Trail caller m)) = OnlyTold (trail_for caller m)
 kind_of (Asks (Acts caller m)) = OfActs m caller
 kind_of (Asks (Listed caller list)) = OnlyShown (list_for caller list)

@@ -6,7 +6,7 @@ use Rattle.firm_rows.specs.Firm.{Firm}
 use Rattle.trust_matter.specs.Step.{first}
 use Rattle.json_bodies.specs.Lists.{matters_body, waiting_body}
 use Rattle.json_bodies.specs.Reasons.{reasons_body}
-use Rattle.trust_desk.specs.ReportStep.{report_conditions, text_unless}
+use Rattle.trust_desk.specs.ReportStep.{caller_conditions, text_unless}
 use Rattle.trust_desk.specs.declared.requests.CallerList.{CallerList}
 use Rattle.trust_desk.specs.declared.requests.CallerList.TheVariants.{Matters, Waiting}
 
@@ -21,4 +21,4 @@ list_for caller list today firm = Ok (list_body list caller firm)
 
 -- the exceptions of a business day with their reasons, or the refusal of a caller who is not the cashier
 abbrev pub reasons_for : Caller → ℕ → Firm → Result (List ℕ) Refusal
-reasons_for caller today firm = text_unless (first (report_conditions caller)) (reasons_body today firm)
+reasons_for caller today firm = text_unless (first (caller_conditions caller)) (reasons_body today firm)

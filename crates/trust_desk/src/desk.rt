@@ -12,7 +12,6 @@ ghost use Rattle.trust_desk.specs.ListStep.{list_body, list_for, reasons_for};
 ghost use Rattle.trust_store.specs.Calls.{IsRead};
 ghost use Rattle.trust_desk.specs.Isolation.{IsOwn, KeepsOthers};
 ghost use Rattle.trust_desk.specs.Replies.{is_fault_reply};
-ghost use Rattle.trust_desk.specs.ReportStep.{day_report_for, period_report_for, reconciliation_for};
 ghost use Rattle.trust_desk.specs.ReportStep.{report_for, trail_for};
 ghost use Rattle.trust_desk.specs.Answered.{IfServed, IsAnswered, IsReplied};
 ghost use Rattle.trust_desk.specs.Calls.{Counts, KeepsBook};
@@ -22,20 +21,17 @@ use crate::exceptions::dismiss;
 use crate::importing::{ImportEnd, ImportStop};
 use crate::requests::{
     Body, CallerList, End, MatchText, Reply, Request, RunEnd, check_import, is_not_of_firm,
-    tell_trail, tell_within,
+    tell_report, tell_trail,
 };
 use crate::watching::NoWatch;
-use book_reports::{
-    ClearedLines, DayReport, PeriodReport, Report, append_day_report, append_period_report,
-    append_reconciliation, find_report, find_trail,
-};
+use book_reports::{ClearedLines, Report, find_report, find_trail};
 use json_bodies::{
     entries_body, entry_body, import_body, matter_body, matters_body, purge_body, reasons_body,
     receipt_body, waiting_body,
 };
 use std::alloc::{AllocError, Global};
 use std::marker::Model;
-use trust_base::{Day, Line, MatterNo, OwnedBytes, Period, Refusal, Rule, StoreFault};
+use trust_base::{Day, Line, MatterNo, OwnedBytes, Refusal, Rule, StoreFault};
 use trust_matter::{Ask, Caller, Edit, Matter, decide};
 use trust_reports::laws::whole_account_is_of_rows;
 use trust_reports::{account_text, ledger_card};
@@ -151,7 +147,8 @@ fn find_list<B: Book>(
 /// The trial balance of an empty book:
 ///
 ///     let mut desk = Desk::new(PlainBook::new(alloc));
-///     let reply = desk.answer(alloc, &Request::Report(Caller::Cashier, Report::Trial), today);
+///     let trial = Report::Today(TodayReport::Trial);
+///     let reply = desk.answer(alloc, &Request::Report(Caller::Cashier, trial), today);
 #[derive(Drop)]
 pub struct Desk<B: Book> {
     pub(crate) book: B,
@@ -221,15 +218,6 @@ impl<B: Book> Desk<B> {
             Request::Report(caller, report) => {
                 self.answer_report(alloc, caller, *report, day, lines)
             }
-            Request::Reconcile(caller, as_of) => {
-                self.answer_reconciliation(alloc, caller, *as_of, lines)
-            }
-            Request::AsOf(caller, report, as_of) => {
-                self.answer_day_report(alloc, caller, *report, *as_of)
-            }
-            Request::Within(caller, report, period) => {
-                self.answer_period_report(alloc, caller, *report, *period)
-            }
             Request::Trail(caller, no) => self.answer_trail(alloc, caller, *no, day),
             Request::Acts(caller, no) => answer_acts(alloc, &mut self.book, *no, caller, day),
             Request::Listed(caller, list) => self.answer_list(alloc, caller, *list),
@@ -253,68 +241,8 @@ impl<B: Book> Desk<B> {
         if is_not_of_firm(caller) {
             return Err(Refusal::NotAllowed(Rule::Firm));
         }
-        let text = find_report(alloc, &mut self.book, report, day, lines)?;
-        Ok(Reply {
-            status: 200,
-            body: Body::Text(OwnedBytes::new(text)),
-        })
-    }
-
-    // Answers with the three-way reconciliation as of a day, or says why it is refused. Nothing changes.
-    fn answer_reconciliation(
-        &mut self,
-        alloc: Global,
-        caller: &Caller,
-        as_of: Day,
-        lines: &mut ClearedLines,
-    ) -> Result<Reply, Refusal>
-        ensures { (day : ℕ) (h : Heard) → kind_of h ≡ OnlyTold (reconciliation_for caller.now as_of)
-            → IsAnswered day h result (B.seen self.old) (B.seen self.new) }
-    {
-        if is_not_of_firm(caller) {
-            return Err(Refusal::NotAllowed(Rule::Firm));
-        }
-        let mut text = Vec::new(alloc);
-        let limits = append_reconciliation(alloc, &mut self.book, as_of, lines, &mut text)?;
-        tell_within(limits, text)
-    }
-
-    // Answers with a report of the firm as of a day, or says why it is refused. Nothing changes.
-    fn answer_day_report(
-        &mut self,
-        alloc: Global,
-        caller: &Caller,
-        report: DayReport,
-        as_of: Day,
-    ) -> Result<Reply, Refusal>
-        ensures { (day : ℕ) (h : Heard) → kind_of h ≡ OnlyTold (day_report_for caller.now report as_of)
-            → IsAnswered day h result (B.seen self.old) (B.seen self.new) }
-    {
-        if is_not_of_firm(caller) {
-            return Err(Refusal::NotAllowed(Rule::Firm));
-        }
-        let mut text = Vec::new(alloc);
-        let limits = append_day_report(alloc, &mut self.book, report, as_of, &mut text)?;
-        tell_within(limits, text)
-    }
-
-    // Answers with a report of the firm of a period, or says why it is refused. Nothing changes.
-    fn answer_period_report(
-        &mut self,
-        alloc: Global,
-        caller: &Caller,
-        report: PeriodReport,
-        period: Period,
-    ) -> Result<Reply, Refusal>
-        ensures { (day : ℕ) (h : Heard) → kind_of h ≡ OnlyTold (period_report_for caller.now report period)
-            → IsAnswered day h result (B.seen self.old) (B.seen self.new) }
-    {
-        if is_not_of_firm(caller) {
-            return Err(Refusal::NotAllowed(Rule::Firm));
-        }
-        let mut text = Vec::new(alloc);
-        let limits = append_period_report(alloc, &mut self.book, report, period, &mut text)?;
-        tell_within(limits, text)
+        let found = find_report(alloc, &mut self.book, report, day, lines)?;
+        tell_report(found)
     }
 
     // Answers with the trail of a matter on a business day, or says why it is refused. Nothing changes.

@@ -5,9 +5,9 @@
 //!
 //! By public call, with the clauses of its contract in brackets.
 //!
-//! - within the crate `answer_reconciliation`: of the cashier's request: NoStatement exactly if no closing balance of
-//!   the day is kept, else PeriodPurged exactly if a matter that was closed after the day has been purged, else the
-//!   text; nothing changes, after a crash neither (`IsAnswered`, `reconciliation_for`).
+//! - within the crate `answer_report`: of the cashier's request: NoStatement exactly if the report wants a closing
+//!   balance of its day and none is kept, else PeriodPurged exactly if a matter has been purged whose records it wants,
+//!   else the text; nothing changes, after a crash neither (`IsAnswered`, `report_for`).
 //! - `Desk::answer`: over every book: reply and rows are those of the firm's step; or the store or memory stopped it,
 //!   which the reply says with the status 503, and nothing changed, except that the first items of an import may have
 //!   been applied (`step` of `replied`). The rows and acts of every matter that it does not concern stay (`others`);
@@ -79,8 +79,8 @@ mod watching;
 
 pub use book_reports::{
     ActWatch, AppliedLine, Checked, ClearedLine, ClearedLines, DayReport, EarlierWatch, Flaw,
-    PaymentWatch, PeriodReport, PurgedWatch, Report, RowCounts, RowWatch, TrailCounts, TrailFlaw,
-    TrailFound, Unread, WantedRecords,
+    PaymentWatch, PeriodReport, PurgedWatch, Report, RowCounts, RowWatch, TodayReport, TrailCounts,
+    TrailFlaw, TrailFound, Unread, WantedRecords,
 };
 pub use desk::Desk;
 pub use importing::{Counted, ImportEnd, ImportStop};

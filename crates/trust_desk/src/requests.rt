@@ -4,12 +4,12 @@ ghost use Rattle.std.specs.Prelude.{◌≡◌, IfOk, false};
 ghost use Rattle.trust_desk.specs.Crashes.{is_fault_end};
 ghost use Rattle.trust_desk.specs.ImportStep.{IsChecked, import_refusal, is_not_of_firm};
 ghost use Rattle.trust_desk.specs.Replies.{is_fault_reply, reply_for, text_reply};
-ghost use Rattle.trust_desk.specs.ReportStep.{told_trail, told_within};
+ghost use Rattle.trust_desk.specs.ReportStep.{told_report, told_trail};
 
-use book_reports::{DayReport, Limits, MatterTrail, PeriodReport, Report};
+use book_reports::{FoundReport, MatterTrail, Report};
 use statement_csv::{Lines, ReadFault};
 use std::alloc::Global;
-use trust_base::{Day, Field, Line, MAX_FILE_BYTES, MatterNo, OwnedBytes, Period, Refusal, Rule};
+use trust_base::{Field, Line, MAX_FILE_BYTES, MatterNo, OwnedBytes, Refusal, Rule};
 use trust_matter::{Ask, Caller};
 
 /// A list of what a caller may see of the matters: each that is not purged for the cashier, and for a person each in
@@ -57,12 +57,6 @@ pub enum Request {
     },
     /// A caller asks for a report on the firm.
     Report(Caller, Report),
-    /// A caller asks for the three-way reconciliation as of a day.
-    Reconcile(Caller, Day),
-    /// A caller asks for a report on the firm as of a day.
-    AsOf(Caller, DayReport, Day),
-    /// A caller asks for a report on the firm of a period.
-    Within(Caller, PeriodReport, Period),
     /// A caller asks for the trail of a matter.
     Trail(Caller, MatterNo),
     /// A caller asks who did what in a matter.
@@ -95,9 +89,6 @@ impl Drop for Request {
                 line: _line,
             } => (),
             Request::Report(_caller, _)
-            | Request::Reconcile(_caller, _)
-            | Request::AsOf(_caller, _, _)
-            | Request::Within(_caller, _, _)
             | Request::Trail(_caller, _)
             | Request::Acts(_caller, _)
             | Request::Listed(_caller, _)
@@ -169,20 +160,20 @@ impl Reply {
 }
 
 /// The reply that tells a report, unless it is refused.
-pub(crate) fn tell_within(limits: Limits, text: Vec<u8>) -> Result<Reply, Refusal>
-    ensures says { reply_for result ≡ text_reply (told_within limits text.items) }
+pub(crate) fn tell_report(found: FoundReport) -> Result<Reply, Refusal>
+    ensures says { reply_for result ≡ text_reply (told_report found.limits found.text.items) }
     ensures plain { IfOk result (λ reply. is_fault_reply reply ≡ false) }
     ensures fine { is_fault_end result ≡ false }
 {
-    if limits.lacks_statement {
+    if found.limits.lacks_statement {
         return Err(Refusal::NoStatement);
     }
-    if limits.is_purged {
+    if found.limits.is_purged {
         return Err(Refusal::PeriodPurged);
     }
     Ok(Reply {
         status: 200,
-        body: Body::Text(OwnedBytes::new(text)),
+        body: Body::Text(OwnedBytes::new(found.text)),
     })
 }
 

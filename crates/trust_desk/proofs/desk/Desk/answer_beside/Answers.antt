@@ -3,7 +3,7 @@ use Rattle.trust_desk.proofs.Answered.{end-counted, end-fault}
 use Rattle.trust_desk.proofs.Calls.{kept-as}
 use Rattle.trust_desk.proofs.Crashes.{leave-as}
 use Rattle.trust_desk.proofs.desk.Desk.answer_beside.Goals as goal
-use Rattle.trust_desk.proofs.desk.Desk.answer_beside.Goals.{in-Acts, in-AsOf, in-Dismiss, in-Import, in-Listed, in-Match, in-Matter, in-Reasons, in-Reconcile, in-Report, in-Trail, in-Within}
+use Rattle.trust_desk.proofs.desk.Desk.answer_beside.Goals.{in-Acts, in-Dismiss, in-Import, in-Listed, in-Match, in-Matter, in-Reasons, in-Report, in-Trail}
 
 kind : {r s : Request} → r ≡ s → kind_of (Asks r) ≡ kind_of (Asks s)
 kind is = ap (λ (r : Request). kind_of (Asks r)) is
@@ -26,9 +26,6 @@ returns g c =
       | in-Dismiss w ↦ rw (w.self-is, w.answered-is) (w.answer_dismiss-answered.ensures h (kind w.in-Dismiss.is))
       | in-Match w ↦ rw (w.self-is, w.answered-is) (w.answer_match-answered.ensures h (kind w.in-Match.is))
       | in-Report w ↦ rw (w.self-is, w.answered-is) (w.answer_report-answered.ensures h (kind w.in-Report.is))
-      | in-Reconcile w ↦ rw (w.self-is, w.answered-is) (w.answer_reconciliation-answered.ensures day h (kind w.in-Reconcile.is))
-      | in-AsOf w ↦ rw (w.self-is, w.answered-is) (w.answer_day_report-answered.ensures day h (kind w.in-AsOf.is))
-      | in-Within w ↦ rw (w.self-is, w.answered-is) (w.answer_period_report-answered.ensures day h (kind w.in-Within.is))
       | in-Trail w ↦ rw (w.self-is, w.answered-is) (w.answer_trail-answered.ensures h (kind w.in-Trail.is))
       | in-Acts w ↦ rw (w.self-is, w.answered-is)
           (subst (λ b. IsAnswered day h w.answer_acts-answered.result (B.seen b) (B.seen w.answer_acts-answered.new.book)) w.self-in-Acts.view_is

@@ -4,7 +4,7 @@ use Rattle.book_reports.specs.FirmTrails.{with_act_told, with_dismissal_told, wi
 use Rattle.book_reports.proofs.FirmTrails.{trail-told}
 use Rattle.book_reports.proofs.ReadCalls.{both-handed, handed-before, read-then}
 use Rattle.book_reports.proofs.ReportTexts.{exceptions-told, journal-told, retention-told, trial-told}
-use Rattle.book_reports.proofs.business_day.find_report.Goals as goal
+use Rattle.book_reports.proofs.business_day.find_today_report.Goals as goal
 
 pub returns-in_ok-each_exception-in-Exceptions-clause-told : goal.returns-in_ok-each_exception-in-Exceptions-clause-told
 returns-in_ok-each_exception-in-Exceptions-clause-told g c =
