@@ -10,7 +10,7 @@ ghost use Rattle.trust_store.specs.Calls.{IsRead};
 
 use crate::cleared_lines::{Beside, ClearedLines};
 use crate::report::{DayReport, PeriodReport};
-use crate::unread_acts::matters_named;
+use crate::unread_acts::matters_of;
 use firm_periods::{ApprovalsSink, NamedList, NamedSink, Pick};
 use std::alloc::Global;
 use trust_base::{Day, MatterNo, Period, StoreFault};
@@ -187,7 +187,7 @@ fn append_disbursements<B: Book>(
     })
 }
 
-// The approvals of a period, and the matters that the rows of the trail name which can't be read.
+// The approvals of a period, and the matters that the rows of the trail may be of which can't be read.
 #[derive(Drop)]
 struct ReadApprovals {
     approvals: ApprovalsSink,
@@ -207,7 +207,8 @@ fn read_approvals<B: Book>(
     let mut approvals = ApprovalsSink::new(alloc, period);
     let rows = book.each_readable_act(alloc, &mut approvals)?;
     book.each_row(&mut approvals)?;
-    let unread = matters_named(alloc, &rows)?;
+    let dismissals = book.unread_dismissals(alloc)?;
+    let unread = matters_of(alloc, &rows, &dismissals)?;
     Ok(ReadApprovals { approvals, unread })
 }
 

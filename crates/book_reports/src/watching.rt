@@ -58,4 +58,7 @@ pub trait PurgedWatch {
 pub trait ActWatch {
     /// Called for a row of the trail with its number in the order of acceptance, from 1.
     fn unread_act(&self, number: u64);
+
+    /// Called for a row among the dismissals with its number there, from 1.
+    fn unread_dismissal(&self, number: u64);
 }

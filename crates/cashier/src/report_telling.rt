@@ -98,6 +98,11 @@ impl<M: Remarks> ActWatch for ActTelling<'_, M> {
         let told = ReportRemark::UnreadAct(number);
         self.remarks.tell(&Remark::Report(told));
     }
+
+    fn unread_dismissal(&self, number: u64) {
+        let told = ReportRemark::UnreadDismissal(number);
+        self.remarks.tell(&Remark::Report(told));
+    }
 }
 
 /// Reports which purged matters had records that a refused report wants.

@@ -49,6 +49,9 @@ pub enum ReportRemark<'a> {
     },
     /// The nth row of the trail, from 1, can't be read, so that the report may lack who approved a payment.
     UnreadAct(u64),
+    /// The nth row of the trail among its dismissals, from 1, can't be read, so that the report may lack who approved a
+    /// payment.
+    UnreadDismissal(u64),
     /// Telling the reasons of exceptions was ended by this fault.
     ExceptionsEnd(StoreFault),
     /// Telling what goes with the report was ended by this fault.
@@ -103,6 +106,10 @@ impl fmt::Display for ReportRemark<'_> {
             ReportRemark::UnreadAct(number) => write!(
                 f,
                 "row {number} of {ACT_TABLE} can't be read: it may be the approval of a payment that shows ?"
+            ),
+            ReportRemark::UnreadDismissal(number) => write!(
+                f,
+                "dismissal {number} of {ACT_TABLE} can't be read: it may be the approval of a payment that shows ?"
             ),
             ReportRemark::ExceptionsEnd(fault) => {
                 write!(f, "{fault}: no reasons are told of the other exceptions")

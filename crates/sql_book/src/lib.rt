@@ -30,7 +30,7 @@
 //!   Between its calls no transaction is open.
 //! - `each_readable_act` of a `SqlBook`, whatever rows its trail holds: the sink takes the act that each row shows, but
 //!   for those that are told, and these stand for no act (`read` of `sql_reads::each_readable_act`; no clause of the
-//!   trait says it, since such tables stand for no firm).
+//!   trait says it, since such tables stand for no firm). So it is with `unread_dismissals` and the rows with matter 0.
 //! - `SqlBook::make`: a book without rows in an empty database: it serves, stands, lasts, is settled on the firm
 //!   without rows, and has refused nothing (`made`, `none_refused`); what is not empty is NotABook and given back as it
 //!   was (`not_empty`, `told`); all of it or nothing, also over a crash (`kept`, `crash`, `crash_at_fault`).

@@ -14,6 +14,7 @@ pub mod Going
 pub mod Handed
 pub mod MatterRows
 pub mod Shown
+pub mod NoDismissals
 pub mod Readable
 pub mod RowLists
 pub mod Streams

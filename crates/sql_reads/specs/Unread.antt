@@ -1,12 +1,13 @@
 -- Rows of the trail that were read one by one, whether or not each stands for an act.
 use Rattle.std.specs.Prelude.{◌≡◌, ◌≢◌, ◌⊎◌, ℕ, pos, ◌+◌, List, [], ◌∷◌, Option, Some, None}
-use Rattle.sqlite_value.specs.declared.value.Value.TheVariants.{Int}
+use Rattle.sqlite_value.specs.declared.value.Value.TheVariants.{Int, Null}
 use Rattle.sqlite_value.specs.Order.{Row, column}
 use Rattle.trust_base.specs.Limits.{IsMatterNo}
 use Rattle.firm_rows.specs.declared.matter_act.MatterAct.{MatterAct}
 use Rattle.trust_store.specs.declared.unread_act.UnreadAct.{UnreadAct}
 use Rattle.sql_tables.specs.Rows as table
-use Rattle.sql_rows.specs.Meaning.{IsWrittenAct}
+use Rattle.sql_rows.specs.Dismissals.{dismissal_row}
+use Rattle.sql_rows.specs.Meaning.{IsWrittenAct, IsWrittenDismissal}
 use Rattle.sql_reads.specs.Shown.{act_at}
 
 -- no program writes the row for an act
@@ -31,3 +32,22 @@ AreRead step n (r ∷ rows) unread old new =
     AreRead step (n + 1) rows unread (step old (act_at r)) new
     ⊎ ((told : UnreadAct) × (rest : List UnreadAct) × (unread ≡ told ∷ rest) × IsTold n r told
     × AreRead step (n + 1) rows rest old new)
+
+-- Rows of no matter, whether or not each stands for a dismissal.
+
+-- no program writes the row for a dismissal
+abbrev pub StandsForNoDismissal : Row → Type 0
+StandsForNoDismissal r = (x : table.Act) → IsWrittenDismissal x → r ≢ table.act_values x
+
+-- the row has the columns of a dismissal on its day with its text
+abbrev pub IsLikeDismissal : Row → Type 0
+IsLikeDismissal r =
+    let shown = table.act_in (Int (pos 0) ∷ Null ∷ r) in
+    (day : ℕ) → pos day ≡ shown.day → shown ≡ dismissal_row day shown.text
+
+-- of rows numbered from here on, these are the numbers of those that stand for no dismissal; each other is like one
+abbrev pub AreNoDismissals : ℕ → List Row → List ℕ → Type 0
+AreNoDismissals n [] numbers = numbers ≡ []
+AreNoDismissals n (r ∷ rows) numbers =
+    (IsLikeDismissal r × AreNoDismissals (n + 1) rows numbers)
+    ⊎ ((rest : List ℕ) × (numbers ≡ n ∷ rest) × StandsForNoDismissal r × AreNoDismissals (n + 1) rows rest)

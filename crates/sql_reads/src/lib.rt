@@ -43,6 +43,9 @@
 //!   one that stands for none (`whole`). **Whatever rows the trail holds**, the sink takes the act that each row shows,
 //!   but for those that are told by their number and their matter, and these stand for no act (`read`). Nothing changes
 //!   (`left`).
+//! - `unread_dismissals`: of tables that stand for a sound firm, no row (`whole`). **Whatever rows the trail holds**,
+//!   those that it tells, by their numbers among the rows with matter 0, stand for no dismissal, and each other has the
+//!   columns of one, whatever its day and its text (`read`). Nothing changes (`left`).
 #![tactic(auto)]
 
 mod columns;
@@ -53,6 +56,8 @@ mod matter;
 mod query;
 
 pub use firm::all_rows;
-pub use lists::{Listed, balance_at, each_act_of, each_listed, each_readable_act, firm_ledger};
+pub use lists::{
+    Listed, balance_at, each_act_of, each_listed, each_readable_act, firm_ledger, unread_dismissals,
+};
 pub use matter::{each_row, matter_for, opened_matters, whole_matter};
 pub use query::fault_of;

@@ -2,7 +2,8 @@
 // nothing, the balances that the bank reported, the acts and the dismissals. Each is passed to a sink one row at a
 // time; the ledger is also read at once, and a single balance by its kind and day.
 
-ghost use Rattle.std.specs.Prelude.{◌≡◌, ◌≢◌, ℤ, ◌+ℤ◌, Err, false, List, [], ◌∷◌, ◌++◌, map, IfOk, IfErr, OnOk};
+ghost use Rattle.std.specs.Prelude.{◌≡◌, ◌≢◌, ℤ, ◌+ℤ◌, Err, false, List, [], ◌∷◌, ◌++◌, map, IsTrue, IsFalse};
+ghost use Rattle.std.specs.Prelude.{IfOk, IfErr, OnOk};
 ghost use Rattle.std.specs.List.{AllByRecursion};
 ghost use Rattle.sqlite_value.specs.declared.value.Value.TheVariants.{Int};
 ghost use Rattle.sqlite_value.specs.Order.{Row as Shows, column};
@@ -17,12 +18,13 @@ ghost use Rattle.sql_schema.specs.declared.layout.Layout.{Layout};
 ghost use Rattle.sql_tables.specs.Reading.{IsSelect, LeavesAll};
 ghost use Rattle.sql_tables.specs.Rows.{Act as ActRow, FirmLine as LineRow, act_values, firm_line_values};
 ghost use Rattle.sql_tables.specs.Standing.{Stands};
-ghost use Rattle.sql_tables.specs.Texts.{act_scan_text};
+ghost use Rattle.sql_tables.specs.Texts.{act_scan_text, dismissal_scan_text};
 ghost use Rattle.sql_rows.specs.Meaning.{IsWrittenAct, act_from, firm_line_from};
 ghost use Rattle.sql_rows.specs.Standing.{StandsSound, firm_in};
 ghost use Rattle.sql_reads.specs.Fed.{IsListOf};
 ghost use Rattle.sql_reads.specs.Shown.{act_at};
-ghost use Rattle.sql_reads.specs.Unread.{AreRead, NamesMatter, StandsForNone};
+ghost use Rattle.sql_reads.specs.Unread.{AreNoDismissals, AreRead, IsLikeDismissal, NamesMatter, StandsForNoDismissal};
+ghost use Rattle.sql_reads.specs.Unread.{StandsForNone};
 
 use crate::columns::{act_in, balance_in, exception_in, firm_line_in, movement_in, number_at};
 use crate::query::{RowTaking, hand_rows, rows_of};
@@ -31,7 +33,8 @@ use firm_rows::{
     Movement, RowSink,
 };
 use sql_rows::{
-    act_of, balance_of, dismissal_of, exception_of, firm_line_of, kind_column, movement_of,
+    act_of, balance_of, dismissal_of, exception_of, firm_line_of, is_dismissal, kind_column,
+    movement_of,
 };
 use sqlite::{Alter, Connection, Row};
 use sqlite_value::value::ValueRef;
@@ -50,6 +53,10 @@ const ACTS: &str =
 // The acts of a matter, in order of acceptance.
 const ACTS_OF: &str =
     "SELECT matter, entry, day, deed, caller, text, number FROM trail WHERE matter = ?1 ORDER BY seq";
+
+// The dismissals, in order of acceptance: the rows of the trail that are of no matter.
+const DISMISSALS: &str =
+    "SELECT matter, entry, day, deed, caller, text, number FROM trail WHERE matter = 0 ORDER BY seq";
 
 /// A kind of row that the firm has a list of.
 pub trait Listed: Countable + Drop {
@@ -169,7 +176,7 @@ impl Listed for Dismissal {
     ghost list = { λ firm. firm.dismissals };
 
     fn select<S: Alter>() -> &'static str {
-        "SELECT matter, entry, day, deed, caller, text, number FROM trail WHERE matter = 0 ORDER BY seq"
+        DISMISSALS
     }
 
     fn read(alloc: Global, row: &Row) -> Result<Dismissal, StoreFault> {
@@ -307,6 +314,54 @@ pub fn each_readable_act<S: Alter, K: RowSink<MatterAct>>(
 {
     let rows = rows_of(conn, ACTS, &[])?;
     hand_readable(alloc, &rows, sink)
+}
+
+// Whether a row has what each dismissal has. Only its day and its text may then be those of none.
+#[tactic(auto, using(crate::proofs::NoDismissals::like_one))]
+fn is_like_dismissal(row: &Row) -> bool
+    ensures yes { IsTrue result → IsLikeDismissal row.now }
+    ensures no { IsFalse result → StandsForNoDismissal row.now }
+{
+    match act_in(row) {
+        Ok(columns) => is_dismissal(columns),
+        Err(_) => false,
+    }
+}
+
+// Returns the numbers of the rows that have not what each dismissal has. The only error is out of memory.
+fn numbers_of_none(alloc: Global, rows: &[Row]) -> Result<Vec<u64>, StoreFault>
+    ensures { IfOk result (λ unread. AreNoDismissals 1 rows.now unread.items) }
+{
+    let mut unread = Vec::new(alloc);
+    let mut place: u64 = 0;
+    'each: for row in rows {
+        place = place.saturating_add(1);
+        if is_like_dismissal(row) {
+            continue;
+        }
+        unread.push(place)?;
+    }
+    Ok(unread)
+}
+
+/// Returns the rows of the trail that are of no matter and have not what each dismissal has: by their numbers among the
+/// dismissals, in order of acceptance, from 1. A row that has a dismissal's columns but for its day and its text is not
+/// among them. Returns `Memory` if memory runs out. Holds all rows of dismissals at once.
+pub fn unread_dismissals<S: Alter>(
+    conn: &mut Connection<S>,
+    alloc: Global,
+) -> Result<Vec<u64>, StoreFault>
+    requires { conn.old.in_transaction ≡ false }
+    ensures mode { conn.new.in_transaction ≡ false }
+    ensures whole { (l : Layout) → HasCleanDisk (state S.Store conn.new) → StandsSound l (state S.Store conn.old).now
+        → IfOk result (λ unread. unread.items ≡ []) }
+    ensures read { HasCleanDisk (state S.Store conn.new) → IfOk result (λ unread. (rows : List Shows)
+        × Shown dismissal_scan_text [] (state S.Store conn.old) (state S.Store conn.new) rows
+        × AreNoDismissals 1 rows unread.items) }
+    ensures left { LeavesAll result (state S.Store conn.old) (state S.Store conn.new) }
+{
+    let rows = rows_of(conn, DISMISSALS, &[])?;
+    numbers_of_none(alloc, &rows)
 }
 
 // Adds a line. Returns `Store` if the lines would add up to a balance that the firm may not have, and never else.

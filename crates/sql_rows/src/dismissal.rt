@@ -141,8 +141,8 @@ fn line_in(alloc: Global, text: &[u8]) -> Result<Line, StoreFault>
     Ok(line)
 }
 
-// Whether the columns that no dismissal uses are as a dismissal has them.
-fn is_dismissal(columns: ActColumns<'_>) -> bool
+/// Whether the columns that each dismissal has alike are as a dismissal has them: all but its day and its text.
+pub fn is_dismissal(columns: ActColumns<'_>) -> bool
     ensures yes { IsTrue result → (day : ℕ) → pos day ≡ columns.entry.day
         → act_given columns.entry ≡ dismissal_row day columns.entry.text.now }
     ensures no { IsFalse result → (day : ℕ) (text : List ℕ) → dismissal_row day text ≢ act_given columns.entry }

@@ -51,7 +51,7 @@ mod lines;
 mod matter;
 
 pub use act::{act_columns, act_of};
-pub use dismissal::{dismissal_columns, dismissal_of, dismissal_text};
+pub use dismissal::{dismissal_columns, dismissal_of, dismissal_text, is_dismissal};
 pub use entry::{entry_columns, entry_of};
 pub use lines::{
     balance_columns, balance_of, exception_columns, exception_of, firm_line_of, kind_column,

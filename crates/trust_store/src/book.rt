@@ -151,6 +151,13 @@ pub trait Book {
             → IfOk result (λ unread. unread.items ≡ []) }
         ensures read { IsRead result (seen self.old) (seen self.new) };
 
+    /// Returns the rows of the trail that lie among the dismissals and have not what each dismissal has, by their
+    /// numbers there, in the order of acceptance, from 1: none of a book that stands for a sound firm.
+    fn unread_dismissals(&mut self, alloc: Global) -> Result<Vec<u64>, StoreFault>
+        ensures whole { (seen self.new).clean → (seen self.old).stands
+            → IfOk result (λ unread. unread.items ≡ []) }
+        ensures read { IsRead result (seen self.old) (seen self.new) };
+
     /// Passes each dismissal to the sink, in the order of acceptance. Stops if the sink runs out of memory.
     fn each_dismissal<S: RowSink<Dismissal>>(&mut self, sink: &mut S) -> Result<(), StoreFault>
         ensures handed { (seen self.new).clean → (seen self.old).stands

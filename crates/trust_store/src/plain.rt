@@ -255,6 +255,10 @@ impl Book for PlainBook {
         Ok(Vec::new(alloc))
     }
 
+    fn unread_dismissals(&mut self, alloc: Global) -> Result<Vec<u64>, StoreFault> {
+        Ok(Vec::new(alloc))
+    }
+
     fn each_dismissal<S: RowSink<Dismissal>>(&mut self, sink: &mut S) -> Result<(), StoreFault> {
         Ok(hand(&self.dismissals, sink)?)
     }

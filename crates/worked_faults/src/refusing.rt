@@ -160,6 +160,13 @@ impl<B: Book> Book for RefusingBook<B> {
         }
     }
 
+    fn unread_dismissals(&mut self, alloc: Global) -> Result<Vec<u64>, StoreFault> {
+        match self.inner.unread_dismissals(alloc) {
+            Ok(unread) => Ok(unread),
+            Err(fault) => Err(told(&mut self.refusals, fault)),
+        }
+    }
+
     fn each_dismissal<S: RowSink<Dismissal>>(&mut self, sink: &mut S) -> Result<(), StoreFault> {
         match self.inner.each_dismissal(sink) {
             Ok(()) => Ok(()),
