@@ -4,5 +4,6 @@ pub mod Counting
 pub mod DayReports
 mod ReconciliationAnswers
 mod ReportTexts
+mod PacketTold
 mod FirmTrails
 mod Names

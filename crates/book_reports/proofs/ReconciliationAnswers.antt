@@ -11,7 +11,7 @@ use Rattle.book_reports.specs.declared.day_reports.Limits.{Limits}
 use Rattle.book_reports.specs.DayReports.{IsAppended}
 use Rattle.book_reports.proofs.ReadCalls.{handed-before}
 
-none-map : {A C : Type 0} (f : A → C) (o : Option A) → is_none (option_map f o) ≡ is_none o
+pub none-map : {A C : Type 0} (f : A → C) (o : Option A) → is_none (option_map f o) ≡ is_none o
 none-map f o = grind (arith, ints, nat_tests)
 
 -- there is a reconciliation where and only where there is a closing balance of the day

@@ -5,3 +5,4 @@ pub mod Kept
 pub mod Checking
 pub mod Trails
 pub mod FirmTrails
+pub mod Month

@@ -1,14 +1,15 @@
 //! The reports of a firm as of a day and of a period, each made of one state of a book.
 
 ghost use Rattle.std.specs.Prelude.{◌≡◌, ℕ, IfOk, false};
-ghost use Rattle.book_reports.specs.DayReports.{AreApprovalsRead, IsAppended, IsListed};
+ghost use Rattle.book_reports.specs.DayReports.{AreActsRead, AreApprovalsRead, IsAppended, IsListed};
 ghost use Rattle.book_reports.specs.Kept.{IsKeptOf};
 ghost use Rattle.book_reports.specs.ReportTexts.{limits_of, report_text};
 ghost use Rattle.book_reports.specs.declared.report.Report.{Report};
-ghost use Rattle.book_reports.specs.Reports.{approvals_report, clients_report, disbursements_report, has_no_statement, is_period_purged, is_purged_at, is_purged_within, month_report, outstanding_report, receipts_report, reconciliation_report};
+ghost use Rattle.book_reports.specs.Reports.{approvals_report, clients_report, disbursements_report, has_no_statement, is_period_purged, is_purged_at, is_purged_within, outstanding_report, receipts_report, reconciliation_report};
 ghost use Rattle.trust_store.specs.Calls.{IsRead};
 
 use crate::cleared_lines::{Beside, ClearedLines};
+use crate::month::append_month;
 use crate::report::{DayReport, PeriodReport};
 use crate::unread_acts::matters_of;
 use firm_periods::{ApprovalsSink, NamedList, NamedSink, Pick};
@@ -187,11 +188,28 @@ fn append_disbursements<B: Book>(
     })
 }
 
-// The approvals of a period, and the matters that the rows of the trail may be of which can't be read.
+/// The approvals of a period, and the matters that the rows of the trail may be of which can't be read.
 #[derive(Drop)]
-struct ReadApprovals {
-    approvals: ApprovalsSink,
-    unread: Vec<Option<MatterNo>>,
+pub(crate) struct ReadApprovals {
+    pub(crate) approvals: ApprovalsSink,
+    pub(crate) unread: Vec<Option<MatterNo>>,
+}
+
+/// Reads the acts of the approvals of a period: those that can be read, and the matters that the others may be of.
+pub(crate) fn read_acts<B: Book>(
+    alloc: Global,
+    book: &mut B,
+    period: Period,
+) -> Result<ReadApprovals, StoreFault>
+    ensures told { (B.seen book.new).clean → (B.seen book.old).stands
+        → IfOk result (AreActsRead period (B.seen book.old).firm) }
+    ensures read { IsRead result (B.seen book.old) (B.seen book.new) }
+{
+    let mut approvals = ApprovalsSink::new(alloc, period);
+    let rows = book.each_readable_act(alloc, &mut approvals)?;
+    let dismissals = book.unread_dismissals(alloc)?;
+    let unread = matters_of(alloc, &rows, &dismissals)?;
+    Ok(ReadApprovals { approvals, unread })
 }
 
 // Hands all acts that can be read, and then all rows of a book, to the sink of the approvals of a period.
@@ -204,12 +222,9 @@ fn read_approvals<B: Book>(
         → IfOk result (AreApprovalsRead period (B.seen book.old).firm) }
     ensures read { IsRead result (B.seen book.old) (B.seen book.new) }
 {
-    let mut approvals = ApprovalsSink::new(alloc, period);
-    let rows = book.each_readable_act(alloc, &mut approvals)?;
-    book.each_row(&mut approvals)?;
-    let dismissals = book.unread_dismissals(alloc)?;
-    let unread = matters_of(alloc, &rows, &dismissals)?;
-    Ok(ReadApprovals { approvals, unread })
+    let mut read = read_acts(alloc, book, period)?;
+    book.each_row(&mut read.approvals)?;
+    Ok(read)
 }
 
 // Appends the approvals of a period, also where some acts can't be read.
@@ -254,39 +269,6 @@ pub(crate) fn append_period_report<B: Book>(
         PeriodReport::Disbursements => append_disbursements(alloc, book, period, text),
         PeriodReport::Approvals => append_approvals(alloc, book, period, text),
     }
-}
-
-// Appends the packet of month's end: the reconciliation of a day, the list of clients, what waits for the bank, and the
-// receipts, the disbursements and the approvals from the first of the month to the day.
-fn append_month<B: Book>(
-    alloc: Global,
-    book: &mut B,
-    day: Day,
-    text: &mut Vec<u8>,
-) -> Result<Limits, StoreFault>
-    ensures told { (B.seen book.new).clean → (B.seen book.old).stands → IfOk result (λ limits. IsAppended limits
-        (has_no_statement day (B.seen book.old).firm)
-        (limits_of (Report.AsOf DayReport.Month day) (B.seen book.old).firm).is_purged
-        text.old.items (month_report day (B.seen book.old).firm) text.new.items) }
-    ensures read { IsRead result (B.seen book.old) (B.seen book.new) }
-{
-    let month = Period::month_to(day);
-    let mut lines = ClearedLines::none(alloc);
-    let stated = append_reconciliation(alloc, book, day, &mut lines, text)?;
-    text.push(b'\n')?;
-    append_clients(alloc, book, day, text)?;
-    text.push(b'\n')?;
-    append_outstanding(alloc, book, day, text)?;
-    text.push(b'\n')?;
-    append_receipts(alloc, book, month, text)?;
-    text.push(b'\n')?;
-    append_disbursements(alloc, book, month, text)?;
-    text.push(b'\n')?;
-    let cut = append_approvals(alloc, book, month, text)?;
-    Ok(Limits {
-        lacks_statement: stated.lacks_statement,
-        is_purged: stated.is_purged | cut.is_purged,
-    })
 }
 
 /// Appends a report as of a day. What the rows of a reconciliation show beside it is kept in `lines`.

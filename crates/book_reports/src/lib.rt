@@ -32,6 +32,7 @@ mod day_reports;
 mod finding;
 mod matter_acts;
 mod matter_trail;
+mod month;
 mod outstanding;
 mod purged;
 mod report;

@@ -58,7 +58,8 @@ form_of (commands.AsOf day_reports.Month) = form (codes "month") (codes "DAY" �
 form_of (commands.Today today_reports.Trial) = form (codes "trial") [] (codes "trial") (codes "trial")
 form_of (commands.Today today_reports.Journal) = form (codes "journal") [] (codes "journal") (codes "journal")
 form_of (commands.Today today_reports.Retention) = form (codes "retention") [] (codes "retention") (codes "retention")
-form_of (commands.Today today_reports.Exceptions) = form (codes "exceptions") [] (codes "exceptions") (codes "exceptions")
+form_of (commands.Today today_reports.Exceptions) = form (codes "exceptions") []
+    (codes "exceptions") (codes "exceptions")
 form_of (commands.Today today_reports.OwnLedger) = form (codes "ledger") (codes "MATTER" ∷ [])
     (codes "ledger MATTER|FIRM") (codes "ledger 000001")
 form_of commands.Account = form (codes "account") (codes "MATTER" ∷ codes "FROM" ∷ codes "TO" ∷ [])
@@ -74,8 +75,8 @@ all_commands = commands.Sheet ∷ commands.Import ∷ commands.Match ∷ command
     ∷ commands.AsOf day_reports.Outstanding ∷ commands.Within period_reports.Receipts
     ∷ commands.Within period_reports.Disbursements ∷ commands.Within period_reports.Approvals
     ∷ commands.AsOf day_reports.Month ∷ commands.Today today_reports.Trial ∷ commands.Today today_reports.Journal
-    ∷ commands.Today today_reports.Retention ∷ commands.Today today_reports.Exceptions ∷ commands.Today today_reports.OwnLedger
-    ∷ commands.Account ∷ commands.Today today_reports.Trail ∷ []
+    ∷ commands.Today today_reports.Retention ∷ commands.Today today_reports.Exceptions
+    ∷ commands.Today today_reports.OwnLedger ∷ commands.Account ∷ commands.Today today_reports.Trail ∷ []
 
 -- the name of a command
 abbrev pub command_text : CommandName → Text

@@ -26,8 +26,8 @@ pub enum CommandName {
     AsOf(DayReport),
     /// Print this report of a period.
     Within(PeriodReport),
-    /// Print this report of the business day. That of its own ledger is `ledger`, which also prints a matter's card, and
-    /// `trail` prints that of a matter too.
+    /// Print this report on the business day. That of the firm's own ledger is `ledger`, which also prints a matter's
+    /// card, and `trail` prints that of a matter too.
     Today(TodayReport),
     /// Print a client's statement of account for a period.
     Account,

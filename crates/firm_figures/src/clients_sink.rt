@@ -1,6 +1,7 @@
 // The list of the clients' ledgers as of a day, from rows that arrive one at a time.
 
-ghost use Rattle.std.specs.Prelude.{◌≡◌, fold};
+ghost use Rattle.std.specs.Prelude.{◌≡◌, ℕ, OnErr, OnOk, fold};
+ghost use Rattle.firm_rows.specs.Firm.{EntryRow, HeadRow};
 ghost use Rattle.firm_figures.specs.Reconciling.{added, ledger_share_by};
 ghost use Rattle.firm_figures.specs.Clients.{ClientsKept, add_to_last, clients_sum, no_clients, with_client_own, with_client_row};
 ghost use Rattle.firm_figures.specs.declared.clients_sink.ClientLine.{ClientLine};
@@ -12,7 +13,7 @@ use firm_rows::{FirmLine, MatterRow, MatterRowSink, RowSink};
 use std::alloc::{AllocError, Global};
 use std::marker::Model;
 use trust_base::{Day, Label, MatterNo};
-use trust_matter::{Entry, Holder};
+use trust_matter::{Entry, Head, Holder};
 
 /// A matter that was open as of a day, its client, and its ledger as of that day, in cents.
 #[derive(Drop)]
@@ -99,6 +100,46 @@ impl ClientsSink {
         }
     }
 
+    /// Takes the head of a matter in. If memory runs out, nothing changes.
+    pub fn see_head(&mut self, matter: MatterNo, head: &Head) -> Result<(), AllocError>
+        ensures ok { OnOk result (self.new ≡ with_client_row self.old (matter, HeadRow head.now)) }
+        ensures err { OnErr result (self.new ≡ self.old) }
+    {
+        if is_open_by(head, self.day) {
+            if let Holder::Client(client) = &head.holder {
+                let client = client.copied()?;
+                self.lines.push(ClientLine {
+                    matter,
+                    client,
+                    ledger: 0,
+                })?;
+            }
+        }
+        if is_head_purged_at(head, self.day) {
+            self.purged = true;
+        }
+        Ok(())
+    }
+
+    /// Takes an entry of a matter in. Unlike the row by itself, it is never refused.
+    pub fn see_entry(&mut self, matter: MatterNo, entry: &Entry)
+        ensures { (n : ℕ) → self.new ≡ with_client_row self.old (matter, EntryRow n entry.now) }
+    {
+        let share = ledger_share(entry, self.day);
+        add_to_last(&mut self.lines, matter, share);
+    }
+
+    /// Takes a line of the firm's own in. Unlike the row by itself, it is never refused.
+    pub fn see_firm_line(&mut self, line: &FirmLine)
+        ensures { self.new ≡ with_client_own self.old line.now }
+    {
+        let mut amount = 0;
+        if line.date.get() <= self.day.get() {
+            amount = line.amount.get();
+        }
+        self.own = added(self.own, amount);
+    }
+
     /// Whether a matter that was open as of the day was purged. The list is then no longer complete.
     pub fn is_day_purged(&self) -> bool
         ensures { result ≡ self.now.purged }
@@ -126,28 +167,13 @@ impl MatterRowSink for ClientsSink {
 
     fn matter_row(&mut self, matter: MatterNo, row: MatterRow<'_>) -> Result<(), AllocError> {
         match row {
-            MatterRow::Head(head) => {
-                if is_open_by(head, self.day) {
-                    if let Holder::Client(client) = &head.holder {
-                        let client = client.copied()?;
-                        self.lines.push(ClientLine {
-                            matter,
-                            client,
-                            ledger: 0,
-                        })?;
-                    }
-                }
-                if is_head_purged_at(head, self.day) {
-                    self.purged = true;
-                }
-            }
-            MatterRow::Seat(_seat) => {}
+            MatterRow::Head(head) => self.see_head(matter, head),
+            MatterRow::Seat(_seat) => Ok(()),
             MatterRow::Entry(_, entry) => {
-                let share = ledger_share(entry, self.day);
-                add_to_last(&mut self.lines, matter, share);
+                self.see_entry(matter, entry);
+                Ok(())
             }
         }
-        Ok(())
     }
 }
 
@@ -155,11 +181,7 @@ impl RowSink<FirmLine> for ClientsSink {
     ghost taken = { with_client_own };
 
     fn take(&mut self, line: &FirmLine) -> Result<(), AllocError> {
-        let mut amount = 0;
-        if line.date.get() <= self.day.get() {
-            amount = line.amount.get();
-        }
-        self.own = added(self.own, amount);
+        self.see_firm_line(line);
         Ok(())
     }
 }

@@ -1,8 +1,8 @@
 // The reconciliation as of a day, its figures and lists, from rows that arrive one at a time.
 
-ghost use Rattle.std.specs.Prelude.{◌≡◌, IfOk, OnOk, OnErr};
+ghost use Rattle.std.specs.Prelude.{◌≡◌, ℕ, IfOk, OnOk, OnErr};
 ghost use Rattle.std.specs.Option.{option_map};
-ghost use Rattle.firm_rows.specs.Firm.{EntryRow};
+ghost use Rattle.firm_rows.specs.Firm.{EntryRow, HeadRow};
 ghost use Rattle.firm_figures.specs.Figures.{names_balance};
 ghost use Rattle.firm_figures.specs.Listing.{listed};
 ghost use Rattle.firm_figures.specs.Openings.{AreClosings};
@@ -19,7 +19,7 @@ use firm_rows::{BalanceKind, BalanceRow, FirmLine, MatterRow, MatterRowSink, Mov
 use std::alloc::{AllocError, Global};
 use std::marker::Model;
 use trust_base::{BankText, Day, EntryNo, Line, MatterNo};
-use trust_matter::Entry;
+use trust_matter::{Entry, Head};
 
 /// The reconciliation as of a day: the ten figures, and the lists that go with them. Doubles are payments with the same
 /// instrument as another, sorted by instrument (byte by byte), matter and entry. Openings are those that differ from
@@ -190,6 +190,30 @@ impl ReconciliationSink {
         self.sums.early = together(self.sums.early, early);
     }
 
+    /// Takes the head of a matter in. Unlike the row by itself, it is never refused.
+    pub fn see_head(&mut self, head: &Head)
+        ensures { (m : ℕ) → self.new ≡ with_row_kept self.old (m, HeadRow head.now) }
+    {
+        if is_head_purged_after(head, self.day) {
+            self.purged = true;
+        }
+    }
+
+    /// Takes an entry of a matter in. If memory runs out, nothing changes.
+    pub fn see_entry(
+        &mut self,
+        matter: MatterNo,
+        number: EntryNo,
+        entry: &Entry,
+    ) -> Result<(), AllocError>
+        ensures ok { OnOk result (self.new ≡ with_row_kept self.old (matter, EntryRow number entry.now)) }
+        ensures err { OnErr result (self.new ≡ self.old) }
+    {
+        self.list_entry(matter, number, entry)?;
+        self.add_entry(entry);
+        Ok(())
+    }
+
     /// Whether a matter that was closed after the day was purged. The day's records are then no longer complete.
     pub fn is_period_purged(&self) -> bool
         ensures { result ≡ self.now.period.purged }
@@ -245,17 +269,12 @@ impl MatterRowSink for ReconciliationSink {
     fn matter_row(&mut self, matter: MatterNo, row: MatterRow<'_>) -> Result<(), AllocError> {
         match row {
             MatterRow::Head(head) => {
-                if is_head_purged_after(head, self.day) {
-                    self.purged = true;
-                }
+                self.see_head(head);
+                Ok(())
             }
-            MatterRow::Seat(_seat) => {}
-            MatterRow::Entry(number, entry) => {
-                self.list_entry(matter, number, entry)?;
-                self.add_entry(entry);
-            }
+            MatterRow::Seat(_seat) => Ok(()),
+            MatterRow::Entry(number, entry) => self.see_entry(matter, number, entry),
         }
-        Ok(())
     }
 }
 

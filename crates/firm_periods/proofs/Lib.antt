@@ -4,6 +4,7 @@ pub mod Approvals
 pub mod AccountsCovered
 pub mod AccountsInOrder
 pub mod ClientsNamed
+pub mod PacketParts
 pub mod NamedLists
 pub mod ListedOnce
 pub mod Named

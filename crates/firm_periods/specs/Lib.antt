@@ -1,6 +1,8 @@
 pub mod Named
 pub mod Accounts
 pub mod Approvals
+pub mod Month
+pub mod MonthLists
 pub use Rattle.firm_figures.specs.Figures
 pub use Rattle.firm_figures.specs.Doubles
 pub use Rattle.firm_figures.specs.Purged

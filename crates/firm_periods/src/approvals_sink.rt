@@ -1,11 +1,11 @@
 // The payments issued in a period with who approved them, from rows that arrive one at a time.
 
-ghost use Rattle.std.specs.Prelude.{◌≡◌, ◌&&◌, ℕ, IfOk, OnOk, OnErr, Some, cond, map, nat_eq};
+ghost use Rattle.std.specs.Prelude.{◌≡◌, ◌&&◌, ℕ, IfOk, OnOk, OnErr, Some, cond, map, nat_eq, option_to_list};
 ghost use Rattle.std.specs.HashMap.{get};
 ghost use Rattle.std.specs.Ordering.{nat_cmp};
 ghost use Rattle.firm_figures.specs.Doubles.{in_order};
 ghost use Rattle.firm_rows.specs.Firm.{EntryRow};
-ghost use Rattle.firm_periods.specs.Approvals.{ApprovalsKept, approvals_of, approved_by, approver_in, approves_in, is_issued_earlier, no_approvals, with_approval, with_issued_row};
+ghost use Rattle.firm_periods.specs.Approvals.{ApprovalsKept, approvals_of, approved_by, approver_in, approves_in, is_issued_earlier, issued_of_entry, no_approvals, with_approval, with_issued_row};
 
 use crate::purged::is_head_purged_within;
 use firm_rows::{MatterAct, MatterRow, MatterRowSink, RowSink};
@@ -106,6 +106,59 @@ fn by_issue(lines: Vec<IssuedPayment>) -> Result<Vec<IssuedPayment>, AllocError>
     Ok(all)
 }
 
+/// The payment of an entry if it was issued in a period, with nobody who approved it. The only error is out of memory.
+pub(crate) fn issued_within(
+    period: Period,
+    matter: MatterNo,
+    number: EntryNo,
+    entry: &Entry,
+) -> Result<Option<IssuedPayment>, AllocError>
+    ensures { IfOk result (λ found. option_to_list found ≡ issued_of_entry period matter number entry.now) }
+{
+    let Entry::Payment(payment) = entry else {
+        return Ok(None);
+    };
+    let Some(issued) = payment.state.issued_on() else {
+        return Ok(None);
+    };
+    let day = issued.get();
+    if day < period.from().get() || period.to().get() < day {
+        return Ok(None);
+    }
+    let state = payment.state.copied()?;
+    let payment = payment.restated(state)?;
+    Ok(Some(IssuedPayment {
+        matter,
+        number,
+        issued,
+        payment,
+        approver: None,
+    }))
+}
+
+/// Payments by the day of issue, those of one day in their order, each with who approved it by acts. The only error is
+/// out of memory.
+pub(crate) fn approved_list(
+    alloc: Global,
+    acts: Vec<MatterAct>,
+    lines: Vec<IssuedPayment>,
+) -> Result<Vec<IssuedPayment>, AllocError>
+    ensures { IfOk result (λ found. found.items
+        ≡ in_order is_issued_earlier (map (approved_by acts.items) lines.items)) }
+{
+    let lines = with_approvers(alloc, acts.as_slice(), lines)?;
+    by_issue(lines)
+}
+
+/// What a list of approvals has so far.
+#[derive(Drop)]
+pub(crate) struct ApprovalsBegun {
+    pub(crate) period: Period,
+    pub(crate) acts: Vec<MatterAct>,
+    pub(crate) lines: Vec<IssuedPayment>,
+    pub(crate) purged: bool,
+}
+
 /// Lists the payments issued in a period, each with who approved it: of the acts, and then the rows of a firm.
 ///
 /// Contracts see it as the period, the acts of approval, the payments, and whether a purged matter may have had such a
@@ -150,38 +203,35 @@ impl ApprovalsSink {
     pub fn finish(self, alloc: Global) -> Result<Vec<IssuedPayment>, AllocError>
         ensures { IfOk result (λ found. found.items ≡ approvals_of self) }
     {
-        let acts = self.acts;
-        let lines = with_approvers(alloc, acts.as_slice(), self.lines)?;
-        by_issue(lines)
+        approved_list(alloc, self.acts, self.lines)
     }
 
-    // Appends a payment if it was issued in the period. If memory runs out, nothing is appended.
-    fn list_payment(
+    /// What it has so far.
+    pub(crate) fn into_begun(self) -> ApprovalsBegun
+        ensures { (result.period ≡ self.period) × (result.acts.items ≡ self.acts)
+            × (result.lines.items ≡ self.lines) × (result.purged ≡ self.purged) }
+    {
+        ApprovalsBegun {
+            period: self.period,
+            acts: self.acts,
+            lines: self.lines,
+            purged: self.purged,
+        }
+    }
+
+    // Appends the payment of an entry if it was issued in the period. If memory runs out, nothing is appended.
+    fn list_entry(
         &mut self,
         matter: MatterNo,
         number: EntryNo,
-        payment: &Payment,
+        entry: &Entry,
     ) -> Result<(), AllocError>
-        ensures ok { OnOk result
-            (self.new ≡ with_issued_row self.old (matter, EntryRow number (Entry.Payment payment.now))) }
+        ensures ok { OnOk result (self.new ≡ with_issued_row self.old (matter, EntryRow number entry.now)) }
         ensures err { OnErr result (self.new ≡ self.old) }
     {
-        let Some(issued) = payment.state.issued_on() else {
-            return Ok(());
-        };
-        let day = issued.get();
-        if day < self.period.from().get() || self.period.to().get() < day {
-            return Ok(());
+        if let Some(line) = issued_within(self.period, matter, number, entry)? {
+            self.lines.push(line)?;
         }
-        let state = payment.state.copied()?;
-        let payment = payment.restated(state)?;
-        self.lines.push(IssuedPayment {
-            matter,
-            number,
-            issued,
-            payment,
-            approver: None,
-        })?;
         Ok(())
     }
 }
@@ -207,10 +257,7 @@ impl MatterRowSink for ApprovalsSink {
                 Ok(())
             }
             MatterRow::Seat(_seat) => Ok(()),
-            MatterRow::Entry(number, entry) => match entry {
-                Entry::Payment(payment) => self.list_payment(matter, number, payment),
-                Entry::Deposit(_) | Entry::Fee(_) | Entry::Claim(_) => Ok(()),
-            },
+            MatterRow::Entry(number, entry) => self.list_entry(matter, number, entry),
         }
     }
 }

@@ -1,5 +1,6 @@
 //! Laws over the definitions. Each is the contract of a function that does nothing.
 
+ghost use Rattle.firm_periods.specs.Month.{MonthsAreParted};
 ghost use Rattle.firm_periods.specs.Named.{AlwaysListedOnce, EachStandsInOne, MovesAreEvents, NamedAreKept, NamesAreOfTheirMatter, PeriodsAgree, WaitsAlwaysAgree};
 ghost use Rattle.firm_periods.specs.Named.{PurgeChangesNoPeriodLeft, PurgeChangesNoWaitingLeft};
 ghost use Rattle.firm_periods.specs.Approvals.{ApprovalsAreKept, PurgeChangesNoApprovalLeft};
@@ -38,6 +39,12 @@ pub fn each_stands_in_one()
 /// In a sound firm each line names the client of its matter, or none if that was purged.
 pub fn names_are_of_their_matter()
     ensures { NamesAreOfTheirMatter }
+{}
+
+/// Of a firm's rows, movements and own lines the sink of the packet stores, part by part, what each part's own sink
+/// stores of them.
+pub fn months_are_parted()
+    ensures { MonthsAreParted }
 {}
 
 /// Purging a matter of a sound firm changes nothing of the receipts, the disbursements and the approvals of a period

@@ -33,12 +33,14 @@
 mod account;
 mod approvals_sink;
 pub mod laws;
+mod month_sink;
 mod moved;
 mod named_sink;
 mod purged;
 
 pub use account::{Account, AccountLine, account_of};
 pub use approvals_sink::{ApprovalsSink, IssuedPayment};
+pub use month_sink::{MonthParts, MonthSink};
 pub use moved::{Cause, MoveNames, Moved, NamedMove};
 pub use named_sink::{NamedList, NamedSink, Pick};
 pub use purged::is_head_purged_within;

@@ -1,10 +1,11 @@
 // A list of movements with their names, from rows that arrive one at a time.
 
-ghost use Rattle.std.specs.Prelude.{◌≡◌, ◌++◌, ◌+◌, ◌<◌, ◌≤◌, IfOk, OnErr, OnOk, vec_capacity, vec_len, pos, fold, option_to_list};
+ghost use Rattle.std.specs.Prelude.{◌≡◌, ◌++◌, ◌∷◌, [], ◌+◌, ◌<◌, ◌≤◌, cond, IfOk, OnErr, OnOk, vec_capacity, vec_len, pos, fold, option_to_list};
+ghost use Rattle.std.specs.List.{flat_map};
 ghost use Rattle.firm_figures.specs.Doubles.{in_order};
 ghost use Rattle.firm_figures.specs.Reconciling.{added};
 ghost use Rattle.firm_rows.specs.Firm.{EntryRow};
-ghost use Rattle.firm_periods.specs.Named.{NamedKept, is_earlier, is_head_cut, named_sum, none_named, own_named, own_pick, pick_of, with_named_own, with_named_row};
+ghost use Rattle.firm_periods.specs.Named.{NamedKept, is_earlier, is_head_cut, named, named_sum, none_named, own_moved, own_named, own_pick, pick_of, with_named_own, with_named_row};
 ghost use Rattle.firm_periods.specs.declared.moved.NamedMove.{NamedMove};
 
 use crate::moved::{
@@ -73,8 +74,51 @@ impl Pick {
     }
 }
 
-// Appends a movement, if there is one. There is room for it.
-fn push_some(lines: &mut Vec<NamedMove>, line: Option<NamedMove>)
+/// What a list takes of an entry: at most two movements with their names.
+pub(crate) type Picked = (Option<NamedMove>, Option<NamedMove>);
+
+/// What a list takes of an entry of a client, with the names.
+#[tactic(auto, using(crate::proofs::Picks::picks))]
+pub(crate) fn name_picked(
+    pick: Pick,
+    client: &Option<Label>,
+    matter: MatterNo,
+    number: EntryNo,
+    entry: &Entry,
+) -> Result<Picked, AllocError>
+    ensures { IfOk result (λ found. option_to_list found.0 ++ option_to_list found.1
+        ≡ flat_map (named client.now matter number entry.now) (pick_of pick entry.now)) }
+{
+    let (first, second) = pick.of(entry);
+    let one = name_move(client, matter, number, entry, first)?;
+    let other = name_move(client, matter, number, entry, second)?;
+    Ok((one, other))
+}
+
+/// What a list takes of a line of the firm's own.
+pub(crate) fn name_own(pick: Pick, line: &FirmLine) -> Result<Option<NamedMove>, AllocError>
+    ensures { IfOk result (λ found. option_to_list found
+        ≡ cond (own_pick pick (own_moved line.now)) (own_named line.now ∷ []) []) }
+{
+    let moved = Moved {
+        day: line.date,
+        amount: line.amount.get(),
+        cause: Cause::Own,
+    };
+    if !pick.takes(&moved) {
+        return Ok(None);
+    }
+    let bank_ref = line.bank_ref.copied()?;
+    let text = line.text.copied()?;
+    Ok(Some(NamedMove {
+        owner: Owner::Firm,
+        moved,
+        names: MoveNames::Own { bank_ref, text },
+    }))
+}
+
+/// Appends a movement, if there is one. There is room for it.
+pub(crate) fn push_some(lines: &mut Vec<NamedMove>, line: Option<NamedMove>)
     requires { vec_len lines.old < vec_capacity lines.old }
     ensures items { lines.new.items ≡ lines.old.items ++ option_to_list line }
     ensures len { vec_len lines.new ≤ vec_len lines.old + 1 }
@@ -83,6 +127,30 @@ fn push_some(lines: &mut Vec<NamedMove>, line: Option<NamedMove>)
     if let Some(line) = line {
         lines.push_reserved(line);
     }
+}
+
+/// Appends what a list takes of an entry. There is room for it.
+#[tactic(auto, using(crate::proofs::Picks::picks))]
+pub(crate) fn push_picked(lines: &mut Vec<NamedMove>, picked: Picked)
+    requires { vec_len lines.old + 1 < vec_capacity lines.old }
+    ensures { lines.new.items ≡ lines.old.items ++ (option_to_list picked.0 ++ option_to_list picked.1) }
+{
+    push_some(lines, picked.0);
+    push_some(lines, picked.1);
+}
+
+/// Appends a movement, if there is one. If memory runs out, it is not appended.
+pub(crate) fn push_own(
+    lines: &mut Vec<NamedMove>,
+    line: Option<NamedMove>,
+) -> Result<(), AllocError>
+    ensures ok { OnOk result (lines.new.items ≡ lines.old.items ++ option_to_list line) }
+    ensures err { OnErr result (lines.new.items ≡ lines.old.items) }
+{
+    if let Some(line) = line {
+        lines.push(line)?;
+    }
+    Ok(())
 }
 
 // The lines by day; those of one day stay in their order.
@@ -110,6 +178,17 @@ fn sum_of(lines: &[NamedMove]) -> i128
 pub struct NamedList {
     pub moves: Vec<NamedMove>,
     pub total: i128,
+}
+
+/// The movements by day, those of one day in their order, and their sum. The only error is out of memory.
+pub(crate) fn named_list(lines: Vec<NamedMove>) -> Result<NamedList, AllocError>
+    ensures moves { IfOk result (λ list. list.moves.items ≡ in_order is_earlier lines.items) }
+    ensures total { IfOk result (λ list. list.total
+        ≡ fold (λ z (v : NamedMove). added z v.moved.amount) (pos 0) lines.items) }
+{
+    let total = sum_of(lines.as_slice());
+    let moves = by_day(lines)?;
+    Ok(NamedList { moves, total })
 }
 
 /// Lists movements with their names: the receipts or the disbursements of a period, or what waits for the bank as of a
@@ -157,13 +236,10 @@ impl NamedSink {
         ensures moves { IfOk result (λ list. list.moves.items ≡ in_order is_earlier self.lines) }
         ensures total { IfOk result (λ list. list.total ≡ named_sum self) }
     {
-        let total = sum_of(self.lines.as_slice());
-        let moves = by_day(self.lines)?;
-        Ok(NamedList { moves, total })
+        named_list(self.lines)
     }
 
     // Appends what is taken of an entry. If memory runs out, nothing is.
-    #[tactic(auto, using(crate::proofs::Picks::picks))]
     fn list_entry(
         &mut self,
         matter: MatterNo,
@@ -173,12 +249,9 @@ impl NamedSink {
         ensures ok { OnOk result (self.new ≡ with_named_row self.old (matter, EntryRow number entry.now)) }
         ensures err { OnErr result (self.new ≡ self.old) }
     {
-        let (first, second) = self.pick.of(entry);
-        let one = name_move(&self.client, matter, number, entry, first)?;
-        let other = name_move(&self.client, matter, number, entry, second)?;
+        let picked = name_picked(self.pick, &self.client, matter, number, entry)?;
         self.lines.reserve(2)?;
-        push_some(&mut self.lines, one);
-        push_some(&mut self.lines, other);
+        push_picked(&mut self.lines, picked);
         Ok(())
     }
 }
@@ -209,21 +282,7 @@ impl RowSink<FirmLine> for NamedSink {
     ghost taken = { with_named_own };
 
     fn take(&mut self, line: &FirmLine) -> Result<(), AllocError> {
-        let moved = Moved {
-            day: line.date,
-            amount: line.amount.get(),
-            cause: Cause::Own,
-        };
-        if !self.pick.takes(&moved) {
-            return Ok(());
-        }
-        let bank_ref = line.bank_ref.copied()?;
-        let text = line.text.copied()?;
-        self.lines.push(NamedMove {
-            owner: Owner::Firm,
-            moved,
-            names: MoveNames::Own { bank_ref, text },
-        })?;
-        Ok(())
+        let own = name_own(self.pick, line)?;
+        push_own(&mut self.lines, own)
     }
 }
