@@ -27,7 +27,12 @@ impl Model for RowSeen {
 impl MatterRowSink for RowSeen {
     ghost taken = { λ _ _. true };
 
-    fn matter_row(&mut self, _matter: MatterNo, _row: MatterRow<'_>) -> Result<(), AllocError> {
+    fn matter_row(&mut self, _matter: MatterNo, row: MatterRow<'_>) -> Result<(), AllocError> {
+        match row {
+            MatterRow::Head(_head) => {}
+            MatterRow::Seat(_seat) => {}
+            MatterRow::Entry(_number, _entry) => {}
+        }
         self.has_come = true;
         Ok(())
     }

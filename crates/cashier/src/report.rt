@@ -203,11 +203,10 @@ fn tell_purged<M: Remarks, B: Book>(
 
 // Reports that a report goes up to a day that is after the business day.
 fn tell_of_day_to_come<M: Remarks>(remarks: &M, command: ReportCommand, today: Day) {
-    let last = match command {
-        ReportCommand::Firm(Report::AsOf(_, day)) => day,
-        ReportCommand::Firm(Report::Within(_, period)) | ReportCommand::Account(_, period) => {
-            period.to()
-        }
+    let last = match &command {
+        ReportCommand::Firm(Report::AsOf(_, day)) => *day,
+        ReportCommand::Firm(Report::Within(_, period)) => period.to(),
+        ReportCommand::Account(_, period) => period.to(),
         ReportCommand::Firm(Report::Today(_))
         | ReportCommand::Ledger(_)
         | ReportCommand::Trail(_) => return,
